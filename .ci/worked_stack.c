@@ -1,6 +1,7 @@
-/* Unwinds stacks whose frames were worked out by hand, through the C library, by cfi_unwind, by cfi_unwind_registers, whose
- * registers are those of cfi_step, and by cfi_step again and again, and prints which differ. Each step is also made by cfi_step_cached: without a cache, by one that is empty, and by one with the row; and in
- * place, by cfi_step_held. The bytes behind the frames are checked. Linked with --wrap=malloc, --wrap=realloc, --wrap=free. */
+/* Unwinds stacks whose frames were worked out by hand, of .eh_frame and of .debug_frame, through the C library, by cfi_unwind,
+ * by cfi_unwind_registers, whose registers are those of cfi_step, and by cfi_step again and again, and prints which differ. Each
+ * step is also made by cfi_step_cached: without a cache, by one that is empty, and by one with the row; and in place, by
+ * cfi_step_held. The bytes behind the frames are checked. Linked with --wrap=malloc, --wrap=realloc, --wrap=free. */
 #include <inttypes.h>
 #include <stdio.h>
 #include <stdlib.h>
@@ -135,6 +136,20 @@ static void begin(Process *p, const Stack *s) {
     p->registers_len = REGISTERS;
 }
 
+/* Makes .debug_frame of .eh_frame: a CIE has the id 0xffffffff, an FDE the offset of its CIE, and there is no header. */
+static void as_debug_frame(Process *p) {
+    uint8_t *section = p->section;
+    for (size_t at = 0; at < p->modules[0].eh_frame_len;) {
+        uint32_t size, id;
+        memcpy(&size, section + at, 4);
+        memcpy(&id, section + at + 4, 4);
+        id = id ? (uint32_t)at + 4 - id : UINT32_MAX;
+        memcpy(section + at + 4, &id, 4);
+        at += 4 + size;
+    }
+    p->modules[0].bases.debug_frame = p->modules[1].bases.debug_frame = true;
+}
+
 static const CfiModule *module_of(const Process *p, uint64_t address) {
     for (size_t i = 0; i < 2; i++)
         if (p->modules[i].start <= address && address < p->modules[i].end)
@@ -183,7 +198,7 @@ static int is_step(const Step *step, const Step *due) {
 
 /* The number of the file: another one where the module is. */
 static uint64_t file_of(const CfiModule *module, const CfiMemory *memory) {
-    return (module->header_len ? 2 : 0) + (memory->address_size == 8 ? 0 : 4);
+    return (module->header_len ? 2 : 0) + (memory->address_size == 8 ? 0 : 4) + (module->bases.debug_frame ? 16 : 0);
 }
 
 static CfiCache cache;
@@ -385,6 +400,8 @@ int main(void) {
     for (size_t i = 0; i < sizeof STACKS / sizeof STACKS[0]; i++) {
         begin(&p, &STACKS[i]);
         check(&context, &p, &STACKS[i]);
+        as_debug_frame(&p);
+        check(&context, &p, &STACKS[i]);
     }
 
     begin(&p, first);
@@ -394,6 +411,8 @@ int main(void) {
                                  {0, CFI_END_NO_ROW, CFI_NoUnwindInfoForAddress}});
     begin(&p, first);
     p.modules[1].header_len = unhex(HEADER, p.header);
+    check(&context, &p, first);
+    p.modules[1].bases.debug_frame = true; /* beside a header it is .eh_frame */
     check(&context, &p, first);
     begin(&p, first);
     p.registers_len = 7;

@@ -150,8 +150,9 @@ typedef struct {
 } CfiRule;
 
 /* A module as it is loaded: its code, from start up to, and without, end; its .eh_frame; and its .eh_frame_hdr, none where
- * header_len is 0. Of the bases debug_frame and address_size aren't read: the section is .eh_frame, and all addresses of a
- * stack have one size. */
+ * header_len is 0: then rows are found by a scan. A module without a header whose bases say debug_frame has its .debug_frame in
+ * the place of .eh_frame; beside a header debug_frame isn't read. Of the bases address_size isn't read: all addresses of a stack
+ * have one size. */
 typedef struct {
     uint64_t start, end;
     const uint8_t *eh_frame;

@@ -1,20 +1,41 @@
 -- What the commands of clap are, and what its getters read.
-use Rattle.std.proofs.Common.{◌≡◌, ◌∙◌, ◌||◌, ap, ap₂, refl, sym, List, [], Option, Some, None, Result, Ok, Err, IfErr, IsErrAnd, inl, bytes_eq, false, map, option_map, true}
+use Rattle.std.proofs.Common.{◌≡◌, ◌∙◌, ◌||◌, Bool, ap, ap₂, refl, sym, List, [], Option, Some, None, Result, Ok, Err, IfErr, IsErrAnd, inl, bytes_eq, false, map, option_map, true}
 use Rattle.std.specs.List.{find}
 use Rattle.std.specs.Option.{option_and_then, option_map_or, unwrap_or}
 use Rattle.std.specs.Prelude.{slice_get}
 use Rattle.std.specs.Borrow.{Bor}
-use Rattle.clap.specs.Built.{AddsSubcommand}
-use Rattle.clap.specs.Words.{App, FailsBy, Kinds, Row, Text, first_of, is_simple, is_simple_and_free, kind_of, with_subcommand}
+use Rattle.clap.specs.Built.{AddsArg, AddsSubcommand}
+use Rattle.clap.specs.Words.{App, FailsBy, Kinds, Row, Rule, Text, app_of, first_of, is_simple, is_simple_and_free, kind_of, rule_of, with_rule, with_subcommand}
+use Rattle.clap.specs.declared.builder.arg.Arg.{Arg}
+use Rattle.clap.specs.declared.builder.command.Command.TheViews.{out-Command}
+use Rattle.clap.specs.declared.builder.value_parser.ValueParser.TheVariants.{String}
 use Rattle.clap.specs.declared.error.Error.{Error}
 use Rattle.clap.specs.declared.error.kind.ErrorKind.TheVariants.{OutOfMemory}
 use Rattle.clap.proofs.OnLiterals.{clap_on_literals}
 use Rattle.clap.specs.declared.builder.command.Command.{Command}
-use Rattle.cfi.specs.CommandLine.{IsApp, cfi_app, first_in, values_in}
+use Rattle.cfi.specs.CommandLine.{AddsOptions, IsApp, cfi_app, first_in, option_rule, values_in, with_options}
+use Rattle.cfi.specs.Forms.{LongOption, Value}
 
 pub adds_app : (old sub new : Command) (a b : App) → IsApp a old → IsApp b sub → AddsSubcommand old sub new → IsApp (with_subcommand a b.top) new
 adds_app old sub new a b above below h =
     (h.shape below.1 ∙ ap₂ with_subcommand above.0 (ap (λ (x : App). x.top) below.0), h.globals ∙ ap₂ (λ x y. x || y) above.1 below.1)
+
+-- one more argument, and the options that some of the commands share
+pub adds_rule : (old new : Command) (a : Arg) (r : Rule) (app : App) → IsApp app old → rule_of a ≡ r → a.global ≡ false → AddsArg old a new → IsApp (with_rule app r) new
+adds_rule old new a r app above is local h =
+    (h.shape local ∙ ap₂ with_rule above.0 is, h.globals ∙ ap₂ (λ x y. x || y) above.1 local)
+
+pub adds_options : (options : List LongOption) (old new : Command) (app : App) → IsApp app old → AddsOptions options old new → IsApp (with_options options app) new
+adds_options options old new app above h = (h.0 ∙ ap (with_options options) above.0, h.1 ∙ above.1)
+
+or_false : (b : Bool) → (b || false) ≡ b
+or_false true = refl
+or_false false = refl
+
+pub adds_one : (options : List LongOption) (name : Text) (value : Value) (base old new : Command) (a : Arg) → AddsOptions options base old → rule_of a ≡ option_rule String name value → a.global ≡ false → AddsArg old a new
+    → (app_of new ≡ with_rule (with_options options (app_of base)) (option_rule String name value)) × ((out-Command new).has_globals ≡ (out-Command base).has_globals)
+adds_one options name value base old new a above is local h =
+    (h.shape local ∙ ap₂ with_rule above.0 is, h.globals ∙ ap (λ x. (out-Command old).has_globals || x) local ∙ or_false (out-Command old).has_globals ∙ above.1)
 
 -- the first of the values at a name
 pub first_of_values : (id : Text) (rows : List Row) → first_of id rows ≡ first_in (values_in rows) id

@@ -11,7 +11,7 @@ use Rattle.clap.specs.Faults.{default_fault, defaults_fault, given_default_fault
 use Rattle.clap.specs.declared.builder.value_parser.Reading.TheVariants.{AsWritten}
 use Rattle.clap.specs.declared.error.kind.ErrorKind.TheVariants.{MissingRequiredArgument}
 use Rattle.clap.specs.declared.parser.matches.ValueSource.TheVariants.{DefaultValue}
-use Rattle.cfi.specs.Forms.{LongOption, Value, any_text, format_name, has_no_value, no_value}
+use Rattle.cfi.specs.Forms.{LongOption, Value, any_text, format_name, has_no_value, no_value, number}
 use Rattle.cfi.specs.Words.{has_flag, or_false}
 use Rattle.cfi.proofs.OptionLemmas.{here, rule_here}
 use Rattle.cfi.proofs.RowLemmas.{at_id, has_row_is, is_given, line, new_row, other_row, same_id}
@@ -76,6 +76,7 @@ module _ (names : Bor (List (Bor Text))) where
       go true = refl
       go false = refl
   quiet_default name any_text rows = no_default rows (rule_here names name any_text) refl
+  quiet_default name number rows = no_default rows (rule_here names name number) refl
   quiet_default name format_name rows = no_default rows (rule_here names name format_name) refl
 
   pub quiet_in : (options : List LongOption) (more : List Rule) (rows : List Row) → NoDefaults more → defaults_fault rows (map (here names) options ++ more) ≡ []
@@ -103,6 +104,7 @@ module _ (names : Bor (List (Bor Text))) where
   one_default : (name : Text) (value : Value) (id : Text) (rows : List Row) → at_id id (with_default rows (rule_here names name value)) ≡ or_default (has_no_value value && bytes_eq name id) id (at_id id rows)
   one_default name no_value id rows = flag_default name id rows (bytes_eq name id) refl
   one_default name any_text id rows = ap (at_id id) (without_default rows (rule_here names name any_text) refl) ∙ same_row id (at_id id rows)
+  one_default name number id rows = ap (at_id id) (without_default rows (rule_here names name number) refl) ∙ same_row id (at_id id rows)
   one_default name format_name id rows = ap (at_id id) (without_default rows (rule_here names name format_name) refl) ∙ same_row id (at_id id rows)
 
   -- and with those of all options

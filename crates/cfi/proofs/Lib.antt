@@ -2,8 +2,10 @@ mod ClapLemmas
 mod EndLemmas
 mod FlagLemmas
 mod FlameLemmas
+mod FolderLemmas
 mod GivenLemmas
 mod LevelLemmas
+mod NumberLemmas
 mod OptionLemmas
 mod PlaceLemmas
 mod ProcessLemmas
@@ -11,6 +13,7 @@ mod QuietLemmas
 mod ReadingLemmas
 mod RowLemmas
 mod StepLemmas
+mod TimesLemmas
 mod TopLemmas
 mod WordLemmas
 mod Worked

@@ -1,5 +1,5 @@
 -- What was written by checks one after the other, and the end of a run.
-use Rattle.std.proofs.Common.{◌≡◌, ℕ, ◌+◌, ◌<◌, Bool, List, [], ◌∷◌, ◌++◌, Option, Some, None, Result, Ok, Err, Vec, IfOk, IsSome, suc, length, take, drop, get_or, add-one, drop-cons, refl, sym, ◌∙◌, ap, append_assoc, append-nil, subst, map, codes, inl, inr, unwrap_or}
+use Rattle.std.proofs.Common.{◌≡◌, ℕ, ◌+◌, ◌<◌, List, [], ◌∷◌, ◌++◌, Option, Some, None, Result, Ok, Err, Vec, IfOk, IsSome, suc, length, take, drop, get_or, add-one, drop-cons, refl, sym, ◌∙◌, ap, append_assoc, append-nil, subst, map, codes, inl, inr, unwrap_or}
 use Rattle.std.proofs.Math.Seq.{take-suc}
 use Rattle.std.proofs.lemmas.List.{map-append, take-append-drop}
 use Rattle.std.specs.Borrow.{Bor}
@@ -22,7 +22,10 @@ use Rattle.cfi_files.specs.declared.finding.Finding.TheVariants.{Unreadable}
 use Rattle.cfi_files.specs.declared.request.Request.{Request}
 use Rattle.cfi_stacks.specs.CoreOutputs.{IsOwed as IsOwedOfCore}
 use Rattle.cfi_stacks.specs.ProfileOutputs.{IsListingOwed as IsOwedOfProfile}
+use Rattle.cfi_stacks.specs.Choices.{Choice}
 use Rattle.cfi_stacks.specs.declared.listing.Listing.{Listing}
+use Rattle.cfi_stacks.specs.declared.listing.ThreadListing.{ThreadListing}
+use Rattle.cfi.specs.Folders.{Folders}
 use Rattle.cfi.specs.CommandLine.{Asked, cfi_app}
 use Rattle.cfi.specs.Forms.{format_names}
 use Rattle.cfi.specs.declared.files.CheckStyle.{CheckStyle}
@@ -32,7 +35,7 @@ use Rattle.cfi.specs.FlameOutputs.{IsOwed as IsOwedOfFolded}
 use Rattle.cfi.specs.Findings.{greatest_status, tally_in}
 use Rattle.cfi.specs.Words.{asked}
 use Rattle.cfi_programs.specs.declared.style.Format.{Format}
-use Rattle.cfi.specs.Tasks.{of_request, task_for}
+use Rattle.cfi.specs.Tasks.{Task, no_times, of_request, task_for}
 use Rattle.cfi.specs.Process.{AreChecks, AreStacks, AreTallied, AreThreads, Checks, ChecksStyled, Disk, Ends, IsAnswer, IsAnswerTo, IsCheck, IsCheckOf, IsPrint, IsStatusAfter, IsStatusOf, IsSummary, MayOpenAt, MayOpenNamed, PrintsRun, WritesChecks, disk_of, kept, no_checks, nothing, tallied, tally_line, with_check}
 
 -- ---- checks one after the other
@@ -183,19 +186,19 @@ checked_of disk style name file old new r may (bytes, left, (finding, printed, w
 pub unreadable : (E : Type 0) (disk : Disk) (style : CheckStyle) (name : Text) (old : Option (List ℕ)) → MayOpenNamed disk name None → ChecksSome {E = E} (λ finding line. IsCheck disk style name finding line) old old (Ok Unreadable)
 unreadable E disk style name old may = (Unreadable, nothing, none_yet old, refl, (None, may, (refl, refl)))
 
-pub stacks_of : {E : Type 0} (disk : Disk) (listing : Listing) (name : Text) (file : disk.Handle) (old new : Option (List ℕ)) (r : Result ℕ E) → MayOpenNamed disk name (Some file) →
-    ((bytes : List ℕ) × AreLeft (disk.bytes_of file) bytes × PrintsSome (λ line. IsOwedOfProfile listing (MayOpenAt disk) disk.bytes_of bytes line) old new r) → PrintsSome (λ line. AreStacks disk listing name line) old new r
-stacks_of disk listing name file old new r may (bytes, left, (printed, prints, owed)) = (printed, prints, (Some file, may, (bytes, left, owed)))
+pub stacks_of : {E : Type 0} (disk : Disk) (listing : Listing) (choice : Choice) (folders : Folders) (name : Text) (file : disk.Handle) (old new : Option (List ℕ)) (r : Result ℕ E) → MayOpenNamed disk name (Some file) →
+    ((bytes : List ℕ) × AreLeft (disk.bytes_of file) bytes × PrintsSome (λ line. IsOwedOfProfile listing choice (MayOpenAt disk folders) disk.bytes_of bytes line) old new r) → PrintsSome (λ line. AreStacks disk listing choice folders name line) old new r
+stacks_of disk listing choice folders name file old new r may (bytes, left, (printed, prints, owed)) = (printed, prints, (Some file, may, (bytes, left, owed)))
 
-pub no_stacks : (E : Type 0) (disk : Disk) (listing : Listing) (name : Text) (old : Option (List ℕ)) → MayOpenNamed disk name None → PrintsSome {E = E} (λ line. AreStacks disk listing name line) old old (Ok 2)
-no_stacks E disk listing name old may = (nothing, (none_yet old, refl), (None, may, refl))
+pub no_stacks : (E : Type 0) (disk : Disk) (listing : Listing) (choice : Choice) (folders : Folders) (name : Text) (old : Option (List ℕ)) → MayOpenNamed disk name None → PrintsSome {E = E} (λ line. AreStacks disk listing choice folders name line) old old (Ok 2)
+no_stacks E disk listing choice folders name old may = (nothing, (none_yet old, refl), (None, may, refl))
 
-pub threads_of : {E : Type 0} (disk : Disk) (raw : Bool) (name : Text) (file : disk.Handle) (old new : Option (List ℕ)) (r : Result ℕ E) → MayOpenNamed disk name (Some file) →
-    ((bytes : List ℕ) × AreLeft (disk.bytes_of file) bytes × PrintsSome (λ line. IsOwedOfCore raw (MayOpenAt disk) disk.bytes_of bytes line) old new r) → PrintsSome (λ line. AreThreads disk raw name line) old new r
-threads_of disk raw name file old new r may (bytes, left, (printed, prints, owed)) = (printed, prints, (Some file, may, (bytes, left, owed)))
+pub threads_of : {E : Type 0} (disk : Disk) (listing : ThreadListing) (folders : Folders) (name : Text) (file : disk.Handle) (old new : Option (List ℕ)) (r : Result ℕ E) → MayOpenNamed disk name (Some file) →
+    ((bytes : List ℕ) × AreLeft (disk.bytes_of file) bytes × PrintsSome (λ line. IsOwedOfCore listing (MayOpenAt disk folders) disk.bytes_of bytes line) old new r) → PrintsSome (λ line. AreThreads disk listing folders name line) old new r
+threads_of disk listing folders name file old new r may (bytes, left, (printed, prints, owed)) = (printed, prints, (Some file, may, (bytes, left, owed)))
 
-pub no_threads : (E : Type 0) (disk : Disk) (raw : Bool) (name : Text) (old : Option (List ℕ)) → MayOpenNamed disk name None → PrintsSome {E = E} (λ line. AreThreads disk raw name line) old old (Ok 2)
-no_threads E disk raw name old may = (nothing, (none_yet old, refl), (None, may, refl))
+pub no_threads : (E : Type 0) (disk : Disk) (listing : ThreadListing) (folders : Folders) (name : Text) (old : Option (List ℕ)) → MayOpenNamed disk name None → PrintsSome {E = E} (λ line. AreThreads disk listing folders name line) old old (Ok 2)
+no_threads E disk listing folders name old may = (nothing, (none_yet old, refl), (None, may, refl))
 
 pub summary_is : {E : Type 0} (disk : Disk) (summary : Summary) (name : Text) (file : disk.Handle) (old new : Option (List ℕ)) (r : Result ℕ E) → MayOpenNamed disk name (Some file) →
     ((bytes : List ℕ) × AreLeft (disk.bytes_of file) bytes × PrintsSome (λ line. IsOwedOfFolded summary bytes line) old new r) → PrintsSome (λ line. IsSummary disk summary name line) old new r
@@ -268,19 +271,23 @@ pub refused : (disk : Disk) (words : List Text) (error : Error) (old : Option (L
     (IsSome (asked words) → kind_of error ≡ OutOfMemory) → IsStatusAfter (kind_of error) status → PrintsRun disk (Some words) old old status
 refused disk words error old status kinds memory after = explained disk words (asked words) error old status kinds memory after
 
+-- where a text isn't two times
+pub no_times_told : (E : Type 0) (disk : Disk) (task : Task) (text : Text) (old : Option (List ℕ)) → no_times text ≡ task → PrintsSome {E = E} (λ line. IsAnswer disk task line) old old (Ok 2)
+no_times_told E disk task text old is = (nothing, (none_yet old, refl), subst (λ (what : Task). IsAnswer disk what nothing) is refl)
+
 pub wordless : (disk : Disk) (old : Option (List ℕ)) → PrintsRun disk None old old 2
 wordless disk old = (nothing, refl, ([], none_yet old, inl (refl, refl)))
 
 -- what is right by the bytes that are left of each file is right by its bytes
-pub same_stacks : {Handle E : Type 0} (may_open : FileKind → Text → Option Handle → Type 0) (left known : Handle → Option (List ℕ)) → ((file : Handle) → left file ≡ known file) → (listing : Listing) (name : Text) (old new : Option (List ℕ)) (r : Result ℕ E) →
-    PrintsSome (λ line. AreStacks (disk_of may_open left) listing name line) old new r → PrintsSome (λ line. AreStacks (disk_of may_open known) listing name line) old new r
-same_stacks {Handle = Handle} may_open left known same listing name old new r =
-    subst (λ (bytes_of : Handle → Option (List ℕ)). PrintsSome (λ line. AreStacks (disk_of may_open bytes_of) listing name line) old new r) (λ i file. same file i)
+pub same_stacks : {Handle E : Type 0} (may_open : FileKind → Text → Option Handle → Type 0) (left known : Handle → Option (List ℕ)) → ((file : Handle) → left file ≡ known file) → (listing : Listing) (choice : Choice) (folders : Folders) (name : Text) (old new : Option (List ℕ)) (r : Result ℕ E) →
+    PrintsSome (λ line. AreStacks (disk_of may_open left) listing choice folders name line) old new r → PrintsSome (λ line. AreStacks (disk_of may_open known) listing choice folders name line) old new r
+same_stacks {Handle = Handle} may_open left known same listing choice folders name old new r =
+    subst (λ (bytes_of : Handle → Option (List ℕ)). PrintsSome (λ line. AreStacks (disk_of may_open bytes_of) listing choice folders name line) old new r) (λ i file. same file i)
 
-pub same_threads : {Handle E : Type 0} (may_open : FileKind → Text → Option Handle → Type 0) (left known : Handle → Option (List ℕ)) → ((file : Handle) → left file ≡ known file) → (raw : Bool) (name : Text) (old new : Option (List ℕ)) (r : Result ℕ E) →
-    PrintsSome (λ line. AreThreads (disk_of may_open left) raw name line) old new r → PrintsSome (λ line. AreThreads (disk_of may_open known) raw name line) old new r
-same_threads {Handle = Handle} may_open left known same raw name old new r =
-    subst (λ (bytes_of : Handle → Option (List ℕ)). PrintsSome (λ line. AreThreads (disk_of may_open bytes_of) raw name line) old new r) (λ i file. same file i)
+pub same_threads : {Handle E : Type 0} (may_open : FileKind → Text → Option Handle → Type 0) (left known : Handle → Option (List ℕ)) → ((file : Handle) → left file ≡ known file) → (listing : ThreadListing) (folders : Folders) (name : Text) (old new : Option (List ℕ)) (r : Result ℕ E) →
+    PrintsSome (λ line. AreThreads (disk_of may_open left) listing folders name line) old new r → PrintsSome (λ line. AreThreads (disk_of may_open known) listing folders name line) old new r
+same_threads {Handle = Handle} may_open left known same listing folders name old new r =
+    subst (λ (bytes_of : Handle → Option (List ℕ)). PrintsSome (λ line. AreThreads (disk_of may_open bytes_of) listing folders name line) old new r) (λ i file. same file i)
 
 pub same_summary : {Handle E : Type 0} (may_open : FileKind → Text → Option Handle → Type 0) (left known : Handle → Option (List ℕ)) → ((file : Handle) → left file ≡ known file) → (summary : Summary) (name : Text) (old new : Option (List ℕ)) (r : Result ℕ E) →
     PrintsSome (λ line. IsSummary (disk_of may_open left) summary name line) old new r → PrintsSome (λ line. IsSummary (disk_of may_open known) summary name line) old new r

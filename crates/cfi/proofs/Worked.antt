@@ -7,10 +7,13 @@ use Rattle.clap.specs.Words.{Text, fault_of}
 use Rattle.clap.specs.declared.error.kind.ErrorKind.TheVariants.{DisplayHelp, DisplayVersion, InvalidSubcommand}
 use Rattle.clap.proofs.OnLiterals.{clap_on_literals}
 use Rattle.cfi_programs.specs.declared.style.Format.TheVariants as form
-use Rattle.cfi.specs.CommandLine.{cfi_app, check, dump, flame, fold, report, row, rows, stack, unwind}
+use Rattle.hex.specs.Hex.{encode_with}
+use Rattle.cfi.specs.CommandLine.{Samples, cfi_app, check, dump, flame, fold, report, row, rows, stack, unwind}
 use Rattle.cfi.specs.Findings.{tally_in}
-use Rattle.cfi.specs.Forms.{LongOption, any_text, raw}
+use Rattle.cfi.specs.Folders.{Folders, copy_path, debug_path, path_below}
+use Rattle.cfi.specs.Forms.{LongOption, number_of, raw, text_option}
 use Rattle.cfi.specs.Openings.{path_of}
+use Rattle.cfi.specs.Times.{time_of, times_of}
 use Rattle.cfi.specs.Words.{asked, given, nothing}
 
 two_addresses : asked (codes "cfi" ∷ codes "row" ∷ codes "a" ∷ codes "0x10" ∷ codes "main+4" ∷ []) ≡ Some (row false form.Text (codes "a") (codes "0x10" ∷ codes "main+4" ∷ []))
@@ -98,28 +101,47 @@ not_quiet : asked (codes "cfi" ∷ codes "dump" ∷ codes "--quiet" ∷ codes "a
 not_quiet = refl
 
 -- an option with any text for a value has it behind `=` or as the next word, once
-abbrev thread : LongOption
-thread = record { name = codes "thread"; value = any_text }
+abbrev name : LongOption
+name = text_option (codes "comm")
 
-a_value : given (raw ∷ thread ∷ []) None nothing (codes "core" ∷ codes "--thread=" ∷ codes "--raw" ∷ [])
-    ≡ Some (record { options = (codes "raw", codes "true") ∷ (codes "thread", codes "") ∷ []; arguments = codes "core" ∷ [] })
+a_value : given (raw ∷ name ∷ []) None nothing (codes "core" ∷ codes "--comm=" ∷ codes "--raw" ∷ [])
+    ≡ Some (record { options = (codes "raw", codes "true") ∷ (codes "comm", codes "") ∷ []; arguments = codes "core" ∷ [] })
 a_value = refl
 
-a_next_value : given (thread ∷ []) None nothing (codes "--thread" ∷ codes "7" ∷ codes "core" ∷ [])
-    ≡ Some (record { options = (codes "thread", codes "7") ∷ []; arguments = codes "core" ∷ [] })
+a_next_value : given (name ∷ []) None nothing (codes "--comm" ∷ codes "7" ∷ codes "core" ∷ [])
+    ≡ Some (record { options = (codes "comm", codes "7") ∷ []; arguments = codes "core" ∷ [] })
 a_next_value = refl
 
-two_values : given (thread ∷ []) None nothing (codes "--thread=7" ∷ codes "core" ∷ codes "--thread" ∷ codes "7" ∷ []) ≡ None
+two_values : given (name ∷ []) None nothing (codes "--comm=7" ∷ codes "core" ∷ codes "--comm" ∷ codes "7" ∷ []) ≡ None
 two_values = refl
 
-no_value_follows : given (thread ∷ []) None nothing (codes "core" ∷ codes "--thread" ∷ []) ≡ None
+no_value_follows : given (name ∷ []) None nothing (codes "core" ∷ codes "--comm" ∷ []) ≡ None
 no_value_follows = refl
 
 a_flag_has_no_value : given (raw ∷ []) None nothing (codes "--raw=true" ∷ codes "core" ∷ []) ≡ None
 a_flag_has_no_value = refl
 
-no_option_named_so : given (raw ∷ []) None nothing (codes "--thread=7" ∷ codes "core" ∷ []) ≡ None
+no_option_named_so : given (raw ∷ []) None nothing (codes "--comm=7" ∷ codes "core" ∷ []) ≡ None
 no_option_named_so = refl
+
+-- a number has decimal digits, of a value below 2^64; a plus may stand before them
+a_number : number_of (codes "18446744073709551615") ≡ Some 18446744073709551615
+a_number = refl
+
+behind_a_plus : number_of (codes "+012") ≡ Some 12
+behind_a_plus = refl
+
+too_great : number_of (codes "18446744073709551616") ≡ None
+too_great = refl
+
+no_digits : number_of (codes "") ≡ None
+no_digits = refl
+
+hexadecimal : number_of (codes "0x1f") ≡ None
+hexadecimal = refl
+
+no_number : asked (codes "cfi" ∷ codes "unwind" ∷ codes "--limit=many" ∷ codes "perf.data" ∷ []) ≡ None
+no_number = refl
 
 -- ---- the count of a check
 
@@ -127,23 +149,109 @@ counted : tally_in form.Text 3 2 1 ≡ codes "3 files, 2 tables, 1 faithful"
 unfolding digits
 counted = refl
 
-a_profile : asked (codes "cfi" ∷ codes "unwind" ∷ codes "perf.data" ∷ []) ≡ Some (unwind false (codes "perf.data"))
+-- ---- stacks
+
+abbrev all_samples : Samples
+all_samples = record { comm = None; pid = None; tid = None; event = None; time = None; limit = None }
+
+abbrev no_folders : Folders
+no_folders = record { symfs = None; debug_dir = None }
+
+a_profile : asked (codes "cfi" ∷ codes "unwind" ∷ codes "perf.data" ∷ []) ≡ Some (unwind false form.Text all_samples no_folders (codes "perf.data"))
 a_profile = refl
 
-a_raw_profile : asked (codes "cfi" ∷ codes "unwind" ∷ codes "--raw" ∷ codes "perf.data" ∷ []) ≡ Some (unwind true (codes "perf.data"))
+a_raw_profile : asked (codes "cfi" ∷ codes "unwind" ∷ codes "--raw" ∷ codes "perf.data" ∷ codes "--format=json" ∷ [])
+    ≡ Some (unwind true form.Json all_samples no_folders (codes "perf.data"))
 a_raw_profile = refl
 
-a_profile_has_no_format : asked (codes "cfi" ∷ codes "unwind" ∷ codes "--format=text" ∷ codes "perf.data" ∷ []) ≡ None
-a_profile_has_no_format = refl
+samples_of_a_thread : asked (codes "cfi" ∷ codes "unwind" ∷ codes "--pid" ∷ codes "7" ∷ codes "perf.data" ∷ codes "--tid=8" ∷ codes "--comm=ls" ∷ codes "--event" ∷ codes "cycles:u" ∷ [])
+    ≡ Some (unwind false form.Text (record all_samples { comm = Some (codes "ls"); pid = Some 7; tid = Some 8; event = Some (codes "cycles:u") }) no_folders (codes "perf.data"))
+samples_of_a_thread = refl
 
-a_core : asked (codes "cfi" ∷ codes "stack" ∷ codes "core" ∷ []) ≡ Some (stack false (codes "core"))
+samples_of_a_time : asked (codes "cfi" ∷ codes "unwind" ∷ codes "--time" ∷ codes ",1.5" ∷ codes "--limit=10" ∷ codes "perf.data" ∷ [])
+    ≡ Some (unwind false form.Text (record all_samples { time = Some (codes ",1.5"); limit = Some 10 }) no_folders (codes "perf.data"))
+samples_of_a_time = refl
+
+a_profile_of_another_system : asked (codes "cfi" ∷ codes "unwind" ∷ codes "--symfs=/mnt" ∷ codes "--debug-dir" ∷ codes "debug" ∷ codes "perf.data" ∷ [])
+    ≡ Some (unwind false form.Text all_samples (record { symfs = Some (codes "/mnt"); debug_dir = Some (codes "debug") }) (codes "perf.data"))
+a_profile_of_another_system = refl
+
+a_core : asked (codes "cfi" ∷ codes "stack" ∷ codes "core" ∷ []) ≡ Some (stack false form.Text None no_folders (codes "core"))
 a_core = refl
 
-a_raw_core : asked (codes "cfi" ∷ codes "stack" ∷ codes "core" ∷ codes "--raw" ∷ []) ≡ Some (stack true (codes "core"))
+a_raw_core : asked (codes "cfi" ∷ codes "stack" ∷ codes "core" ∷ codes "--raw" ∷ []) ≡ Some (stack true form.Text None no_folders (codes "core"))
 a_raw_core = refl
+
+a_thread : asked (codes "cfi" ∷ codes "stack" ∷ codes "--thread" ∷ codes "7" ∷ codes "--format=json" ∷ codes "core" ∷ [])
+    ≡ Some (stack false form.Json (Some 7) no_folders (codes "core"))
+a_thread = refl
 
 one_core : asked (codes "cfi" ∷ codes "stack" ∷ codes "core" ∷ codes "a" ∷ []) ≡ None
 one_core = refl
+
+samples_of_no_core : asked (codes "cfi" ∷ codes "stack" ∷ codes "--pid=7" ∷ codes "core" ∷ []) ≡ None
+samples_of_no_core = refl
+
+-- times in seconds, with at most nine decimals
+a_time : time_of (codes "1324.912972") ≡ Some 1324912972000
+a_time = refl
+
+a_nanosecond : time_of (codes "0.000000001") ≡ Some 1
+a_nanosecond = refl
+
+whole_seconds : time_of (codes "12") ≡ Some 12000000000
+whole_seconds = refl
+
+ten_decimals : time_of (codes "1.0000000001") ≡ None
+ten_decimals = refl
+
+two_dots : time_of (codes "1.2.3") ≡ None
+two_dots = refl
+
+no_seconds : time_of (codes ".5") ≡ None
+no_seconds = refl
+
+-- each of which may be left out, behind or before the comma
+two_times : times_of (codes "12.5,13") ≡ Some (record { from = Some 12500000000; until = Some 13000000000 })
+two_times = refl
+
+until_a_time : times_of (codes ",13") ≡ Some (record { from = None; until = Some 13000000000 })
+until_a_time = refl
+
+one_time : times_of (codes "12.5") ≡ None
+one_time = refl
+
+no_second_time : times_of (codes "12.5,end") ≡ None
+no_second_time = refl
+
+-- paths below a root, and by the identification of a build
+below_a_root : path_below (Some (codes "/mnt")) (codes "/bin/ls") ≡ codes "/mnt/bin/ls"
+below_a_root = refl
+
+no_absolute_path : path_below (Some (codes "/mnt")) (codes "[vdso]") ≡ codes "[vdso]"
+no_absolute_path = refl
+
+a_copy : copy_path no_folders (codes "/h") (1 ∷ 171 ∷ 35 ∷ []) ≡ codes "/h/.debug/.build-id/01/ab23/elf"
+unfolding encode_with
+a_copy = refl
+
+a_copy_below_a_root : copy_path (record no_folders { symfs = Some (codes "/mnt") }) (codes "/h") (1 ∷ 171 ∷ []) ≡ codes "/mnt/.debug/.build-id/01/ab/elf"
+unfolding encode_with
+a_copy_below_a_root = refl
+
+a_debug_file : debug_path no_folders (1 ∷ 171 ∷ []) ≡ codes "/usr/lib/debug/.build-id/01/ab.debug"
+unfolding encode_with
+a_debug_file = refl
+
+a_debug_file_below_a_root : debug_path (record no_folders { symfs = Some (codes "/mnt") }) (1 ∷ 171 ∷ []) ≡ codes "/mnt/usr/lib/debug/.build-id/01/ab.debug"
+unfolding encode_with
+a_debug_file_below_a_root = refl
+
+a_debug_file_in_a_folder : debug_path (record { symfs = Some (codes "/mnt"); debug_dir = Some (codes "debug") }) (1 ∷ 171 ∷ []) ≡ codes "debug/.build-id/01/ab.debug"
+unfolding encode_with
+a_debug_file_in_a_folder = refl
+
+-- ---- folded stacks
 
 folded : asked (codes "cfi" ∷ codes "flame" ∷ codes "-" ∷ []) ≡ Some (flame (codes "-"))
 folded = refl
@@ -157,8 +265,12 @@ folded_has_no_format = refl
 folded_report : asked (codes "cfi" ∷ codes "report" ∷ codes "-" ∷ []) ≡ Some (report (codes "-"))
 folded_report = refl
 
-folded_profile : asked (codes "cfi" ∷ codes "fold" ∷ codes "perf.data" ∷ []) ≡ Some (fold (codes "perf.data"))
+folded_profile : asked (codes "cfi" ∷ codes "fold" ∷ codes "perf.data" ∷ []) ≡ Some (fold false all_samples no_folders (codes "perf.data"))
 folded_profile = refl
+
+folded_by_period : asked (codes "cfi" ∷ codes "fold" ∷ codes "--period" ∷ codes "perf.data" ∷ codes "--limit" ∷ codes "3" ∷ [])
+    ≡ Some (fold true (record all_samples { limit = Some 3 }) no_folders (codes "perf.data"))
+folded_by_period = refl
 
 one_report : asked (codes "cfi" ∷ codes "report" ∷ codes "a" ∷ codes "b" ∷ []) ≡ None
 one_report = refl

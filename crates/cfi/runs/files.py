@@ -244,7 +244,15 @@ foreign = bytearray((data / "calls.o").read_bytes())
 assert struct.unpack_from("<H", foreign, 18) == (62,)
 struct.pack_into("<H", foreign, 18, 8)
 
+# The fifth section header of example is that of .debug_frame: its flags get SHF_COMPRESSED.
+packed = bytearray((data / "example").read_bytes())
+(headers,) = struct.unpack_from("<Q", packed, 40)
+flags = headers + 64 * 4 + 8
+assert struct.unpack_from("<Q", packed, flags) == (0,)
+struct.pack_into("<Q", packed, flags, 0x800)
+
 (data / "unfaithful").write_bytes(calls)
+(data / "packed").write_bytes(packed)
 (data / "foreign.o").write_bytes(foreign)
 (data / "calls.perf").write_bytes(of_calls)
 (data / "others.perf").write_bytes(of_others)

@@ -5,15 +5,15 @@
 --         where there is no kind
 --     asked_by words      what clap's matches of the words ask for
 use Rattle.std.specs.Prelude.{◌≡◌, ℕ, Bool, true, false, List, [], ◌∷◌, ◌++◌, Option, Result}
-use Rattle.std.specs.Prelude.{Some, None, codes, map, option_map, slice_get, unwrap_or}
-use Rattle.std.specs.Prelude.{if◌then◌else◌}
+use Rattle.std.specs.Prelude.{Some, None, codes, map, option_and_then, option_map, slice_get}
+use Rattle.std.specs.Prelude.{unwrap_or, if◌then◌else◌}
 use Rattle.std.specs.Borrow.{Bor}
 use Rattle.std.specs.List.{fold as fold_over}
 use Rattle.std.specs.Option.{option_map_or}
 use Rattle.std.specs.Str.{bytes_eq}
 use Rattle.clap.specs.Lexer.{usize_max}
 use Rattle.clap.specs.Words.{App, FailsBy, Row, Rule, Text, all_of, app_of, fault_of, new_app}
-use Rattle.clap.specs.Words.{new_rule, subcommand_of, with_subcommand}
+use Rattle.clap.specs.Words.{new_rule, subcommand_of, with_rule, with_subcommand}
 use Rattle.clap.specs.Simple.{on_top}
 use Rattle.clap.specs.declared.builder.action.ArgAction.{ArgAction}
 use Rattle.clap.specs.declared.builder.action.ArgAction.TheVariants.{SetTrue}
@@ -21,45 +21,74 @@ use Rattle.clap.specs.declared.builder.command.Command.{Command as ClapCommand}
 use Rattle.clap.specs.declared.builder.command.Command.TheViews.{out-Command}
 use Rattle.clap.specs.declared.builder.value_parser.ValueParser.{ValueParser}
 use Rattle.clap.specs.declared.builder.value_parser.ValueParser.TheVariants.{Names, String}
+use Rattle.clap.specs.declared.builder.value_parser.ValueParser.TheVariants.{Unsigned}
 use Rattle.clap.specs.declared.error.Error.{Error}
 use Rattle.cfi.specs.declared.command.Command.{Command}
 use Rattle.cfi.specs.declared.command.Command.TheVariants as command
-use Rattle.cfi.specs.Forms.{Arguments, Form, Value, file_and_address, file_and_addresses}
-use Rattle.cfi.specs.Forms.{format_name, format_names, forms, no_value, one_file}
-use Rattle.cfi.specs.Forms.{one_file_or_more}
+use Rattle.cfi.specs.declared.command.Samples.{Samples as SamplesOfCode}
+use Rattle.cfi.specs.Folders.{Folders, folders_view}
+use Rattle.cfi.specs.Forms.{Arguments, Form, LongOption, Value, any_text, file_and_address}
+use Rattle.cfi.specs.Forms.{file_and_addresses, format_name, format_names, forms, no_value, number}
+use Rattle.cfi.specs.Forms.{number_of, one_file, one_file_or_more}
 use Rattle.cfi_programs.specs.declared.style.Format.{Format}
 use Rattle.cfi_programs.specs.declared.style.Format.TheVariants as form
 
 -- ---- the commands, with the bytes of their words
 
+-- which samples of a profile, those for which each part that is given holds; the times are a text
+pub record Samples : Type 0 where
+  pub comm : Option Text
+  pub pid : Option ℕ
+  pub tid : Option ℕ
+  pub event : Option Text
+  pub time : Option Text
+  pub limit : Option ℕ
+
+abbrev pub text_view : Option (Bor Text) → Option Text
+text_view = option_map (λ text. text.now)
+
+abbrev pub samples_view : SamplesOfCode → Samples
+samples_view samples = record {
+  comm = text_view samples.comm;
+  pid = samples.pid;
+  tid = samples.tid;
+  event = text_view samples.event;
+  time = text_view samples.time;
+  limit = samples.limit;
+}
+
 -- first whether registers are printed by number, or stacks without functions, and the form of what
--- is printed; for a check, whether files with faithful tables have no line
+-- is printed; for a check, whether files with faithful tables have no line; for folded stacks,
+-- whether they are counted by periods; for a core file, which thread alone
 pub data Asked : Type 0 where
   row : Bool → Format → Text → List Text → Asked
   rows : Bool → Format → Text → Option Text → Asked
   dump : Bool → Text → Asked
   check : Bool → Format → List Text → Asked
   table : Bool → Text → Asked
-  unwind : Bool → Text → Asked
-  stack : Bool → Text → Asked
+  unwind : Bool → Format → Samples → Folders → Text → Asked
+  stack : Bool → Format → Option ℕ → Folders → Text → Asked
   flame : Text → Asked
   report : Text → Asked
-  fold : Text → Asked
+  fold : Bool → Samples → Folders → Text → Asked
 
 abbrev pub command_view : Command → Asked
 command_view (command.Row raw format file addresses) =
     row raw format file.now (map (λ address. address.now) addresses.items)
 command_view (command.Rows raw format file address) =
-    rows raw format file.now (option_map (λ word. word.now) address)
+    rows raw format file.now (text_view address)
 command_view (command.Dump raw file) = dump raw file.now
 command_view (command.Check quiet format files) =
     check quiet format (map (λ file. file.now) files.items)
 command_view (command.Table raw file) = table raw file.now
-command_view (command.Unwind raw file) = unwind raw file.now
-command_view (command.Stack raw file) = stack raw file.now
+command_view (command.Unwind raw format samples folders file) =
+    unwind raw format (samples_view samples) (folders_view folders) file.now
+command_view (command.Stack raw format thread folders file) =
+    stack raw format thread (folders_view folders) file.now
 command_view (command.Flame file) = flame file.now
 command_view (command.Report file) = report file.now
-command_view (command.Fold file) = fold file.now
+command_view (command.Fold period samples folders file) =
+    fold period (samples_view samples) (folders_view folders) file.now
 
 -- ---- the commands as clap is told of them
 
@@ -80,7 +109,7 @@ address_rule = new_rule (codes "ADDRESS")
 abbrev pub addresses_rule : Rule
 addresses_rule = several (record address_rule { required = true })
 
--- an option: a flag; one value; or one value, among the names
+-- an option: a flag; one value; one that is a number of `u64`; or one among the names
 abbrev pub action_for : Value → Option ArgAction
 action_for no_value = Some SetTrue
 action_for _ = None
@@ -91,6 +120,7 @@ value_names_for _ = 1
 
 abbrev pub parser_for : ValueParser → Value → Option ValueParser
 parser_for formats format_name = Some formats
+parser_for formats number = Some (Unsigned 0 18446744073709551615)
 parser_for formats _ = None
 
 abbrev pub option_rule : ValueParser → Text → Value → Rule
@@ -109,6 +139,16 @@ raw_rule = flag_rule (codes "raw")
 
 abbrev pub quiet_rule : Rule
 quiet_rule = flag_rule (codes "quiet")
+
+abbrev pub period_rule : Rule
+period_rule = flag_rule (codes "period")
+
+-- an option with any text for a value, and one with a number
+abbrev pub text_rule : Text → Rule
+text_rule name = option_rule String name any_text
+
+abbrev pub number_rule : Text → Rule
+number_rule name = option_rule String name number
 
 abbrev pub format_rule : Bor (List (Bor Text)) → Rule
 format_rule names = option_rule (Names names) (codes "format") format_name
@@ -154,6 +194,16 @@ cfi_app names =
 abbrev pub IsApp : App → ClapCommand → Type 0
 IsApp app command = (app_of command ≡ app) × ((out-Command command).has_globals ≡ false)
 
+-- the same command with these options behind its rules
+abbrev pub with_options : List LongOption → App → App
+with_options options app =
+    fold_over (λ app o. with_rule app (option_rule String o.name o.value)) app options
+
+abbrev pub AddsOptions : List LongOption → ClapCommand → ClapCommand → Type 0
+AddsOptions options old new =
+    (app_of new ≡ with_options options (app_of old))
+    × ((out-Command new).has_globals ≡ (out-Command old).has_globals)
+
 -- where the names are those of the formats, in some place of memory
 abbrev pub FailsAsCfi : {T : Type 0} → List Text → Result T Error → Type 0
 FailsAsCfi words r =
@@ -182,17 +232,52 @@ raw_in = has_value (codes "raw") (codes "true")
 abbrev pub quiet_in : (Text → List Text) → Bool
 quiet_in = has_value (codes "quiet") (codes "true")
 
+abbrev pub period_in : (Text → List Text) → Bool
+period_in = has_value (codes "period") (codes "true")
+
 abbrev pub format_in : (Text → List Text) → Format
 format_in values =
     if has_value (codes "format") (codes "json") values then form.Json else form.Text
 
--- a command that has one file, and the flag `--raw`
+abbrev pub number_in : Text → (Text → List Text) → Option ℕ
+number_in id values = option_and_then number_of (first_in values id)
+
+abbrev pub samples_in : (Text → List Text) → Samples
+samples_in values = record {
+  comm = first_in values (codes "comm");
+  pid = number_in (codes "pid") values;
+  tid = number_in (codes "tid") values;
+  event = first_in values (codes "event");
+  time = first_in values (codes "time");
+  limit = number_in (codes "limit") values;
+}
+
+abbrev pub folders_in : (Text → List Text) → Folders
+folders_in values = record {
+  symfs = first_in values (codes "symfs");
+  debug_dir = first_in values (codes "debug-dir");
+}
+
+-- a command that has one file, and the flag `--raw` at most
 abbrev pub of_one_file : Text → Bool → Text → Asked
 of_one_file name raw file =
     if bytes_eq name (codes "dump") then dump raw file
     else if bytes_eq name (codes "table") then table raw file
-    else if bytes_eq name (codes "unwind") then unwind raw file
-    else stack raw file
+    else if bytes_eq name (codes "flame") then flame file
+    else report file
+
+-- or that prints the stacks of a profile or a core file
+abbrev pub of_stacks : Text → (Text → List Text) → Asked
+of_stacks name values =
+    let file = file_in values in
+    let folders = folders_in values in
+    if bytes_eq name (codes "unwind") then unwind (raw_in values) (format_in values)
+    (samples_in values) folders file
+    else if bytes_eq name (codes "stack") then stack (raw_in values) (format_in values)
+    (number_in (codes "thread") values) folders file
+    else if bytes_eq name (codes "fold") then fold (period_in values) (samples_in values) folders
+    file
+    else of_one_file name (raw_in values) file
 
 -- by the name of a command, and the values at each name
 abbrev pub asked_for : Text → (Text → List Text) → Asked
@@ -204,10 +289,7 @@ asked_for name values =
     (first_in values (codes "ADDRESS"))
     else if bytes_eq name (codes "check") then check (quiet_in values) format
     (values (codes "FILE"))
-    else if bytes_eq name (codes "flame") then flame (file_in values)
-    else if bytes_eq name (codes "report") then report (file_in values)
-    else if bytes_eq name (codes "fold") then fold (file_in values)
-    else of_one_file name raw (file_in values)
+    else of_stacks name values
 
 -- by the name and the matches of a subcommand
 abbrev pub asked_of : Text × List Row → Asked

@@ -2,17 +2,22 @@
 --     forms      the commands
 --     form_named forms name      the command of this name, if any
 --     option_named options name      the option of this name, if any
-use Rattle.std.specs.Prelude.{Bool, true, false, List, [], ◌∷◌, Option, codes, find}
+use Rattle.std.specs.Prelude.{ℕ, ◌^◌, ◌&&◌, Bool, true, false, List, [], ◌∷◌, ◌++◌, Option, Some}
+use Rattle.std.specs.Prelude.{None, codes, find, is_some, nat_lt, if◌then◌else◌}
 use Rattle.std.specs.List.{list_any}
 use Rattle.std.specs.Str.{bytes_eq}
+use Rattle.std.specs.Str.Parse.{digits_value, without_leading_plus}
+use Rattle.clap.specs.ValueTests.{is_numeral}
 use Rattle.clap.specs.Words.{Text}
 
 -- ---- options
 
--- what an option has beside its name: nothing, as a flag; any text; or the name of a format
+-- what an option has beside its name: nothing, as a flag; any text; a number; or the name of a
+-- format
 pub data Value : Type 0 where
   no_value : Value
   any_text : Value
+  number : Value
   format_name : Value
 
 -- `--name`, with its value if it has one
@@ -23,14 +28,24 @@ pub record LongOption : Type 0 where
 abbrev pub has_no_value : Value → Bool
 has_no_value no_value = true
 has_no_value any_text = false
+has_no_value number = false
 has_no_value format_name = false
 
 abbrev pub format_names : List Text
 format_names = codes "text" ∷ codes "json" ∷ []
 
+-- decimal digits, of a value below 2^64; a plus may stand before them
+abbrev pub number_of : Text → Option ℕ
+number_of text =
+    let digits = without_leading_plus text in
+    if is_numeral digits && nat_lt (digits_value 10 digits) (2 ^ 64)
+    then Some (digits_value 10 digits)
+    else None
+
 abbrev pub takes : Value → Text → Bool
 takes no_value text = false
 takes any_text text = true
+takes number text = is_some (number_of text)
 takes format_name text = list_any (λ name. bytes_eq name text) format_names
 
 abbrev pub option_named : List LongOption → Text → Option LongOption
@@ -62,8 +77,32 @@ raw = record { name = codes "raw"; value = no_value }
 abbrev pub quiet : LongOption
 quiet = record { name = codes "quiet"; value = no_value }
 
+abbrev pub period : LongOption
+period = record { name = codes "period"; value = no_value }
+
 abbrev pub format : LongOption
 format = record { name = codes "format"; value = format_name }
+
+abbrev pub text_option : Text → LongOption
+text_option name = record { name = name; value = any_text }
+
+abbrev pub number_option : Text → LongOption
+number_option name = record { name = name; value = number }
+
+-- which samples of a profile
+abbrev pub sample_options : List LongOption
+sample_options =
+    text_option (codes "comm")
+    ∷ number_option (codes "pid")
+    ∷ number_option (codes "tid")
+    ∷ text_option (codes "event")
+    ∷ text_option (codes "time")
+    ∷ number_option (codes "limit")
+    ∷ []
+
+-- in which folders the files are that a profile or a core file names
+abbrev pub folder_options : List LongOption
+folder_options = text_option (codes "symfs") ∷ text_option (codes "debug-dir") ∷ []
 
 abbrev pub form : Text → List LongOption → Arguments → Form
 form name options arguments = record { name = name; options = options; arguments = arguments }
@@ -84,10 +123,12 @@ abbrev pub table_form : Form
 table_form = form (codes "table") (raw ∷ []) one_file
 
 abbrev pub unwind_form : Form
-unwind_form = form (codes "unwind") (raw ∷ []) one_file
+unwind_form =
+    form (codes "unwind") (raw ∷ format ∷ sample_options ++ folder_options) one_file
 
 abbrev pub stack_form : Form
-stack_form = form (codes "stack") (raw ∷ []) one_file
+stack_form =
+    form (codes "stack") (raw ∷ format ∷ number_option (codes "thread") ∷ folder_options) one_file
 
 abbrev pub flame_form : Form
 flame_form = form (codes "flame") [] one_file
@@ -96,7 +137,7 @@ abbrev pub report_form : Form
 report_form = form (codes "report") [] one_file
 
 abbrev pub fold_form : Form
-fold_form = form (codes "fold") [] one_file
+fold_form = form (codes "fold") (period ∷ sample_options ++ folder_options) one_file
 
 abbrev pub forms : List Form
 forms =

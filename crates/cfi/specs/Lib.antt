@@ -1,7 +1,9 @@
+pub mod Folders
 pub mod Forms
 pub mod CommandLine
 pub mod Findings
 pub mod Words
+pub mod Times
 pub mod Tasks
 pub mod Openings
 pub mod FlameOutputs

@@ -4,7 +4,7 @@
 --     IsOutput disk words printed      the output for the words of the process
 --     PrintsRun disk words old new status      what a run writes, and its status
 use Rattle.std.specs.Prelude.{◌≡◌, ◌⊎◌, ◌&&◌, ℕ, Bool, List, [], ◌∷◌, ◌++◌, length, Option, Some}
-use Rattle.std.specs.Prelude.{None, Result, Vec, IsNone, MatchResult, IfOk, map}
+use Rattle.std.specs.Prelude.{None, Result, Vec, IsNone, MatchResult, IfOk, codes, map}
 use Rattle.std.specs.Prelude.{if◌then◌else◌}
 use Rattle.std.specs.Borrow.{Bor}
 use Rattle.std.specs.List.{count_by}
@@ -21,11 +21,16 @@ use Rattle.cfi_files.specs.Findings.{ChecksSome, has_table, is_faithful}
 use Rattle.cfi_files.specs.declared.finding.Finding.{Finding}
 use Rattle.cfi_files.specs.declared.finding.Finding.TheVariants.{Unreadable}
 use Rattle.cfi_files.specs.declared.request.Request.{Request}
-use Rattle.cfi_processes.specs.Wanted.{FilePlace, at_path, copy_of, debug_of}
+use Rattle.cfi_processes.specs.CodeMaps.{map_name}
+use Rattle.cfi_processes.specs.Wanted.{FilePlace, at_path, code_map, copy_of, debug_of}
+use Rattle.cfi_processes.specs.Wanted.{kernel_symbols}
 use Rattle.cfi_stacks.specs.CoreOutputs.{IsOwed as IsOwedOfCore}
 use Rattle.cfi_stacks.specs.ProfileOutputs.{IsListingOwed as IsOwedOfProfile}
+use Rattle.cfi_stacks.specs.Choices.{Choice}
 use Rattle.cfi_stacks.specs.declared.listing.Listing.{Listing}
+use Rattle.cfi_stacks.specs.declared.listing.ThreadListing.{ThreadListing}
 use Rattle.cfi.specs.CommandLine.{Asked, cfi_app}
+use Rattle.cfi.specs.Folders.{Folders, copy_path, debug_path, path_below}
 use Rattle.cfi.specs.Forms.{format_names}
 use Rattle.cfi.specs.Openings.{FileKind, of_any_kind, path_of, regular}
 use Rattle.cfi.specs.FlameOutputs.{IsOwed as IsOwedOfFolded}
@@ -34,8 +39,8 @@ use Rattle.cfi.specs.declared.flames.Summary.{Summary}
 use Rattle.cfi.specs.declared.flames.Summary.TheVariants.{FlameGraph, Report}
 use Rattle.cfi.specs.Findings.{greatest_status, tally_in}
 use Rattle.cfi_programs.specs.declared.style.Format.{Format}
-use Rattle.cfi.specs.Tasks.{OfRequest, Task, check, flame, of_request, print, report, stack}
-use Rattle.cfi.specs.Tasks.{task_for, unwind}
+use Rattle.cfi.specs.Tasks.{OfRequest, Task, check, flame, no_times, of_request, print, report}
+use Rattle.cfi.specs.Tasks.{stack, task_for, unwind}
 use Rattle.cfi.specs.Words.{asked}
 
 -- The files of a system: what a path may be opened to, where files of any kind are opened or
@@ -136,36 +141,45 @@ AreTallied disk style names printed =
 
 -- ---- what is printed of a profile, and of a core file
 
--- the files that it names; none is opened by a name that isn't UTF-8, or if the file isn't a
--- regular one. A copy of a build, and its debug file, are at paths of their own
-abbrev pub MayOpenAt : (disk : Disk) → FilePlace → Option disk.Handle → Type 0
-MayOpenAt disk (at_path name) opened = IsNone opened ⊎ disk.MayOpen regular name opened
-MayOpenAt disk (copy_of build) opened =
-    IsNone opened ⊎ ((path : Text) × disk.MayOpen regular path opened)
-MayOpenAt disk (debug_of build) opened =
-    IsNone opened ⊎ ((path : Text) × disk.MayOpen regular path opened)
+-- the files that it names, in these folders; none is opened by a name that isn't UTF-8, or if the
+-- file isn't a regular one. Copies of builds are below the home folder, whatever that is. The
+-- kernel's symbols, and the functions of code that a process made, are those of the system that
+-- runs
+abbrev pub MayOpenAt : (disk : Disk) → Folders → FilePlace → Option disk.Handle → Type 0
+MayOpenAt disk folders (at_path name) opened =
+    IsNone opened ⊎ disk.MayOpen regular (path_below folders.symfs name) opened
+MayOpenAt disk folders (copy_of build) opened =
+    IsNone opened ⊎ ((home : Text) × disk.MayOpen regular (copy_path folders home build) opened)
+MayOpenAt disk folders (debug_of build) opened =
+    IsNone opened ⊎ disk.MayOpen regular (debug_path folders build) opened
+MayOpenAt disk folders kernel_symbols opened =
+    disk.MayOpen regular (codes "/proc/kallsyms") opened
+MayOpenAt disk folders (code_map pid) opened =
+    IsNone opened ⊎ disk.MayOpen regular (map_name pid) opened
 
-abbrev pub AreStacksOf : (disk : Disk) → Listing → Option disk.Handle → Line → Type 0
-AreStacksOf disk listing None printed = printed ≡ nothing
-AreStacksOf disk listing (Some file) printed =
+abbrev pub AreStacksOf :
+    (disk : Disk) → Listing → Choice → Folders → Option disk.Handle → Line → Type 0
+AreStacksOf disk listing choice folders None printed = printed ≡ nothing
+AreStacksOf disk listing choice folders (Some file) printed =
     (bytes : List ℕ) × AreLeft (disk.bytes_of file) bytes
-    × IsOwedOfProfile listing (MayOpenAt disk) disk.bytes_of bytes printed
+    × IsOwedOfProfile listing choice (MayOpenAt disk folders) disk.bytes_of bytes printed
 
-abbrev pub AreStacks : Disk → Listing → Text → Line → Type 0
-AreStacks disk listing name printed =
+abbrev pub AreStacks : Disk → Listing → Choice → Folders → Text → Line → Type 0
+AreStacks disk listing choice folders name printed =
     (opened : Option disk.Handle) × MayOpenNamed disk name opened
-    × AreStacksOf disk listing opened printed
+    × AreStacksOf disk listing choice folders opened printed
 
-abbrev pub AreThreadsOf : (disk : Disk) → Bool → Option disk.Handle → Line → Type 0
-AreThreadsOf disk raw None printed = printed ≡ nothing
-AreThreadsOf disk raw (Some file) printed =
+abbrev pub AreThreadsOf :
+    (disk : Disk) → ThreadListing → Folders → Option disk.Handle → Line → Type 0
+AreThreadsOf disk listing folders None printed = printed ≡ nothing
+AreThreadsOf disk listing folders (Some file) printed =
     (bytes : List ℕ) × AreLeft (disk.bytes_of file) bytes
-    × IsOwedOfCore raw (MayOpenAt disk) disk.bytes_of bytes printed
+    × IsOwedOfCore listing (MayOpenAt disk folders) disk.bytes_of bytes printed
 
-abbrev pub AreThreads : Disk → Bool → Text → Line → Type 0
-AreThreads disk raw name printed =
+abbrev pub AreThreads : Disk → ThreadListing → Folders → Text → Line → Type 0
+AreThreads disk listing folders name printed =
     (opened : Option disk.Handle) × MayOpenNamed disk name opened
-    × AreThreadsOf disk raw opened printed
+    × AreThreadsOf disk listing folders opened printed
 
 -- ---- what is printed of folded stacks
 
@@ -184,8 +198,10 @@ IsSummary disk summary name printed =
 abbrev pub IsAnswer : Disk → Task → Line → Type 0
 IsAnswer disk (print name what) printed = IsPrint disk name what printed
 IsAnswer disk (check names style) printed = AreTallied disk style names printed
-IsAnswer disk (unwind listing name) printed = AreStacks disk listing name printed
-IsAnswer disk (stack raw name) printed = AreThreads disk raw name printed
+IsAnswer disk (unwind listing choice folders name) printed =
+    AreStacks disk listing choice folders name printed
+IsAnswer disk (stack listing folders name) printed = AreThreads disk listing folders name printed
+IsAnswer disk (no_times text) printed = printed ≡ nothing
 IsAnswer disk (flame name) printed = IsSummary disk FlameGraph name printed
 IsAnswer disk (report name) printed = IsSummary disk Report name printed
 

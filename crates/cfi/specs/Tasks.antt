@@ -1,18 +1,25 @@
 -- What a command is to do.
-use Rattle.std.specs.Prelude.{Bool, false, List, Option, map, option_map}
+use Rattle.std.specs.Prelude.{Bool, List, Option, Some, None, map, option_map}
+use Rattle.std.specs.Option.{option_map_or}
 use Rattle.clap.specs.Words.{Text}
 use Rattle.cfi_files.specs.declared.request.Printed.{Printed}
 use Rattle.cfi_files.specs.declared.request.Printed.TheVariants as printing
 use Rattle.cfi_files.specs.declared.request.Request.{Request}
 use Rattle.cfi_programs.specs.declared.style.Format.{Format}
+use Rattle.cfi_programs.specs.declared.style.Format.TheVariants as form
+use Rattle.cfi_stacks.specs.Choices.{Choice, choice_view}
 use Rattle.cfi_stacks.specs.declared.listing.Listing.{Listing}
-use Rattle.cfi_stacks.specs.declared.listing.Listing.TheVariants.{Frames, Folded}
+use Rattle.cfi_stacks.specs.declared.listing.Listing.TheVariants.{Frames, Json, Folded}
+use Rattle.cfi_stacks.specs.declared.listing.ThreadListing.{ThreadListing}
 use Rattle.cfi.specs.declared.files.CheckStyle.{CheckStyle}
 use Rattle.cfi.specs.declared.task.Task.{Task as TaskOfCode}
 use Rattle.cfi.specs.declared.task.Task.TheVariants.{Print, Check, Unwind, Stack, Flame}
-use Rattle.cfi.specs.declared.task.Task.TheVariants.{Report}
-use Rattle.cfi.specs.CommandLine.{Asked}
+use Rattle.cfi.specs.declared.task.Task.TheVariants.{NoTimes, Report}
+use Rattle.cfi.specs.declared.times.Times.{Times}
+use Rattle.cfi.specs.CommandLine.{Asked, Samples}
 use Rattle.cfi.specs.CommandLine as asked
+use Rattle.cfi.specs.Folders.{Folders, folders_view}
+use Rattle.cfi.specs.Times.{times_of}
 
 -- what is printed of a file, with the bytes of the words, in a format where there is a choice
 pub data OfFile : Type 0 where
@@ -38,24 +45,59 @@ asking raw what = record { what = what; raw = raw }
 abbrev pub of_request : Request → OfRequest
 of_request request = asking request.raw (of_file request.printed)
 
--- to print something of a file; to check files, in a style; to print the stacks of a profile, as
--- listed, or of a core file, raw or with functions; or the flame graph of folded stacks, or their
--- report
+-- ---- a task
+
+-- to print something of a file; to check files, in a style; to print the stacks of samples of a
+-- profile, as listed, or of threads of a core file, by files in folders; to say that a text isn't
+-- two times; or the flame graph of folded stacks, or their report
 pub data Task : Type 0 where
   print : Text → OfRequest → Task
   check : List Text → CheckStyle → Task
-  unwind : Listing → Text → Task
-  stack : Bool → Text → Task
+  unwind : Listing → Choice → Folders → Text → Task
+  stack : ThreadListing → Folders → Text → Task
+  no_times : Text → Task
   flame : Text → Task
   report : Text → Task
 
 abbrev pub task_view : TaskOfCode → Task
 task_view (Print file request) = print file.now (of_request request)
 task_view (Check files style) = check (map (λ file. file.now) files.now) style
-task_view (Unwind file listing) = unwind listing file.now
-task_view (Stack file raw) = stack raw file.now
+task_view (Unwind file listing choice folders) =
+    unwind listing (choice_view choice) (folders_view folders) file.now
+task_view (Stack file listing folders) = stack listing (folders_view folders) file.now
+task_view (NoTimes text) = no_times text.now
 task_view (Flame file) = flame file.now
 task_view (Report file) = report file.now
+
+-- the samples of a profile, between two times
+abbrev pub between : Samples → Times → Choice
+between samples times = record {
+  comm = samples.comm;
+  pid = samples.pid;
+  tid = samples.tid;
+  from = times.from;
+  until = times.until;
+  event = samples.event;
+  limit = samples.limit;
+}
+
+abbrev pub any_time : Times
+any_time = record { from = None; until = None }
+
+-- by the times that a text is, if it is two
+abbrev pub by_times : Listing → Samples → Folders → Text → Text → Option Times → Task
+by_times listing samples folders file text None = no_times text
+by_times listing samples folders file text (Some times) =
+    unwind listing (between samples times) folders file
+
+abbrev pub unwinding : Listing → Samples → Folders → Text → Task
+unwinding listing samples folders file =
+    option_map_or (λ text. by_times listing samples folders file text (times_of text)) samples.time
+    (unwind listing (between samples any_time) folders file)
+
+abbrev pub listing_for : Bool → Format → Listing
+listing_for raw form.Text = Frames raw
+listing_for raw form.Json = Json raw
 
 -- for what the words ask for
 abbrev pub task_for : Asked → Task
@@ -65,8 +107,11 @@ task_for (asked.dump raw file) = print file (asking raw dump_of)
 task_for (asked.check quiet format files) =
     check files (record { format = format; quiet = quiet })
 task_for (asked.table raw file) = print file (asking raw table_of)
-task_for (asked.unwind raw file) = unwind (Frames raw) file
-task_for (asked.stack raw file) = stack raw file
+task_for (asked.unwind raw format samples folders file) =
+    unwinding (listing_for raw format) samples folders file
+task_for (asked.stack raw format thread folders file) =
+    stack (record { raw = raw; format = format; thread = thread }) folders file
 task_for (asked.flame file) = flame file
 task_for (asked.report file) = report file
-task_for (asked.fold file) = unwind (Folded false) file
+task_for (asked.fold period samples folders file) =
+    unwinding (Folded period) samples folders file

@@ -1,18 +1,23 @@
 //! What the words of a command line ask for, read by clap.
-ghost use Rattle.std.specs.Prelude.{◌≡◌, IfErr, IfOk, IsSome, Some, false, map, option_map, true};
+ghost use Rattle.std.specs.Prelude.{◌≡◌, IfErr, IfOk, IsSome, Some, codes, false, map, option_map};
+ghost use Rattle.std.specs.Prelude.{true};
 ghost use Rattle.clap.specs.Words.{found_of, rows_of, rule_of};
 ghost use Rattle.clap.specs.Words.{has_subcommand, kind_of, subcommand_rows_of};
 ghost use Rattle.clap.specs.declared.builder.value_parser.ValueParser.TheVariants.{Names};
 ghost use Rattle.cfi.specs.CommandLine.{FailsAsCfi, IsApp, address_rule, addresses_rule, asked_of};
 ghost use Rattle.cfi.specs.CommandLine.{cfi_app, command_view, file_in, file_rule, files_rule};
-ghost use Rattle.cfi.specs.CommandLine.{form_app, format_in, format_rule, has_value, of_one_file};
-ghost use Rattle.cfi.specs.CommandLine.{plain_app, quiet_in, quiet_rule, raw_in, raw_rule};
-ghost use Rattle.cfi.specs.CommandLine.{top_app, values_in};
-ghost use Rattle.cfi.specs.Forms.{check_form, dump_form, flame_form, fold_form, format_names};
-ghost use Rattle.cfi.specs.Forms.{report_form, row_form, rows_form, stack_form, table_form};
-ghost use Rattle.cfi.specs.Forms.{unwind_form};
+ghost use Rattle.cfi.specs.CommandLine.{folders_in, form_app, format_in, format_rule, has_value};
+ghost use Rattle.cfi.specs.CommandLine.{number_in, number_rule, of_one_file, of_stacks, period_in};
+ghost use Rattle.cfi.specs.CommandLine.{period_rule, plain_app, quiet_in, quiet_rule, raw_in};
+ghost use Rattle.cfi.specs.CommandLine.{raw_rule, samples_in, samples_view, text_rule, text_view};
+ghost use Rattle.cfi.specs.CommandLine.{AddsOptions, first_in, top_app, values_in};
+ghost use Rattle.cfi.specs.Folders.{folders_view};
+ghost use Rattle.cfi.specs.Forms.{check_form, dump_form, flame_form, fold_form, folder_options};
+ghost use Rattle.cfi.specs.Forms.{format_names, report_form, row_form, rows_form, sample_options};
+ghost use Rattle.cfi.specs.Forms.{stack_form, table_form, unwind_form};
 ghost use Rattle.cfi.specs.Words.{asked};
 
+use crate::folders::Folders;
 use cfi_programs::style::Format;
 use clap::builder::ValueParser;
 use clap::error::ErrorKind;
@@ -22,6 +27,23 @@ use std::convert::AsStr;
 
 /// The version of this repository, as the file `VERSION` has it.
 const VERSION: &str = "0.1.0";
+
+/// Which samples of a profile are asked for: those for which each part that is given holds.
+#[derive(Clone, Copy, Debug)]
+pub struct Samples<'w> {
+    /// The name of the thread.
+    pub comm: Option<&'w str>,
+    /// The process.
+    pub pid: Option<u64>,
+    /// The thread.
+    pub tid: Option<u64>,
+    /// The name of the event.
+    pub event: Option<&'w str>,
+    /// From when until when, as the words have it.
+    pub time: Option<&'w str>,
+    /// How many at most.
+    pub limit: Option<u64>,
+}
 
 /// What the words of a command line ask for. The texts are those of the words, and `raw` says that
 /// registers are printed by their numbers, and stacks without functions.
@@ -58,14 +80,20 @@ pub enum Command<'w> {
         raw: bool,
         file: &'w str,
     },
-    /// `unwind FILE`: the stack of each sample of a profile.
+    /// `unwind FILE`: the stack of each of these samples of a profile.
     Unwind {
         raw: bool,
+        format: Format,
+        samples: Samples<'w>,
+        folders: Folders<'w>,
         file: &'w str,
     },
-    /// `stack FILE`: the stack of each thread of a core file.
+    /// `stack FILE`: the stack of each thread of a core file, or of this thread alone.
     Stack {
         raw: bool,
+        format: Format,
+        thread: Option<u64>,
+        folders: Folders<'w>,
         file: &'w str,
     },
     /// `flame FILE`: the flame graph of folded stacks.
@@ -76,8 +104,12 @@ pub enum Command<'w> {
     Report {
         file: &'w str,
     },
-    /// `fold FILE`: the folded stacks of a profile.
+    /// `fold FILE`: the folded stacks of these samples of a profile; if `period`, with the sums of
+    /// their periods.
     Fold {
+        period: bool,
+        samples: Samples<'w>,
+        folders: Folders<'w>,
         file: &'w str,
     },
 }
@@ -143,24 +175,45 @@ fn named<'w>(
             format: format_in(arguments),
             files: values_in(alloc, arguments, "FILE")?,
         })
-    } else if name == "flame" {
-        Ok(Command::Flame {
-            file: file_in(arguments),
-        })
-    } else if name == "report" {
-        Ok(Command::Report {
-            file: file_in(arguments),
-        })
-    } else if name == "fold" {
-        Ok(Command::Fold {
-            file: file_in(arguments),
-        })
     } else {
-        Ok(of_one_file(name, raw_in(arguments), file_in(arguments)))
+        Ok(of_stacks(name, arguments))
     }
 }
 
-/// Returns the command of this name, which has one file and the flag `--raw`.
+/// Returns the command of this name, which prints stacks or has one file.
+fn of_stacks<'w>(name: &str, arguments: &ArgMatches<'w>) -> Command<'w>
+    ensures { of_stacks name.now (values_in (rows_of (found_of arguments.now)))
+        ≡ command_view result }
+{
+    if name == "unwind" {
+        Command::Unwind {
+            raw: raw_in(arguments),
+            format: format_in(arguments),
+            samples: samples_in(arguments),
+            folders: folders_in(arguments),
+            file: file_in(arguments),
+        }
+    } else if name == "stack" {
+        Command::Stack {
+            raw: raw_in(arguments),
+            format: format_in(arguments),
+            thread: number_in(arguments, "thread"),
+            folders: folders_in(arguments),
+            file: file_in(arguments),
+        }
+    } else if name == "fold" {
+        Command::Fold {
+            period: has_value(arguments, "period", "true"),
+            samples: samples_in(arguments),
+            folders: folders_in(arguments),
+            file: file_in(arguments),
+        }
+    } else {
+        of_one_file(name, raw_in(arguments), file_in(arguments))
+    }
+}
+
+/// Returns the command of this name, which has one file, and the flag `--raw` at most.
 fn of_one_file<'w>(name: &str, raw: bool, file: &'w str) -> Command<'w>
     ensures { of_one_file name.now raw file.entry.now ≡ command_view result }
 {
@@ -168,10 +221,34 @@ fn of_one_file<'w>(name: &str, raw: bool, file: &'w str) -> Command<'w>
         Command::Dump { raw, file }
     } else if name == "table" {
         Command::Table { raw, file }
-    } else if name == "unwind" {
-        Command::Unwind { raw, file }
+    } else if name == "flame" {
+        Command::Flame { file }
     } else {
-        Command::Stack { raw, file }
+        Command::Report { file }
+    }
+}
+
+/// Returns which samples were asked for.
+fn samples_in<'w>(arguments: &ArgMatches<'w>) -> Samples<'w>
+    ensures { samples_view result ≡ samples_in (values_in (rows_of (found_of arguments.now))) }
+{
+    Samples {
+        comm: text_in(arguments, "comm"),
+        pid: number_in(arguments, "pid"),
+        tid: number_in(arguments, "tid"),
+        event: text_in(arguments, "event"),
+        time: text_in(arguments, "time"),
+        limit: number_in(arguments, "limit"),
+    }
+}
+
+/// Returns the folders that were named.
+fn folders_in<'w>(arguments: &ArgMatches<'w>) -> Folders<'w>
+    ensures { folders_view result ≡ folders_in (values_in (rows_of (found_of arguments.now))) }
+{
+    Folders {
+        symfs: text_in(arguments, "symfs"),
+        debug_dir: text_in(arguments, "debug-dir"),
     }
 }
 
@@ -187,6 +264,23 @@ fn quiet_in(arguments: &ArgMatches) -> bool
     ensures { result ≡ quiet_in (values_in (rows_of (found_of arguments.now))) }
 {
     has_value(arguments, "quiet", "true")
+}
+
+/// Returns the number that was given for an option, if any.
+fn number_in(arguments: &ArgMatches, id: &str) -> Option<u64>
+    ensures { result ≡ number_in id.now (values_in (rows_of (found_of arguments.now))) }
+{
+    match text_in(arguments, id) {
+        Some(text) => text.parse::<u64>().ok(),
+        None => None,
+    }
+}
+
+/// Returns the first text that was given for an argument, if any.
+fn text_in<'w>(arguments: &ArgMatches<'w>, id: &str) -> Option<&'w str>
+    ensures { text_view result ≡ first_in (values_in (rows_of (found_of arguments.now))) id.now }
+{
+    arguments.get_str(id)
 }
 
 /// Returns the format that was named, or text.
@@ -249,8 +343,8 @@ fn cfi<'w>(alloc: Global, formats: &'w [&'w str]) -> Result<clap::Command<'w>, A
         .subcommand(dump(alloc)?)?
         .subcommand(check(alloc, formats)?)?
         .subcommand(table(alloc)?)?
-        .subcommand(unwind(alloc)?)?
-        .subcommand(stack(alloc)?)?
+        .subcommand(unwind(alloc, formats)?)?
+        .subcommand(stack(alloc, formats)?)?
         .subcommand(flame(alloc)?)?
         .subcommand(report(alloc)?)?
         .subcommand(fold(alloc)?)
@@ -324,23 +418,27 @@ fn table<'w>(alloc: Global) -> Result<clap::Command<'w>, AllocError>
 }
 
 /// Returns the command `unwind`.
-fn unwind<'w>(alloc: Global) -> Result<clap::Command<'w>, AllocError>
-    ensures { IfOk result (IsApp (plain_app unwind_form)) }
+fn unwind<'w>(alloc: Global, formats: &'w [&'w str]) -> Result<clap::Command<'w>, AllocError>
+    ensures { IfOk result (IsApp (form_app (Names formats.entry) unwind_form)) }
 {
-    clap::Command::new(alloc, "unwind")
+    let command = clap::Command::new(alloc, "unwind")
         .about("Prints the stack of each sample of a profile: perf record --call-graph dwarf")
         .arg(places_flag(alloc))?
-        .arg(profile(alloc))
+        .arg(format_flag(alloc, formats))?;
+    let command = with_samples(alloc, command)?;
+    with_folders(alloc, command)?.arg(profile(alloc))
 }
 
 /// Returns the command `stack`.
-fn stack<'w>(alloc: Global) -> Result<clap::Command<'w>, AllocError>
-    ensures { IfOk result (IsApp (plain_app stack_form)) }
+fn stack<'w>(alloc: Global, formats: &'w [&'w str]) -> Result<clap::Command<'w>, AllocError>
+    ensures { IfOk result (IsApp (form_app (Names formats.entry) stack_form)) }
 {
-    clap::Command::new(alloc, "stack")
+    let command = clap::Command::new(alloc, "stack")
         .about("Prints the stack of each thread of a core file")
         .arg(places_flag(alloc))?
-        .arg(core_file(alloc))
+        .arg(format_flag(alloc, formats))?
+        .arg(thread_option(alloc))?;
+    with_folders(alloc, command)?.arg(core_file(alloc))
 }
 
 /// Returns the command `flame`.
@@ -365,9 +463,68 @@ fn report<'w>(alloc: Global) -> Result<clap::Command<'w>, AllocError>
 fn fold<'w>(alloc: Global) -> Result<clap::Command<'w>, AllocError>
     ensures { IfOk result (IsApp (plain_app fold_form)) }
 {
-    clap::Command::new(alloc, "fold")
+    let command = clap::Command::new(alloc, "fold")
         .about("Prints the stacks of a profile, folded and counted, for flame and report")
-        .arg(profile(alloc))
+        .arg(period_flag(alloc))?;
+    let command = with_samples(alloc, command)?;
+    with_folders(alloc, command)?.arg(profile(alloc))
+}
+
+/// Adds the options that say which samples are asked for.
+fn with_samples<'w>(
+    alloc: Global,
+    command: clap::Command<'w>,
+) -> Result<clap::Command<'w>, AllocError>
+    ensures { IfOk result (AddsOptions sample_options command.entry) }
+{
+    command
+        .arg(text_option(
+            alloc,
+            "comm",
+            "NAME",
+            "Takes the samples of the threads with this name alone",
+        ))?
+        .arg(number_option(alloc, "pid", "Takes the samples of this process alone"))?
+        .arg(number_option(alloc, "tid", "Takes the samples of this thread alone"))?
+        .arg(text_option(
+            alloc,
+            "event",
+            "NAME",
+            "Takes the samples of the event with this name alone",
+        ))?
+        .arg(text_option(
+            alloc,
+            "time",
+            "FROM,UNTIL",
+            "Takes the samples between two times alone, in seconds; either may be left out",
+        ))?
+        .arg(number_option(
+            alloc,
+            "limit",
+            "Takes so many samples at most, the first ones",
+        ))
+}
+
+/// Adds the options for the folders in which files are.
+fn with_folders<'w>(
+    alloc: Global,
+    command: clap::Command<'w>,
+) -> Result<clap::Command<'w>, AllocError>
+    ensures { IfOk result (AddsOptions folder_options command.entry) }
+{
+    command
+        .arg(text_option(
+            alloc,
+            "symfs",
+            "DIR",
+            "Looks for files below this folder, in the place of the root of the system",
+        ))?
+        .arg(text_option(
+            alloc,
+            "debug-dir",
+            "DIR",
+            "Looks for debug files in this folder, in the place of /usr/lib/debug",
+        ))
 }
 
 /// Returns the flag `--raw` of the commands that print registers.
@@ -403,6 +560,48 @@ fn quiet_flag<'w>(alloc: Global) -> Arg<'w>
         .action(ArgAction::SetTrue)
 }
 
+/// Returns the flag `--period` of `fold`.
+fn period_flag<'w>(alloc: Global) -> Arg<'w>
+    ensures rule { rule_of result ≡ period_rule }
+    ensures local { result.global ≡ false }
+{
+    Arg::new(alloc, "period")
+        .help("Counts the periods of the samples, and not the samples")
+        .long("period")
+        .action(ArgAction::SetTrue)
+}
+
+/// Returns an option with any text for a value, which help calls `value`.
+fn text_option<'w>(alloc: Global, name: &'w str, value: &'w str, help: &'w str) -> Arg<'w>
+    ensures rule { rule_of result ≡ text_rule name.entry.now }
+    ensures local { result.global ≡ false }
+{
+    Arg::new(alloc, name)
+        .help(help)
+        .long(name)
+        .value_name(value)
+}
+
+/// Returns an option with a number for a value.
+fn number_option<'w>(alloc: Global, name: &'w str, help: &'w str) -> Arg<'w>
+    ensures rule { rule_of result ≡ number_rule name.entry.now }
+    ensures local { result.global ≡ false }
+{
+    Arg::new(alloc, name)
+        .help(help)
+        .long(name)
+        .value_name("N")
+        .value_parser(ValueParser::Unsigned(0, u64::MAX))
+}
+
+/// Returns the option `--thread` of `stack`.
+fn thread_option<'w>(alloc: Global) -> Arg<'w>
+    ensures rule { rule_of result ≡ number_rule (codes "thread") }
+    ensures local { result.global ≡ false }
+{
+    number_option(alloc, "thread", "Prints the stack of this thread alone")
+}
+
 /// Returns the option `--format`, with the names of the formats.
 fn format_flag<'w>(alloc: Global, names: &'w [&'w str]) -> Arg<'w>
     ensures rule { rule_of result ≡ format_rule names.entry }
@@ -421,7 +620,7 @@ fn file<'w>(alloc: Global) -> Arg<'w>
     ensures local { result.global ≡ false }
 {
     Arg::new(alloc, "FILE")
-        .help("A program, library or object file, in the ELF format")
+        .help("A program, library or object file, in the ELF format; - is standard input")
         .required(true)
 }
 
@@ -431,7 +630,7 @@ fn profile<'w>(alloc: Global) -> Arg<'w>
     ensures local { result.global ≡ false }
 {
     Arg::new(alloc, "FILE")
-        .help("A profile of perf record: perf.data")
+        .help("A profile of perf record: perf.data; - is standard input")
         .required(true)
 }
 
@@ -441,7 +640,7 @@ fn core_file<'w>(alloc: Global) -> Arg<'w>
     ensures local { result.global ≡ false }
 {
     Arg::new(alloc, "FILE")
-        .help("A core file of a process that ended by a signal, or that gcore wrote")
+        .help("A core file: of a process that ended by a signal, or of gcore; - is standard input")
         .required(true)
 }
 
@@ -461,7 +660,7 @@ fn files<'w>(alloc: Global) -> Arg<'w>
     ensures local { result.global ≡ false }
 {
     Arg::new(alloc, "FILE")
-        .help("Programs or libraries: ELF files")
+        .help("Programs or libraries, in the ELF format; - is standard input")
         .required(true)
         .num_args(1..)
 }

@@ -6,7 +6,9 @@ ghost use Rattle.std.specs.Prelude.{◌≡◌, ℕ, List, Option, Some, map};
 ghost use Rattle.std.specs.Io.KnownBytes.{Keeps};
 ghost use Rattle.clap.specs.Words.{kind_of};
 ghost use Rattle.cfi_programs.specs.WriterOutput.{PrintsSome};
+ghost use Rattle.cfi_stacks.specs.Choices.{choice_view};
 ghost use Rattle.cfi.specs.CommandLine.{command_view};
+ghost use Rattle.cfi.specs.Folders.{folders_view};
 ghost use Rattle.cfi.specs.Process.{AreStacks, AreTallied, AreThreads, IsAnswer, IsPrint};
 ghost use Rattle.cfi.specs.Process.{IsStatusAfter, IsStatusOf, IsSummary, PrintsRun, disk_of};
 ghost use Rattle.cfi.specs.Tasks.{of_request, task_for};
@@ -14,18 +16,21 @@ ghost use Rattle.cfi.specs.Tasks.{of_request, task_for};
 mod command;
 mod files;
 mod flames;
+mod folders;
 mod profile;
 mod system;
 mod task;
+mod times;
 
 use cfi_files::{Request, run_on_file};
-use cfi_stacks::{Listing, list_profile, print_core};
+use cfi_stacks::{Choice, Listing, ThreadListing, list_profile, print_core};
 use clap::Error;
 use command::{Command, command_of};
 use files::{
     CheckStyle, WRONG, check_files, count_findings, greatest_status, open_named, write_tally,
 };
 use flames::{Summary, print_folded};
+use folders::Folders;
 use profile::ProfileOpener;
 use std::alloc::AllocGlobal;
 use std::convert::AsStr;
@@ -101,8 +106,16 @@ fn run_command<S: System, W: Write>(system: &S, command: &Command, output: &mut 
     match task_of(command) {
         Task::Print(file, request) => print_file(system, file, request, output),
         Task::Check(files, style) => print_checks(system, style, files, output),
-        Task::Unwind(file, listing) => print_stacks(system, listing, file, output),
-        Task::Stack(file, raw) => print_threads(system, raw, file, output),
+        Task::Unwind(file, listing, choice, folders) => {
+            print_stacks(system, listing, &choice, folders, file, output)
+        }
+        Task::Stack(file, listing, folders) => {
+            print_threads(system, listing, folders, file, output)
+        }
+        Task::NoTimes(text) => {
+            system.tell_no_times(text);
+            Ok(WRONG)
+        }
         Task::Flame(file) => print_summary(system, Summary::FlameGraph, file, output),
         Task::Report(file) => print_summary(system, Summary::Report, file, output),
     }
@@ -125,38 +138,52 @@ fn print_file<S: System, W: Write>(
     }
 }
 
-/// Opens the profile, and prints the stacks of its samples.
+/// Opens the profile, and prints the stacks of the samples that are chosen.
 fn print_stacks<S: System, W: Write>(
     system: &S,
     listing: Listing,
+    choice: &Choice,
+    folders: Folders,
     file: &str,
     output: &mut W,
 ) -> io::Result<u8>
     ensures { PrintsSome (λ line. AreStacks (disk_of (S.may_open system.now) S.File.bytes)
-        listing file.now line)
+        listing (choice_view choice.now) (folders_view folders.entry) file.now line)
         (W.contents output.old) (W.contents output.new) result }
 {
-    let opener = ProfileOpener { system, path: file };
+    let opener = ProfileOpener {
+        system,
+        folders,
+        path: file,
+    };
     match open_named(system, file) {
-        Some(mut input) => list_profile(system.alloc(), listing, &opener, &mut input, output),
+        Some(mut input) => {
+            let alloc = system.alloc();
+            list_profile(alloc, listing, choice, &opener, &mut input, output)
+        }
         None => Ok(WRONG),
     }
 }
 
-/// Opens the core file, and prints the stacks of its threads, without functions if they are `raw`.
+/// Opens the core file, and prints the stacks of its threads.
 fn print_threads<S: System, W: Write>(
     system: &S,
-    raw: bool,
+    listing: ThreadListing,
+    folders: Folders,
     file: &str,
     output: &mut W,
 ) -> io::Result<u8>
     ensures { PrintsSome (λ line. AreThreads (disk_of (S.may_open system.now) S.File.bytes)
-        raw file.now line)
+        listing (folders_view folders.entry) file.now line)
         (W.contents output.old) (W.contents output.new) result }
 {
-    let opener = ProfileOpener { system, path: file };
+    let opener = ProfileOpener {
+        system,
+        folders,
+        path: file,
+    };
     match open_named(system, file) {
-        Some(mut input) => print_core(system.alloc(), raw, &opener, &mut input, output),
+        Some(mut input) => print_core(system.alloc(), listing, &opener, &mut input, output),
         None => Ok(WRONG),
     }
 }

@@ -1,48 +1,82 @@
-//! The files that a profile names, as the system opens them.
+//! The files that a profile or a core file names, as the system opens them.
+ghost use Rattle.std.specs.Prelude.{◌≡◌, IfSome, string_bytes};
+ghost use Rattle.cfi.specs.Folders.{folders_view, path_below};
 ghost use Rattle.cfi.specs.Process.{MayOpenAt, disk_of};
 
+use crate::folders::{Folders, copy_path, debug_path, path_below};
 use crate::system::System;
 use cfi_processes::Opener;
+use cfi_processes::code_map::map_name;
+use std::alloc::Global;
 use std::str;
+
+/// Where Linux tells the symbols of the kernel that runs (proc(5)).
+const KERNEL_SYMBOLS: &str = "/proc/kallsyms";
 
 /// The files of a system, by the names that a profile has for them.
 #[derive(Drop)]
 pub struct ProfileOpener<'s, S> {
     /// The system.
     pub system: &'s S,
+    /// Where the files are.
+    pub folders: Folders<'s>,
     /// The path of the profile, or of the core file.
     pub path: &'s str,
+}
+
+/// Returns the path of the file with this name, if it is UTF-8. `None` also where memory is
+/// refused.
+fn path_of(alloc: Global, folders: Folders, name: &[u8]) -> Option<String>
+    ensures { IfSome result (λ path. string_bytes path
+        ≡ path_below (folders_view folders.entry).symfs name.now) }
+{
+    match str::from_utf8(name) {
+        Ok(name) => path_below(alloc, folders, name),
+        Err(_) => None,
+    }
 }
 
 impl<S: System> Opener for ProfileOpener<'_, S> {
     type File = S::File;
 
     ghost may_open = { λ opener place opened.
-        MayOpenAt (disk_of (S.may_open opener.system.now) S.File.bytes) place opened };
+        MayOpenAt (disk_of (S.may_open opener.system.now) S.File.bytes)
+        (folders_view opener.folders) place opened };
 
     /// Opens the file with this name, if it is UTF-8 and a regular file.
     fn open(&self, name: &[u8]) -> Option<S::File> {
-        match str::from_utf8(name) {
-            Ok(path) => self.system.open_regular(path),
-            Err(_) => None,
-        }
+        let path = path_of(self.system.alloc(), self.folders, name)?;
+        self.system.open_regular(path.as_str())
     }
 
     fn find(&self, name: &[u8]) -> Option<S::File> {
-        match str::from_utf8(name) {
-            Ok(path) => self.system.find_regular(path),
-            Err(_) => None,
-        }
+        let path = path_of(self.system.alloc(), self.folders, name)?;
+        self.system.find_regular(path.as_str())
     }
 
     fn open_copy(&self, build: &[u8]) -> Option<S::File> {
-        let copy = self.system.copy_path(build)?;
+        let copy = match self.folders.symfs {
+            Some(root) => copy_path(self.system.alloc(), root, build)?,
+            None => {
+                let home = self.system.home()?;
+                copy_path(self.system.alloc(), home.as_str(), build)?
+            }
+        };
         self.system.find_regular(copy.as_str())
     }
 
     fn open_debug(&self, build: &[u8]) -> Option<S::File> {
-        let debug = self.system.debug_path(build)?;
+        let debug = debug_path(self.system.alloc(), self.folders, build)?;
         self.system.find_regular(debug.as_str())
+    }
+
+    fn open_kernel_symbols(&self) -> Option<S::File> {
+        self.system.find_regular(KERNEL_SYMBOLS)
+    }
+
+    fn open_code_map(&self, process: u32) -> Option<S::File> {
+        let map = map_name(self.system.alloc(), process).ok()?;
+        self.system.find_regular(map.as_str())
     }
 
     fn tell_missing(&self, name: &[u8]) {
@@ -56,4 +90,6 @@ impl<S: System> Opener for ProfileOpener<'_, S> {
     fn tell_lost(&self, records: u64, samples: u64) {
         self.system.tell_lost(self.path, records, samples);
     }
+
+    ghost same_bytes = { λ file. S.same_bytes file };
 }

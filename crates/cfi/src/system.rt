@@ -53,13 +53,12 @@ pub trait System {
     fn find_regular(&self, path: &str) -> Option<Self::File>
         ensures { may_open self.now regular path.now result };
 
-    /// Returns the path at which `perf record` keeps a copy of the file of this build. `None` where
-    /// there is no such path, or memory is refused.
-    fn copy_path(&self, build: &[u8]) -> Option<String>;
+    /// Returns the home folder of the user, below which `perf record` keeps copies of files. `None`
+    /// where it isn't known, or memory is refused.
+    fn home(&self) -> Option<String>;
 
-    /// Returns the path at which a system has the debug file of the file of this build. `None`
-    /// where there is no such path, or memory is refused.
-    fn debug_path(&self, build: &[u8]) -> Option<String>;
+    /// Says on standard error that the text isn't two times, as `cfi: TEXT: SENTENCE`.
+    fn tell_no_times(&self, text: &str);
 
     /// Says on standard error that for the file with this name none of the build that ran was
     /// found, as `cfi: FILE: SENTENCE`.
@@ -147,8 +146,12 @@ impl<P: Env + Files + Print + Eprint + AllocGlobal> System for Host<'_, P> {
     fn open_regular(&self, path: &str) -> Option<HostFile<P::File>> {
         // Opening a pipe would wait for another process.
         match fs::metadata(self.rt, path) {
-            Ok(metadata) if !metadata.is_file() => None,
-            _ => self.open(path),
+            Ok(metadata) if metadata.is_file() => self.open(path),
+            Ok(_) => None,
+            Err(error) => {
+                let _ = eprintln!(self.rt; "cfi: {path}: {error}");
+                None
+            }
         }
     }
 
@@ -162,14 +165,14 @@ impl<P: Env + Files + Print + Eprint + AllocGlobal> System for Host<'_, P> {
         }
     }
 
-    fn copy_path(&self, build: &[u8]) -> Option<String> {
-        let home = env::var(self.rt, "HOME").ok()?;
-        let folder = format!(in self.rt.alloc(); "{home}/.debug").ok()?;
-        build_path(self.rt.alloc(), folder.as_str(), build, "/elf")
+    fn home(&self) -> Option<String> {
+        env::var(self.rt, "HOME").ok()
     }
 
-    fn debug_path(&self, build: &[u8]) -> Option<String> {
-        build_path(self.rt.alloc(), "/usr/lib/debug", build, ".debug")
+    fn tell_no_times(&self, text: &str) {
+        let _ = eprintln!(self.rt;
+            "cfi: {text}: no times: FROM,UNTIL are seconds with at most nine decimals, or empty"
+        );
     }
 
     fn tell_missing(&self, name: &[u8]) {
@@ -273,17 +276,6 @@ fn open_file<P: Files>(rt: &P, path: &str) -> io::Result<P::File> {
         Ok(metadata) if metadata.is_dir() => Err(io::Error::from_raw_os_error(EISDIR)),
         _ => File::open(rt, path),
     }
-}
-
-/// Returns the path of what a folder has of a build, by its identification in hexadecimal digits:
-/// of the copy of the file where `perf record` keeps one (perf-buildid-cache(1)), or of its debug
-/// file (gdb's manual, "Debugging Information in Separate Files"). `None` where the identification
-/// is empty, or memory is refused.
-fn build_path(alloc: Global, folder: &str, build: &[u8], end: &str) -> Option<String> {
-    let (first, others) = build.split_first()?;
-    let first = hex::encode(alloc, [*first]).ok()?;
-    let others = hex::encode(alloc, others).ok()?;
-    format!(in alloc; "{folder}/.build-id/{first}/{others}{end}").ok()
 }
 
 /// Reads `size` bytes from the offset on.

@@ -1,12 +1,18 @@
 //! What a command is to do.
 ghost use Rattle.std.specs.Prelude.{◌≡◌};
-ghost use Rattle.cfi.specs.CommandLine.{command_view};
-ghost use Rattle.cfi.specs.Tasks.{asking, of_file, print, task_for, task_view};
+ghost use Rattle.cfi_stacks.specs.Choices.{choice_view};
+ghost use Rattle.cfi.specs.CommandLine.{command_view, samples_view};
+ghost use Rattle.cfi.specs.Folders.{folders_view};
+ghost use Rattle.cfi.specs.Tasks.{asking, between, listing_for, of_file, print, task_for};
+ghost use Rattle.cfi.specs.Tasks.{task_view, unwinding};
 
-use crate::command::Command;
+use crate::command::{Command, Samples};
 use crate::files::CheckStyle;
+use crate::folders::Folders;
+use crate::times::{Times, times_of};
 use cfi_files::{Printed, Request};
-use cfi_stacks::Listing;
+use cfi_programs::style::Format;
+use cfi_stacks::{Choice, Listing, ThreadListing};
 
 /// What a command is to do.
 #[derive(Clone, Copy)]
@@ -15,10 +21,12 @@ pub enum Task<'c> {
     Print(&'c str, Request<'c>),
     /// Check these files, and print what was found in a style.
     Check(&'c [&'c str], CheckStyle),
-    /// Print the stacks of the samples of this profile so.
-    Unwind(&'c str, Listing),
-    /// Print the stack of each thread of this core file; without functions if true.
-    Stack(&'c str, bool),
+    /// Print the stacks of these samples of this profile so.
+    Unwind(&'c str, Listing, Choice<'c>, Folders<'c>),
+    /// Print the stacks of threads of this core file so.
+    Stack(&'c str, ThreadListing, Folders<'c>),
+    /// Say that this text isn't two times.
+    NoTimes(&'c str),
     /// Print the flame graph of the folded stacks of this file; `-` is standard input.
     Flame(&'c str),
     /// Print the table of the functions of the folded stacks of this file; `-` is standard input.
@@ -55,11 +63,36 @@ pub fn task_of<'c>(command: &'c Command<'c>) -> Task<'c>
             },
         ),
         Command::Table { raw, file } => printed_of(file, Printed::Table, *raw),
-        Command::Unwind { raw, file } => Task::Unwind(file, Listing::Frames(*raw)),
-        Command::Stack { raw, file } => Task::Stack(file, *raw),
+        Command::Unwind {
+            raw,
+            format,
+            samples,
+            folders,
+            file,
+        } => unwinding(file, listing_for(*raw, *format), *samples, *folders),
+        Command::Stack {
+            raw,
+            format,
+            thread,
+            folders,
+            file,
+        } => Task::Stack(
+            file,
+            ThreadListing {
+                raw: *raw,
+                format: *format,
+                thread: *thread,
+            },
+            *folders,
+        ),
         Command::Flame { file } => Task::Flame(file),
         Command::Report { file } => Task::Report(file),
-        Command::Fold { file } => Task::Unwind(file, Listing::Folded(false)),
+        Command::Fold {
+            period,
+            samples,
+            folders,
+            file,
+        } => unwinding(file, Listing::Folded(*period), *samples, *folders),
     }
 }
 
@@ -68,4 +101,53 @@ fn printed_of<'c>(file: &'c str, printed: Printed<'c>, raw: bool) -> Task<'c>
     ensures { task_view result ≡ print file.entry.now (asking raw (of_file printed.entry)) }
 {
     Task::Print(file, Request { printed, raw })
+}
+
+/// Returns how the stacks of a profile are listed in a format.
+fn listing_for(raw: bool, format: Format) -> Listing
+    ensures { result ≡ listing_for raw format }
+{
+    match format {
+        Format::Text => Listing::Frames(raw),
+        Format::Json => Listing::Json(raw),
+    }
+}
+
+/// Returns the task to print the stacks of the samples that are asked for, or to say that no times
+/// are asked for.
+fn unwinding<'c>(
+    file: &'c str,
+    listing: Listing,
+    samples: Samples<'c>,
+    folders: Folders<'c>,
+) -> Task<'c>
+    ensures { task_view result
+        ≡ unwinding listing (samples_view samples.entry) (folders_view folders.entry) file.now }
+{
+    let Some(text) = samples.time else {
+        let times = Times {
+            from: None,
+            until: None,
+        };
+        return Task::Unwind(file, listing, between(samples, times), folders);
+    };
+    match times_of(text) {
+        Some(times) => Task::Unwind(file, listing, between(samples, times), folders),
+        None => Task::NoTimes(text),
+    }
+}
+
+/// Returns the choice of these samples, between two times.
+fn between<'c>(samples: Samples<'c>, times: Times) -> Choice<'c>
+    ensures { choice_view result ≡ between (samples_view samples.entry) times }
+{
+    Choice {
+        comm: samples.comm,
+        pid: samples.pid,
+        tid: samples.tid,
+        from: times.from,
+        until: times.until,
+        event: samples.event,
+        limit: samples.limit,
+    }
 }

@@ -11,7 +11,8 @@ use Rattle.cfi_read_core.specs.declared.error.Error.{Error}
 use Rattle.cfi_state.specs.Machine.{Parts}
 use Rattle.cfi_entry.specs.Augmentations.{is_trampoline}
 use Rattle.cfi_entry.specs.Fdes.{Covers, Fde}
-use Rattle.cfi_entry.specs.Sections.{Section}
+use Rattle.cfi_entry.specs.Sections.{DebugFrame, Section}
+use Rattle.cfi_unwind.specs.Scan.{chosen_fde}
 use Rattle.gimli_cfi.specs.HeaderViews.{section_view, unparsed_view}
 use Rattle.cfi_expression.specs.declared.error.FrameError.{FrameError}
 use Rattle.cfi_step.specs.declared.function.FunctionStep.{FunctionStep}
@@ -21,7 +22,6 @@ use Rattle.cfi_step.specs.declared.row_cache.RowCache.{RowCache}
 use Rattle.cfi_step.specs.declared.step.Caller.{Caller}
 use Rattle.cfi_step.specs.Callers.{AreRecovered}
 use Rattle.cfi_step.specs.Functions.{function_of}
-use Rattle.cfi_step.specs.Modules.{IsFoundIn}
 use Rattle.cfi_step.specs.PackedRows.{AreEmpty, IsKept, KeepsFound, SaysRowOf, function_packed, parts_packed, rows_in}
 use Rattle.cfi_step.specs.PackedRules.{numbered}
 use Rattle.cfi_step.specs.Steps.{caller_by}
@@ -36,11 +36,11 @@ use Rattle.cfi_c.specs.declared.step.CfiCaller.{CfiCaller}
 use Rattle.cfi_c.specs.CachedSteps.{IsCacheMade, IsCachedFor, IsRightFor, IsRowFor, KeepsFor, held_rows}
 use Rattle.cfi_c.specs.PackedSteps.{AreOfCaller, IsCallerBy, IsSteppedByHeld, values_of}
 use Rattle.cfi_c.specs.PassedMemories.{abi_in}
-use Rattle.cfi_c.specs.PassedSections.{eh_frame_of, header_in, header_of}
-use Rattle.cfi_c.specs.PassedStacks.{known_value, known_values, sized}
+use Rattle.cfi_c.specs.PassedSections.{header_in, header_of, section_as, section_beside}
+use Rattle.cfi_c.specs.PassedStacks.{is_debug_frame, known_value, known_values, sized}
 use Rattle.cfi_c.specs.StackFrames.{IsFdeBy, IsStepByFde}
 use Rattle.cfi_c.specs.SteppedFrames.{AreValues, IsStepWith, IsStepped, frame_in}
-use Rattle.cfi_c.proofs.StepsInModules.{found_by}
+use Rattle.cfi_c.proofs.StepsInModules.{found_by, found_by_scan, of_debug_frame}
 
 all_has : {X : Type 0} (P : X → Type 0) (xs : List X) (x : X) → Contains xs x → All P xs → P x
 all_has P xs x has all = subst P has.2 (All-get_or P xs has.0 x has.1 all)
@@ -107,19 +107,16 @@ stepped_by_held memory loaded file a rows registers old new function old_caller 
 
 -- ---- what may have been kept
 
-module _ {R : Type 0} (position : R → Position) (size file a : ℕ) (passed : CfiModule) (loaded : LoadedModule R)
-    (sections : section_view position loaded.frame loaded.bases ≡ eh_frame_of (sized size passed.bases) passed.section.now)
-    (headers : option_map (λ header. unparsed_view position header size loaded.bases) loaded.header ≡ option_map (header_of (sized size passed.bases)) (header_in passed.header.now))
-    (old new : List PackedRow) where
+module _ (size file a : ℕ) (passed : CfiModule) (old new : List PackedRow) where
   abbrev InModule : (List ℕ × List ℕ × CfiBases) → ℕ → PackedRow → Type 0
   InModule of b row =
-      (fde : Fde) × IsFdeBy of.2 of.0 (header_in of.1) b (Ok fde) × Covers fde b × SaysRowOf (Some 192) (Some 4) true (eh_frame_of of.2 of.0) b fde row
+      (fde : Fde) × IsFdeBy of.2 of.0 (header_in of.1) b (Ok fde) × Covers fde b × SaysRowOf (Some 192) (Some 4) true (section_beside (header_in of.1) of.2 of.0) b fde row
 
   unchanged : new ≡ old → KeepsFor size file passed old new
   unchanged same other another alike right = subst (IsCachedFor size other another) (sym same) right
 
-  by_found : (found : Result Fde Error) → IsFoundIn position size loaded a found → IfOk found (λ fde. Covers fde a)
-      → KeepsFound (Some 192) (Some 4) true (section_view position loaded.frame loaded.bases) a found file old new → KeepsFor size file passed old new
+  by_found : (found : Result Fde Error) → IsFdeBy (sized size passed.bases) passed.section.now (header_in passed.header.now) a found → IfOk found (λ fde. Covers fde a)
+      → KeepsFound (Some 192) (Some 4) true (section_beside (header_in passed.header.now) (sized size passed.bases) passed.section.now) a found file old new → KeepsFor size file passed old new
   by_found (Err e) is covers same = unchanged same
   by_found (Ok fde) is covers (inl same) = unchanged same
   by_found (Ok fde) is covers (inr (k, row, written, holds)) =
@@ -127,20 +124,31 @@ module _ {R : Type 0} (position : R → Position) (size file a : ℕ) (passed : 
       let right_row : IsRightFor size other another row = λ b h.
       let (of, at, says) = holds other b h in
       let same = alike (sym of) in
-      let here : InModule (passed.section.now, passed.header.now, sized size passed.bases) a row = (
-        fde,
-        found_by position size loaded (sized size passed.bases) passed.section.now sections loaded.header (header_in passed.header.now) headers a (Ok fde) is,
-        covers,
-        subst (λ (s : Section). SaysRowOf (Some 192) (Some 4) true s a fde row) sections says,
-      ) in
+      let here : InModule (passed.section.now, passed.header.now, sized size passed.bases) a row = (fde, is, covers, says) in
       let at_b : InModule (passed.section.now, passed.header.now, sized size passed.bases) b row = subst (λ (n : ℕ). InModule (passed.section.now, passed.header.now, sized size passed.bases) n row) (sym at) here in
       let same_of : ◌≡◌ {A = List ℕ × List ℕ × CfiBases} (passed.section.now, passed.header.now, sized size passed.bases) (another.section.now, another.header.now, sized size another.bases) =
       λ i. (same.0 i, same.1 i, same.2 i) in
       subst (λ (of : List ℕ × List ℕ × CfiBases). InModule of b row) same_of at_b in
       subst (IsCachedFor size other another) (sym written) (All-set (IsRightFor size other another) old k row right_row right)
 
-  pub keeps : IsKept position size (Some 192) (Some 4) true loaded a file old new → KeepsFor size file passed old new
-  keeps (found, is, covers, kept) = by_found found is covers kept
+  pub keeps : {R : Type 0} (position : R → Position) (loaded : LoadedModule R)
+      → section_view position loaded.frame loaded.bases ≡ section_beside (header_in passed.header.now) (sized size passed.bases) passed.section.now
+      → option_map (λ header. unparsed_view position header size loaded.bases) loaded.header ≡ option_map (header_of (sized size passed.bases)) (header_in passed.header.now)
+      → IsKept position size (Some 192) (Some 4) true loaded a file old new → KeepsFor size file passed old new
+  keeps position loaded sections headers (found, is, covers, kept) =
+      let here : IsFdeBy (sized size passed.bases) passed.section.now (header_in passed.header.now) a found =
+      found_by position size loaded (sized size passed.bases) passed.section.now loaded.header (header_in passed.header.now) sections headers a found is in
+      by_found found here covers (subst (λ (s : Section). KeepsFound (Some 192) (Some 4) true s a found file old new) sections kept)
+
+  -- by a scan of .debug_frame
+  pub keeps_scanned : (made : Section) → is_debug_frame passed ≡ true → made ≡ section_as DebugFrame (sized size passed.bases) passed.section.now
+      → (found : Result Fde Error) → found ≡ chosen_fde made a → IfOk found (λ fde. Covers fde a) → KeepsFound (Some 192) (Some 4) true made a found file old new → KeepsFor size file passed old new
+  keeps_scanned made is sections found chosen covers kept =
+      let beside : made ≡ section_beside (header_in passed.header.now) (sized size passed.bases) passed.section.now =
+      sections ∙ of_debug_frame (sized size passed.bases) (header_in passed.header.now) passed.section.now is in
+      let here : IsFdeBy (sized size passed.bases) passed.section.now (header_in passed.header.now) a found =
+      found_by_scan (sized size passed.bases) (header_in passed.header.now) passed.section.now is a found (chosen ∙ ap (λ s. chosen_fde s a) sections) in
+      by_found found here covers (subst (λ (s : Section). KeepsFound (Some 192) (Some 4) true s a found file old new) beside kept)
 
 -- ---- the cache that C holds
 

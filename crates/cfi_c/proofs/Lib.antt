@@ -16,3 +16,4 @@ mod Sections
 mod StepsInModules
 mod SteppedValues
 mod TableAnswers
+mod WorkedModules

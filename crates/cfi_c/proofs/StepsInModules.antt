@@ -1,14 +1,14 @@
 -- A step in a module that C passes is one in the module that is made of it.
-use Rattle.std.proofs.Common.{◌≡◌, ◌∙◌, ◌<◌, ◌^◌, ℕ, true, List, Option, Some, None, Result, IfNone, is_none, subst, sym, ap, true≢false}
+use Rattle.std.proofs.Common.{◌≡◌, ◌∙◌, ◌<◌, ◌^◌, ℕ, Bool, true, false, ◌&&◌, List, Option, Some, None, Result, IfNone, IfOk, is_none, refl, subst, sym, ap, true≢false}
 use Rattle.std.specs.Borrow.{Bor}
 use Rattle.std.specs.Option.{option_map}
 use Rattle.std.proofs.Math.Nat.{add-mod_right, mod-eq_of_lt}
 use Rattle.cfi_read_core.specs.declared.error.Error.{Error}
 use Rattle.cfi_read_core.specs.ReadFunctions.{Position}
 use Rattle.cfi_read_core.specs.SliceReaders.{slice_over}
-use Rattle.cfi_entry.specs.Fdes.{Fde}
+use Rattle.cfi_entry.specs.Fdes.{Covers, Fde}
 use Rattle.cfi_entry.specs.SectionViews.{eh_frame_view}
-use Rattle.cfi_entry.specs.Sections.{Section}
+use Rattle.cfi_entry.specs.Sections.{DebugFrame, Section}
 use Rattle.cfi_unwind.specs.Scan.{chosen_fde}
 use Rattle.gimli_cfi.specs.declared.hdr.header.EhFrameHdr.{EhFrameHdr}
 use Rattle.gimli_cfi.specs.EhFrameHdr.{HeaderSection, header_of as parsed}
@@ -22,6 +22,7 @@ use Rattle.cfi_step.specs.declared.step.Caller.{Caller}
 use Rattle.cfi_compiled.specs.CompiledTables.{TableContents}
 use Rattle.cfi_step.specs.Modules.{address_in_file}
 use Rattle.cfi_step.specs.declared.function.Function.{Function}
+use Rattle.cfi_step.specs.declared.function.FunctionStep.{FunctionStep}
 use Rattle.cfi_step.specs.Functions.{IsStepInFunction, function_in}
 use Rattle.cfi_step.specs.Modules.{IsFoundBy, IsStepByFde as IsStepByLoaded, IsStepByFound, IsStepIn, IsStepVia}
 use Rattle.cfi_step.specs.Steps.{IsStepBy}
@@ -29,18 +30,44 @@ use Rattle.cfi_step.specs.Walks.{State, address_of}
 use Rattle.cfi_c.specs.declared.CfiBases.{CfiBases}
 use Rattle.cfi_c.specs.declared.stack.CfiModule.{CfiModule}
 use Rattle.cfi_c.specs.declared.stack.CfiStack.{CfiStack}
-use Rattle.cfi_c.specs.PassedSections.{eh_frame_of, header_in, header_of}
-use Rattle.cfi_c.specs.PassedStacks.{abi_of, sized}
-use Rattle.cfi_c.specs.StackFrames.{IsFdeBy, IsStepByFde, IsStepInModule, frame_of}
+use Rattle.cfi_c.specs.PassedSections.{eh_frame_of, header_in, header_of, kind_of, section_as, section_beside}
+use Rattle.cfi_c.specs.PassedStacks.{abi_of, is_debug_frame, sized}
+use Rattle.cfi_c.specs.StackFrames.{IsFdeBy, IsFunctionStep, IsStepByFde, IsStepInModule, frame_of}
 
-module _ {R : Type 0} (position : R → Position) (size : ℕ) (loaded : LoadedModule R) (bases : CfiBases) (bytes : List ℕ) (same : section_view position loaded.frame loaded.bases ≡ eh_frame_of bases bytes) where
+-- ---- which section it is
+
+and_false : (b : Bool) → (b && false) ≡ false
+and_false true = refl
+and_false false = refl
+
+and_true : (b : Bool) → (b && true) ≡ b
+and_true true = refl
+and_true false = refl
+
+pub of_eh_frame : (bases : CfiBases) (header : Option (List ℕ)) (bytes : List ℕ) → (bases.debug_frame && is_none header) ≡ false → eh_frame_of bases bytes ≡ section_beside header bases bytes
+of_eh_frame bases (Some header) bytes is = refl
+of_eh_frame bases None bytes is = ap (λ (b : Bool). section_as (kind_of b) bases bytes) (sym is ∙ and_true bases.debug_frame)
+
+pub of_debug_frame : (bases : CfiBases) (header : Option (List ℕ)) (bytes : List ℕ) → (bases.debug_frame && is_none header) ≡ true → section_as DebugFrame bases bytes ≡ section_beside header bases bytes
+of_debug_frame bases (Some header) bytes is = absurd (true≢false (sym is ∙ and_false bases.debug_frame))
+of_debug_frame bases None bytes is = ap (λ (b : Bool). section_as (kind_of b) bases bytes) (sym is ∙ and_true bases.debug_frame)
+
+pub found_by_scan : (bases : CfiBases) (header : Option (List ℕ)) (bytes : List ℕ) → (bases.debug_frame && is_none header) ≡ true
+    → (a : ℕ) (found : Result Fde Error) → found ≡ chosen_fde (section_as DebugFrame bases bytes) a → IsFdeBy bases bytes header a found
+found_by_scan bases (Some header) bytes is a found by = absurd (true≢false (sym is ∙ and_false bases.debug_frame))
+found_by_scan bases None bytes is a found by = by ∙ ap (λ s. chosen_fde s a) (of_debug_frame bases None bytes is)
+
+-- ---- by the module that is made
+
+module _ {R : Type 0} (position : R → Position) (size : ℕ) (loaded : LoadedModule R) (bases : CfiBases) (bytes : List ℕ) where
   pub found_by : (made : Option (EhFrameHdr R)) (passed : Option (List ℕ))
+      → section_view position loaded.frame loaded.bases ≡ section_beside passed bases bytes
       → option_map (λ header. unparsed_view position header size loaded.bases) made ≡ option_map (header_of bases) passed
       → (a : ℕ) (found : Result Fde Error) → IsFoundBy position size loaded made a found → IsFdeBy bases bytes passed a found
-  found_by None None headers a found is = is ∙ ap (λ s. chosen_fde s a) same
-  found_by None (Some bytes') headers a found is = absurd (cc)
-  found_by (Some header) None headers a found is = absurd (cc)
-  found_by (Some header) (Some bytes') headers a found is =
+  found_by None None same headers a found is = is ∙ ap (λ s. chosen_fde s a) same
+  found_by None (Some bytes') same headers a found is = absurd (cc)
+  found_by (Some header) None same headers a found is = absurd (cc)
+  found_by (Some header) (Some bytes') same headers a found is =
       let same_header : unparsed_view position header size loaded.bases ≡ header_of bases bytes' = cc in
       subst (λ (h : HeaderSection). FoundByHeader (eh_frame_of bases bytes) a h (parsed h) found) same_header
       (subst (λ (s : Section). FoundByHeader s a (unparsed_view position header size loaded.bases) (parsed (unparsed_view position header size loaded.bases)) found) same is)
@@ -51,12 +78,12 @@ not_moved bias a none fits = ap (λ (n : ℕ). address_in_file n a) none ∙ (ad
 
 module _ {R : Type 0} (position : R → Position) (frame : Frame) (abi : Abi) (passed : CfiModule) (loaded : LoadedModule R)
     (bytes : (eh_frame_view position loaded.frame).position ≡ slice_over passed.section.now passed.bases.big_endian)
-    (sections : section_view position loaded.frame loaded.bases ≡ eh_frame_of (sized frame.size passed.bases) passed.section.now)
+    (sections : section_view position loaded.frame loaded.bases ≡ section_beside (header_in passed.header.now) (sized frame.size passed.bases) passed.section.now)
     (headers : option_map (λ header. unparsed_view position header frame.size loaded.bases) loaded.header ≡ option_map (header_of (sized frame.size passed.bases)) (header_in passed.header.now)) where
   by_fde : (a : ℕ) (found : Result Fde Error) (result : Result Caller FrameError) (caller : List (Option ℕ))
       → IsStepByLoaded position (λ (n : ℕ). n) frame abi (Some 192) (Some 4) true loaded a found result caller → IsStepByFde frame abi passed a found result caller
   by_fde a found result caller is = (
-    found_by position frame.size loaded (sized frame.size passed.bases) passed.section.now sections loaded.header (header_in passed.header.now) headers a found is.0,
+    found_by position frame.size loaded (sized frame.size passed.bases) passed.section.now loaded.header (header_in passed.header.now) sections headers a found is.0,
     is.1,
     subst (λ (n : Section). IsStepBy frame (slice_over passed.section.now passed.bases.big_endian) abi (λ (n : ℕ). n) (Some 192) (Some 4) true n a found result caller) sections
         (subst (λ (p : Position). IsStepBy frame p abi (λ (n : ℕ). n) (Some 192) (Some 4) true (section_view position loaded.frame loaded.bases) a found result caller) bytes is.2),
@@ -75,7 +102,7 @@ module _ {R : Type 0} (position : R → Position) (stack : CfiStack) (passed : C
   pub as_passed : (s : State) (frame : Frame) (abi : Abi) (a : ℕ) (result : Result Caller FrameError) (caller : List (Option ℕ))
       → frame ≡ frame_of stack s → abi ≡ abi_of stack → a ≡ address_of s
       → (eh_frame_view position loaded.frame).position ≡ slice_over passed.section.now passed.bases.big_endian
-      → section_view position loaded.frame loaded.bases ≡ eh_frame_of (sized stack.address_size passed.bases) passed.section.now
+      → section_view position loaded.frame loaded.bases ≡ section_beside (header_in passed.header.now) (sized stack.address_size passed.bases) passed.section.now
       → option_map (λ header. unparsed_view position header stack.address_size loaded.bases) loaded.header ≡ option_map (header_of (sized stack.address_size passed.bases)) (header_in passed.header.now)
       → loaded.compiled ≡ None → loaded.bias ≡ 0 → a < 2 ^ 64 → IsStepIn position (λ (n : ℕ). n) frame abi (Some 192) (Some 4) true loaded a result caller
       → IsStepInModule stack passed s result caller
@@ -91,6 +118,36 @@ module _ {R : Type 0} (position : R → Position) (stack : CfiStack) (passed : C
       let so : IsStepByFound position (λ (n : ℕ). n) (frame_of stack s) (abi_of stack) (Some 192) (Some 4) true loaded (address_of s) result caller =
       subst (λ (n : ℕ). IsStepByFound position (λ (n : ℕ). n) (frame_of stack s) (abi_of stack) (Some 192) (Some 4) true loaded n result caller) addresses ruled in
       (so.0, by_fde position (frame_of stack s) (abi_of stack) passed loaded bytes sections headers (address_of s) so.0 result caller so.1)
+
+-- ---- by a scan
+
+pub by_scan : (frame : Frame) (abi : Abi) (passed : CfiModule) (n : ℕ) (made : Section) (bytes : Position) (a : ℕ) (found : Result Fde Error) (function : Option Function) (result : Result Caller FrameError) (caller : List (Option ℕ))
+    → is_debug_frame passed ≡ true → n ≡ frame.size → made ≡ section_as DebugFrame (sized n passed.bases) passed.section.now
+    → bytes ≡ slice_over passed.section.now passed.bases.big_endian → found ≡ chosen_fde made a → IfOk found (λ fde. Covers fde a)
+    → IsStepBy frame bytes abi (λ (n : ℕ). n) (Some 192) (Some 4) true made a found result caller → function ≡ function_in found
+    → IsFunctionStep frame abi passed a (record { function = function; caller = result }) caller
+by_scan frame abi passed n made bytes a found function result caller is size sections same chosen covers steps functions =
+    let section : made ≡ section_as DebugFrame (sized frame.size passed.bases) passed.section.now = sections ∙ ap (λ (k : ℕ). section_as DebugFrame (sized k passed.bases) passed.section.now) size in
+    let beside : made ≡ section_beside (header_in passed.header.now) (sized frame.size passed.bases) passed.section.now =
+    section ∙ of_debug_frame (sized frame.size passed.bases) (header_in passed.header.now) passed.section.now is in (
+      found,
+      (
+        found_by_scan (sized frame.size passed.bases) (header_in passed.header.now) passed.section.now is a found (chosen ∙ ap (λ s. chosen_fde s a) section),
+        covers,
+        subst (λ (s : Section). IsStepBy frame (slice_over passed.section.now passed.bases.big_endian) abi (λ (n : ℕ). n) (Some 192) (Some 4) true s a found result caller) beside
+            (subst (λ (p : Position). IsStepBy frame p abi (λ (n : ℕ). n) (Some 192) (Some 4) true made a found result caller) same steps),
+      ),
+      functions,
+    )
+
+pub as_scanned : (stack : CfiStack) (passed : CfiModule) (s : State) (frame : Frame) (abi : Abi) (a : ℕ) (step : FunctionStep) (caller : List (Option ℕ))
+    → frame ≡ frame_of stack s → abi ≡ abi_of stack → a ≡ address_of s → IsFunctionStep frame abi passed a step caller → IsStepInModule stack passed s step.caller caller
+as_scanned stack passed s frame abi a step caller frames abis addresses is =
+    let framed : IsFunctionStep (frame_of stack s) abi passed a step caller = subst (λ (f : Frame). IsFunctionStep f abi passed a step caller) frames is in
+    let ruled : IsFunctionStep (frame_of stack s) (abi_of stack) passed a step caller = subst (λ (b : Abi). IsFunctionStep (frame_of stack s) b passed a step caller) abis framed in
+    let at : IsFunctionStep (frame_of stack s) (abi_of stack) passed (address_of s) step caller =
+    subst (λ (n : ℕ). IsFunctionStep (frame_of stack s) (abi_of stack) passed n step caller) addresses ruled in
+    (at.0, at.1)
 
 -- what holds if there is none
 pub if_none : (o : Option ℕ) (P : Type 0) → IfNone o P → is_none o ≡ true → P

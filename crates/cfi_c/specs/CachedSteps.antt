@@ -17,10 +17,9 @@ use Rattle.cfi_step.specs.declared.row_cache.RowCache.{RowCache}
 use Rattle.cfi_step.specs.PackedRows.{AreEmpty, HoldsRow, SaysRowOf, rows_in}
 use Rattle.cfi_c.specs.declared.cache.CfiCache.{CfiCache}
 use Rattle.cfi_c.specs.declared.stack.CfiModule.{CfiModule}
-use Rattle.cfi_c.specs.PassedSections.{eh_frame_of, header_in}
-use Rattle.cfi_c.specs.PassedStacks.{sized}
+use Rattle.cfi_c.specs.PassedStacks.{section_in, sized}
 use Rattle.cfi_c.specs.Refusals.{number}
-use Rattle.cfi_c.specs.StackFrames.{IsFdeBy}
+use Rattle.cfi_c.specs.StackFrames.{IsFdeIn}
 
 -- ---- the rows of a cache, for addresses of this size
 
@@ -28,10 +27,8 @@ module _ (size : ℕ) where
   -- it says what the FDE of the module has for the address
   abbrev pub IsRowFor : CfiModule → ℕ → PackedRow → Type 0
   IsRowFor loaded a row =
-      let bases = sized size loaded.bases in
-      (fde : Fde) × IsFdeBy bases loaded.section.now (header_in loaded.header.now) a (Ok fde)
-      × Covers fde a
-      × SaysRowOf (Some 192) (Some 4) true (eh_frame_of bases loaded.section.now) a fde row
+      (fde : Fde) × IsFdeIn size loaded a (Ok fde) × Covers fde a
+      × SaysRowOf (Some 192) (Some 4) true (section_in size loaded) a fde row
 
   abbrev pub IsRightFor : ℕ → CfiModule → PackedRow → Type 0
   IsRightFor file loaded row = (a : ℕ) → HoldsRow file a row → IsRowFor loaded a row

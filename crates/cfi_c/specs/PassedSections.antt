@@ -1,5 +1,6 @@
 -- The sections that C passes.
 --     section_of bases bytes      the section; eh_frame_of the same as .eh_frame
+--     section_beside header bases bytes      the section, which beside a header is .eh_frame
 --     header_of bases bytes      its header
 --     passed bases bytes header      the section with what C says of it, and its header if it has
 --         one
@@ -54,6 +55,10 @@ section_of bases bytes = section_as (kind_of bases.debug_frame) bases bytes
 -- a header is that of .eh_frame
 abbrev pub eh_frame_of : CfiBases → List ℕ → Section
 eh_frame_of bases bytes = section_as EhFrame bases bytes
+
+abbrev pub section_beside : Option (List ℕ) → CfiBases → List ℕ → Section
+section_beside (Some header) bases bytes = eh_frame_of bases bytes
+section_beside None bases bytes = section_of bases bytes
 
 -- in a header data counts from the header itself
 abbrev pub header_of : CfiBases → List ℕ → headers.HeaderSection

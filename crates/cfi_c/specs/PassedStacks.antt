@@ -1,11 +1,15 @@
 -- The modules and the stack that C passes.
 --     module_at modules a      the first module whose code the address is in
+--     is_debug_frame module      whether its section is .debug_frame
 --     sized size bases      the bases, with the size of an address that the stack has
+--     section_in size module      its section, with that size
 --     known_values registers      the values of the registers by their numbers, where they are
 --         known
 --     memory_of, abi_of stack      its bytes as memory, and what the ABI says
-use Rattle.std.specs.Prelude.{ℕ, Bool, List, map, take, Option, Some, None, if◌then◌else◌}
+use Rattle.std.specs.Prelude.{ℕ, Bool, ◌&&◌, List, map, take, is_none, Option, Some, None}
+use Rattle.std.specs.Prelude.{if◌then◌else◌}
 use Rattle.cfi_read_core.specs.SliceReaders.{slice_over}
+use Rattle.cfi_entry.specs.Sections.{Section}
 use Rattle.cfi_expression.specs.Windows.{number_in}
 use Rattle.cfi_step.specs.declared.abi.Abi.{Abi}
 use Rattle.cfi_step.specs.CodeRanges as ranges
@@ -14,6 +18,7 @@ use Rattle.cfi_c.specs.declared.CfiBases.{CfiBases}
 use Rattle.cfi_c.specs.declared.stack.CfiModule.{CfiModule}
 use Rattle.cfi_c.specs.declared.stack.CfiStack.{CfiStack}
 use Rattle.cfi_c.specs.declared.stack.CfiValue.{CfiValue}
+use Rattle.cfi_c.specs.PassedSections.{header_in, section_beside}
 
 -- ---- modules
 
@@ -29,8 +34,16 @@ has_code = ranges.has_code start_of end_of
 abbrev pub module_at : List CfiModule → ℕ → Option CfiModule
 module_at = first_with_code start_of end_of
 
+-- it says so, and has no header
+abbrev pub is_debug_frame : CfiModule → Bool
+is_debug_frame loaded = loaded.bases.debug_frame && is_none (header_in loaded.header.now)
+
 abbrev pub sized : ℕ → CfiBases → CfiBases
 sized size bases = record bases { address_size = size }
+
+abbrev pub section_in : ℕ → CfiModule → Section
+section_in size loaded =
+    section_beside (header_in loaded.header.now) (sized size loaded.bases) loaded.section.now
 
 -- ---- the innermost frame
 

@@ -1,6 +1,7 @@
 -- The frames of a stack, as C gets them.
---     IsStepByFde frame abi loaded a found step caller      a step by the FDE that the module's
---         sections have for the address
+--     IsFdeIn size loaded a found      the FDE that the module's sections have for the address
+--     IsStepByFde frame abi loaded a found step caller      a step by it; IsFunctionStep with its
+--         function
 --     IsStepInModule stack loaded s step caller      a step from a frame of a module's code, by the
 --         FDE that the module's sections have for it
 --     IsWalkForC modules stack s frames end registers caller      the frames from s on, and why
@@ -23,11 +24,13 @@ use Rattle.cfi_expression.specs.declared.error.FrameError.{FrameError}
 use Rattle.cfi_expression.specs.declared.error.FrameError.TheVariants as failed
 use Rattle.cfi_expression.specs.Frames.{Frame}
 use Rattle.cfi_step.specs.declared.abi.Abi.{Abi}
+use Rattle.cfi_step.specs.declared.function.FunctionStep.{FunctionStep}
 use Rattle.cfi_step.specs.declared.step.Caller.{Caller}
 use Rattle.cfi_step.specs.declared.walk.StackFrame.{StackFrame}
 use Rattle.cfi_step.specs.declared.walk.Start.{Start}
 use Rattle.cfi_step.specs.declared.walk.End.{End}
 use Rattle.cfi_step.specs.declared.walk.End.TheVariants as ends
+use Rattle.cfi_step.specs.Functions.{function_in}
 use Rattle.cfi_step.specs.Steps.{IsStepBy}
 use Rattle.cfi_step.specs.Walks.{State, AreWritten, IsStepOf, IsWalkBy, address_of, written}
 use Rattle.cfi_c.specs.declared.CfiBases.{CfiBases}
@@ -37,29 +40,38 @@ use Rattle.cfi_c.specs.declared.stack.CfiModule.{CfiModule}
 use Rattle.cfi_c.specs.declared.stack.CfiStack.{CfiStack}
 use Rattle.cfi_c.specs.declared.stack.CfiValue.{CfiValue}
 use Rattle.cfi_c.specs.Refusals.{number, value}
-use Rattle.cfi_c.specs.PassedSections.{eh_frame_of, header_in, header_of}
-use Rattle.cfi_c.specs.PassedStacks.{abi_of, known_values, memory_of, module_at, sized}
+use Rattle.cfi_c.specs.PassedSections.{eh_frame_of, header_in, header_of, section_of}
+use Rattle.cfi_c.specs.PassedStacks.{abi_of, known_values, memory_of, module_at, section_in, sized}
 
 -- ---- a step
 
--- the FDE by the header's table, without a header by a scan of .eh_frame
+-- the FDE by the header's table, without a header by a scan of the section
 abbrev pub IsFdeBy : CfiBases → List ℕ → Option (List ℕ) → ℕ → Result Fde Error → Type 0
-IsFdeBy bases bytes None a found = found ≡ chosen_fde (eh_frame_of bases bytes) a
+IsFdeBy bases bytes None a found = found ≡ chosen_fde (section_of bases bytes) a
 IsFdeBy bases bytes (Some header) a found =
     FoundByHeader (eh_frame_of bases bytes) a (header_of bases header)
     (headers.header_of (header_of bases header)) found
 
--- by the FDE that is found for an address of the module's code
+-- the FDE that a module's sections have for an address of its code, where one has this size
+abbrev pub IsFdeIn : ℕ → CfiModule → ℕ → Result Fde Error → Type 0
+IsFdeIn size loaded a found =
+    IsFdeBy (sized size loaded.bases) loaded.section.now (header_in loaded.header.now) a found
+
 abbrev pub IsStepByFde :
     Frame → Abi → CfiModule → ℕ → Result Fde Error → Result Caller FrameError → List (Option ℕ) →
     Type 0
 IsStepByFde frame abi loaded a found step caller =
-    let bases = sized frame.size loaded.bases in
-    IsFdeBy bases loaded.section.now (header_in loaded.header.now) a found
+    IsFdeIn frame.size loaded a found
     × IfOk found (λ fde. Covers fde a)
     × IsStepBy frame (slice_over loaded.section.now loaded.bases.big_endian) abi
-    (λ n. n) (Some 192) (Some 4) true
-    (eh_frame_of bases loaded.section.now) a found step caller
+    (λ n. n) (Some 192) (Some 4) true (section_in frame.size loaded) a found step caller
+
+-- the same with the function that the FDE describes
+abbrev pub IsFunctionStep :
+    Frame → Abi → CfiModule → ℕ → FunctionStep → List (Option ℕ) → Type 0
+IsFunctionStep frame abi loaded a step caller =
+    (found : Result Fde Error) × IsStepByFde frame abi loaded a found step.caller caller
+    × (step.function ≡ function_in found)
 
 module _ (stack : CfiStack) where
   abbrev pub frame_of : State → Frame

@@ -7,19 +7,16 @@
 --     IsStepped live .. function old_caller caller end      what C gets, with a context or none
 use Rattle.std.specs.Prelude.{◌≡◌, ℕ, ◌<◌, Bool, true, false, List, length, take, Option, Some}
 use Rattle.std.specs.Prelude.{None, Result, Ok, Err, IfOk, OnErr, is_some, slice_index_or}
-use Rattle.cfi_read_core.specs.declared.error.Error.{Error}
 use Rattle.cfi_read_core.specs.declared.error.Error.TheVariants.{UnsupportedAddressSize}
 use Rattle.cfi_read_core.specs.Addresses.{IsAddressSize}
 use Rattle.cfi_parts.specs.declared.pointer.Pointer.{Pointer}
 use Rattle.cfi_parts.specs.declared.pointer.Pointer.TheVariants.{Indirect}
 use Rattle.cfi_parts.specs.Pointers.{pointer_value}
-use Rattle.cfi_entry.specs.Fdes.{Fde}
 use Rattle.cfi_expression.specs.declared.error.FrameError.{FrameError}
 use Rattle.cfi_expression.specs.Frames.{Frame, known}
 use Rattle.cfi_step.specs.declared.function.Function.{Function}
 use Rattle.cfi_step.specs.declared.function.FunctionStep.{FunctionStep}
 use Rattle.cfi_step.specs.declared.step.Caller.{Caller}
-use Rattle.cfi_step.specs.Functions.{function_in}
 use Rattle.cfi_c.specs.declared.function.CfiFunction.{CfiFunction}
 use Rattle.cfi_c.specs.declared.memory.CfiMemory.{CfiMemory}
 use Rattle.cfi_c.specs.declared.stack.CfiEnd.{CfiEnd}
@@ -28,7 +25,7 @@ use Rattle.cfi_c.specs.declared.stack.CfiValue.{CfiValue}
 use Rattle.cfi_c.specs.declared.step.CfiCaller.{CfiCaller}
 use Rattle.cfi_c.specs.PassedMemories.{abi_in, number_in_memory}
 use Rattle.cfi_c.specs.PassedStacks.{known_values}
-use Rattle.cfi_c.specs.StackFrames.{IsStepByFde, failed_end, no_context, plain_end, refused_end}
+use Rattle.cfi_c.specs.StackFrames.{IsFunctionStep, failed_end, no_context, plain_end, refused_end}
 
 -- ---- the function
 
@@ -119,9 +116,7 @@ frame_in memory registers = record {
 abbrev pub IsStepFrom :
     CfiModule → CfiMemory → ℕ → List (Option ℕ) → FunctionStep → List (Option ℕ) → Type 0
 IsStepFrom loaded memory a registers step caller =
-    (found : Result Fde Error)
-    × IsStepByFde (frame_in memory registers) (abi_in memory) loaded a found step.caller caller
-    × (step.function ≡ function_in found)
+    IsFunctionStep (frame_in memory registers) (abi_in memory) loaded a step caller
 
 -- there is room for 256 registers
 abbrev pub IsStepWith :

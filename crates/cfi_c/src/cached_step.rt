@@ -11,6 +11,7 @@ ghost use Rattle.cfi_c.specs.SteppedFrames.{IsStepped};
 
 use crate::cache::CfiCache;
 use crate::context::{CfiContext, Context};
+use crate::debug_frame::{is_debug_frame, keep_in_debug_frame};
 use crate::find::is_sized;
 use crate::function::CfiFunction;
 use crate::memory::CfiMemory;
@@ -353,6 +354,10 @@ fn keep_in_module(
     requires { IsAddressSize size }
     ensures { KeepsFor size file module.now (rows_in rows.old) (rows_in rows.new) }
 {
+    if is_debug_frame(module) {
+        keep_in_debug_frame(module, rows, file, context, size, address);
+        return;
+    }
     let loaded = loaded_of(module, size);
     keep_row(&loaded, rows, file, context, size, address);
 }

@@ -16,6 +16,7 @@ mod cached_step;
 mod check;
 mod compiled;
 mod context;
+mod debug_frame;
 mod find;
 mod first_window;
 mod function;

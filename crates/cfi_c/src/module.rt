@@ -14,6 +14,7 @@ ghost use Rattle.cfi_c.specs.PassedSteps.{AreOfStack};
 ghost use Rattle.cfi_c.specs.StackFrames.{IsStepForC, IsStepInModule};
 
 use crate::context::Context;
+use crate::debug_frame::{is_debug_frame, step_in_debug_frame};
 use crate::find::{bases_of, endian_of, vendor_of};
 use crate::stack::{CfiModule, CfiStack};
 use cfi_step::code::{code_at, has_code};
@@ -132,13 +133,16 @@ fn step_in(
     ensures unwritten { OnErr result (caller.new ≡ caller.old) }
 {
     let size = steps.stack.address_size;
-    let loaded = loaded_of(module, size);
     let frame = Frame {
         registers,
         memory: &steps.memory,
         address_size: AddressSize::new(size),
     };
     let address = row_address(at.pc, at.is_interrupted);
+    if is_debug_frame(module) {
+        return step_in_debug_frame(module, context, address, &steps.abi, &frame, caller).caller;
+    }
+    let loaded = loaded_of(module, size);
     step_in_module(&loaded, context, address, &steps.abi, &frame, caller)
 }
 

@@ -17,7 +17,7 @@ pub struct CfiModule<'a> {
     /// The first address of its code, and the first after it.
     pub start: u64,
     pub end: u64,
-    /// `.eh_frame`.
+    /// `.eh_frame`; or `.debug_frame`, if the bases say so and there is no header.
     pub section: &'a [u8],
     /// `.eh_frame_hdr`; empty if there is none.
     pub header: &'a [u8],

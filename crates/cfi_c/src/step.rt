@@ -9,6 +9,7 @@ ghost use Rattle.cfi_c.specs.SteppedFrames.{caller_after, caller_or, end_after, 
 ghost use Rattle.cfi_c.specs.SteppedFrames.{function_after, written_value};
 
 use crate::context::{CfiContext, Context};
+use crate::debug_frame::{is_debug_frame, step_in_debug_frame};
 use crate::find::is_sized;
 use crate::function::{CfiFunction, written_function};
 use crate::memory::{CfiMemory, abi_in};
@@ -259,13 +260,16 @@ fn step_from(
     ensures { IsStepFrom module.now memory.now address registers.now result caller.new }
 {
     let size = memory.address_size;
-    let loaded = loaded_of(module, size);
     let frame = Frame {
         registers,
         memory,
         address_size: AddressSize::new(size),
     };
     let abi = abi_in(memory);
+    if is_debug_frame(module) {
+        return step_in_debug_frame(module, context, address, &abi, &frame, caller);
+    }
+    let loaded = loaded_of(module, size);
     step_in_function(&loaded, context, address, &abi, &frame, caller)
 }
 

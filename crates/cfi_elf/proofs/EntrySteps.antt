@@ -1,7 +1,7 @@
 -- The entries of a table, one after the other.
 use Rattle.std.proofs.Common.{◌≡◌, ◌<◌, ◌≤◌, ◌+◌, ◌*◌, ◌/◌, ℕ, zero, suc, Bool, List, [], ◌∷◌, length, drop, map, Some, None, Result, cond, refl, sym, ap, ◌∙◌, arith, slice_get, if◌then◌else◌, ⊎_elim}
 use Rattle.std.specs.Prelude.{find}
-use Rattle.std.specs.List.{range_with_len}
+use Rattle.std.specs.List.{fold, range_with_len}
 use Rattle.std.proofs.Math.Nat.{div-le_self, le-div_iff_mul-le}
 use Rattle.std.proofs.lemmas.Bool.{cases_lt, le-leb, lt-leb}
 use Rattle.std.proofs.lemmas.List.{drop_all, length-map}
@@ -84,3 +84,15 @@ none_left f size bytes index up =
     let n : length (map f (entries size bytes)) ≡ length bytes / size = length-map (entries size bytes) f ∙ length-map-range_with_len (entry_at size bytes) 0 (length bytes / size) in
     let few = div-le_self (length bytes) size in
     drop_all index (map f (entries size bytes)) (omega (arith, n, few, up))
+
+-- the same of what comes of the entries
+pub none_left_of : {A B : Type 0} (g : A → B) (f : List ℕ → A) (size : ℕ) (bytes : List ℕ) (index : ℕ) → length bytes ≤ index → drop index (map g (map f (entries size bytes))) ≡ []
+none_left_of g f size bytes index up =
+    let n : length (map g (map f (entries size bytes))) ≡ length bytes / size = length-map (map f (entries size bytes)) g ∙ (length-map (entries size bytes) f ∙ length-map-range_with_len (entry_at size bytes) 0 (length bytes / size)) in
+    let few = div-le_self (length bytes) size in
+    drop_all index (map g (map f (entries size bytes))) (omega (arith, n, few, up))
+
+-- ---- folds, one step
+
+pub fold_step : {A B : Type 0} (f : B → A → B) (b : B) (xs : List A) (index : ℕ) (x : A) → Some x ≡ slice_get xs index → fold f b (drop index xs) ≡ fold f (f b x) (drop (index + 1) xs)
+fold_step f b xs index x is = ap (fold f b) (next_left xs index x is)

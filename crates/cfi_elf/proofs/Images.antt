@@ -16,7 +16,9 @@ use Rattle.cfi_elf.specs.ElfFiles.{File, class_of_file}
 use Rattle.cfi_elf.specs.Sections.{Section, address_of, by_type, contents, debug_frame, first_section_header, header_named, is_named, name_at, name_section, names_at, or_by_first, section_address, section_count, section_headers, section_named, section_names, section_of, section_table, unless_compressed}
 use Rattle.cfi_elf.specs.Segments.{address_of_offset, bytes_after, eh_frame_hdr_segment, loaded_bytes, program_table, segment_bytes, segment_count, segment_of, wanted_segment}
 use Rattle.cfi_elf.specs.Symbols.{is_function_at}
+use Rattle.cfi_elf.specs.FunctionEntries.{function_descriptors, has_descriptors}
 use Rattle.cfi_elf.specs.SymbolTables.{Function, SymbolTable, function_at, function_of, is_symbol_named, symbol_address, symbol_section, symbol_table, symbols, symbols_in, symbols_of}
+use Rattle.cfi_elf.specs.SymbolAddresses.{symbol_addresses}
 use Rattle.cfi_elf.specs.FunctionNames.{best_name, function_name, function_place, functions_in, named_functions, place_among}
 use Rattle.cfi_elf.proofs.SameResults.{Same, is_not_read, same_err, same_first_by, same_if, same_if_found, same_ok, same_or_missing, same_then}
 use Rattle.cfi_elf.proofs.ImageParts.{same_part}
@@ -163,9 +165,13 @@ module _ {bytes : List ℕ} (file : File) (of : IsImageOf file.image bytes) wher
 
   -- ---- symbols
 
+  pub same_function_descriptors : Same (function_descriptors file) (function_descriptors all)
+  unfolding function_descriptors
+  same_function_descriptors = same_if (has_descriptors file) (same_section_named (codes ".opd")) (same_ok None)
+
   same_symbols_in : (table : List ℕ) (header : SectionHeader) → Same (symbols_in file table header) (symbols_in all table header)
   unfolding symbols_in
-  same_symbols_in table header = same_then (same_contents header) (λ bytes. same_then (same_names_at table header.sh_link) (λ names. same_ok _))
+  same_symbols_in table header = same_then (same_contents header) (λ bytes. same_then (same_names_at table header.sh_link) (λ names. same_then same_function_descriptors (λ descriptors. same_ok _)))
 
   same_symbols_of : (table : List ℕ) (found : Option SectionHeader) → Same (symbols_of file table found) (symbols_of all table found)
   same_symbols_of table None = same_ok _
@@ -184,6 +190,10 @@ module _ {bytes : List ℕ} (file : File) (of : IsImageOf file.image bytes) wher
   same_symbol_address name =
       same_then same_symbol_table (λ table.
       same_then (same_first_by (is_symbol_named table.names name) (λ s. (same_symbol_named table.names name s).read) (symbols file table)) (λ found. same_ok _))
+
+  pub same_symbol_addresses : (name : List ℕ) → Same (symbol_addresses file name) (symbol_addresses all name)
+  unfolding symbol_addresses
+  same_symbol_addresses name = same_then same_symbol_table (λ table. same_ok _)
 
   same_function_of : (names : List ℕ) (s : Symbol) → Same (function_of names s) (function_of names s)
   same_function_of names s = same_then (same_name_at names s.st_name) (λ name. same_ok _)

@@ -14,7 +14,7 @@ use Rattle.cfi_elf.specs.declared.error.ElfError.TheVariants.{SegmentOutOfBounds
 use Rattle.cfi_elf.specs.declared.error.ElfError.TheVariants.{NotRelocatable, UnknownRelocation}
 use Rattle.cfi_elf.specs.declared.error.ElfError.TheVariants.{RelocationOutOfBounds}
 use Rattle.cfi_elf.specs.declared.error.ElfError.TheVariants.{NoRelocationSymbol}
-use Rattle.cfi_elf.specs.declared.error.ElfError.TheVariants.{ExtendedSectionIndex}
+use Rattle.cfi_elf.specs.declared.error.ElfError.TheVariants.{ExtendedSectionIndex, OutOfMemory}
 
 abbrev pub name_of_elf : ElfError → List ℕ
 name_of_elf NotElf = codes "NotElf"
@@ -42,3 +42,4 @@ name_of_elf (UnknownRelocation kind) = codes "UnknownRelocation"
 name_of_elf RelocationOutOfBounds = codes "RelocationOutOfBounds"
 name_of_elf (NoRelocationSymbol index) = codes "NoRelocationSymbol"
 name_of_elf ExtendedSectionIndex = codes "ExtendedSectionIndex"
+name_of_elf OutOfMemory = codes "OutOfMemory"

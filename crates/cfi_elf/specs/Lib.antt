@@ -1,4 +1,5 @@
 pub mod ErrorNames
+pub mod ErrorTexts
 pub mod Results
 pub mod Options
 pub mod Searches
@@ -13,8 +14,10 @@ pub mod FoundSections
 pub mod Segments
 pub mod SegmentLists
 pub mod Notes
+pub mod FunctionEntries
 pub mod Symbols
 pub mod SymbolTables
+pub mod SymbolAddresses
 pub mod BestNames
 pub mod FunctionPlaces
 pub mod FunctionNames

@@ -9,21 +9,29 @@ use Rattle.cfi_elf.specs.declared.symbols.Function.{Function as FunctionOfCode}
 use Rattle.cfi_elf.specs.declared.symbols.SymbolTable.{SymbolTable as SymbolTableOfCode}
 use Rattle.cfi_elf.specs.ElfFiles.{File, class_of_file, is_big_file}
 use Rattle.cfi_elf.specs.Fields.{entries}
+use Rattle.cfi_elf.specs.FunctionEntries.{function_descriptors, located}
 use Rattle.cfi_elf.specs.Headers.{symbol, symbol_bytes}
 use Rattle.cfi_elf.specs.Options.{or_else}
 use Rattle.cfi_elf.specs.Results.{and_then, if_found}
 use Rattle.cfi_elf.specs.Searches.{first_by}
-use Rattle.cfi_elf.specs.Sections.{contents, name_at, names_at, section_headers, section_table}
+use Rattle.cfi_elf.specs.Sections.{Section, contents, name_at, names_at, section_headers}
+use Rattle.cfi_elf.specs.Sections.{section_table, section_view}
 use Rattle.cfi_elf.specs.Symbols.{is_function_at}
 
--- The bytes of the symbols, and the string table with their names.
+-- The bytes of the symbols, the string table with their names, and the section of the descriptors
+-- of functions, where there is one.
 pub record SymbolTable : Type 0 where
   pub bytes : List ℕ
   pub names : List ℕ
+  pub descriptors : Option Section
 
 -- what a table of symbols of the code is
 abbrev pub symbol_table_view : SymbolTableOfCode → SymbolTable
-symbol_table_view table = record { bytes = table.bytes.now; names = table.names.now }
+symbol_table_view table = record {
+  bytes = table.bytes.now;
+  names = table.names.now;
+  descriptors = option_map section_view table.descriptors;
+}
 
 -- ---- the symbol table: the first section of type SHT_SYMTAB (2), or else of type SHT_DYNSYM (11)
 
@@ -41,10 +49,11 @@ unfoldable pub symbols_in : File → List ℕ → SectionHeader → Result Symbo
 symbols_in file table header =
     and_then (contents file header) (λ bytes.
     and_then (names_at file table header.sh_link) (λ names.
-    Ok (record { bytes = bytes; names = names })))
+    and_then (function_descriptors file) (λ descriptors.
+    Ok (record { bytes = bytes; names = names; descriptors = descriptors }))))
 
 abbrev pub symbols_of : File → List ℕ → Option SectionHeader → Result SymbolTable ElfError
-symbols_of file table None = Ok (record { bytes = []; names = [] })
+symbols_of file table None = Ok (record { bytes = []; names = []; descriptors = None })
 symbols_of file table (Some header) = symbols_in file table header
 
 -- no symbols where there is no such section
@@ -58,8 +67,10 @@ symbols_of_bytes file bytes =
     map (symbol (class_of_file file) (is_big_file file))
     (entries (symbol_bytes (class_of_file file)) bytes)
 
+-- the same, where the value of a function is its address
 abbrev pub symbols : File → SymbolTable → List Symbol
-symbols file table = symbols_of_bytes file table.bytes
+symbols file table =
+    map (located file table.descriptors) (symbols_of_bytes file table.bytes)
 
 -- ---- by name
 
@@ -73,7 +84,7 @@ is_symbol_named names name s =
 abbrev pub value_of : Option Symbol → Option ℕ
 value_of found = option_map (λ s. s.st_value) found
 
--- the value of the first defined symbol with the name
+-- the address of the first defined symbol with the name
 unfoldable pub symbol_address : File → List ℕ → Result (Option ℕ) ElfError
 symbol_address file name =
     and_then (symbol_table file) (λ table.

@@ -7,8 +7,20 @@ pub const ET_REL: u16 = 1;
 /// A core file (`e_type`).
 pub const ET_CORE: u16 = 4;
 
+/// SPARC (`e_machine`).
+pub const EM_SPARC: u16 = 2;
+
 /// Intel 80386 (`e_machine`).
 pub const EM_386: u16 = 3;
+
+/// Motorola 68000 (`e_machine`).
+pub const EM_68K: u16 = 4;
+
+/// MIPS (`e_machine`).
+pub const EM_MIPS: u16 = 8;
+
+/// SPARC v8+ (`e_machine`).
+pub const EM_SPARC32PLUS: u16 = 18;
 
 /// PowerPC of 64 bits (`e_machine`).
 pub const EM_PPC64: u16 = 21;
@@ -18,6 +30,9 @@ pub const EM_S390: u16 = 22;
 
 /// Arm of 32 bits (`e_machine`).
 pub const EM_ARM: u16 = 40;
+
+/// SPARC of 64 bits (`e_machine`).
+pub const EM_SPARCV9: u16 = 43;
 
 /// x86-64 (`e_machine`).
 pub const EM_X86_64: u16 = 62;
@@ -54,6 +69,9 @@ pub const SHT_REL: u32 = 9;
 
 /// The symbol table for dynamic linking (`sh_type`).
 pub const SHT_DYNSYM: u32 = 11;
+
+/// A symbol that is a function (the type in `st_info`).
+pub const STT_FUNC: u8 = 2;
 
 /// A section that is in memory when the program runs (`sh_flags`).
 pub const SHF_ALLOC: u64 = 2;

@@ -1,6 +1,7 @@
 //! Why a file can't be read.
-ghost use Rattle.std.specs.Prelude.{◌≡◌};
+ghost use Rattle.std.specs.Prelude.{◌≡◌, Some};
 ghost use Rattle.cfi_elf.specs.ErrorNames.{name_of_elf};
+ghost use Rattle.cfi_elf.specs.ErrorTexts.{number_of_elf, sentence_of_elf, text_of_elf};
 
 use std::fmt;
 
@@ -59,9 +60,13 @@ pub enum ElfError {
     /// Bytes are needed that no part of the image has. Carries where in the file they begin, and
     /// how many they are.
     NotRead { offset: u64, size: u64 },
+    /// Memory for a list is refused.
+    OutOfMemory,
 }
 
 impl fmt::Display for ElfError {
+    ghost output = { λ error. Some (text_of_elf error) };
+
     fn fmt<W: fmt::Write>(&self, f: &mut fmt::Formatter<W>) -> fmt::Result {
         let sentence = self.sentence();
         match self.number() {
@@ -104,11 +109,14 @@ impl ElfError {
             ElfError::NoRelocationSymbol(_) => "NoRelocationSymbol",
             ElfError::ExtendedSectionIndex => "ExtendedSectionIndex",
             ElfError::NotRead { .. } => "NotRead",
+            ElfError::OutOfMemory => "OutOfMemory",
         }
     }
 
     /// The value that the error carries, if any.
-    fn number(&self) -> Option<u32> {
+    fn number(&self) -> Option<u32>
+        ensures { result ≡ number_of_elf self.now }
+    {
         match *self {
             ElfError::UnknownClass(byte) | ElfError::UnknownDataEncoding(byte) => Some(u32::from(
                 byte,
@@ -126,7 +134,9 @@ impl ElfError {
     }
 
     /// The sentence, up to the value if there is one.
-    fn sentence(&self) -> &'static str {
+    fn sentence(&self) -> &'static str
+        ensures { result.now ≡ sentence_of_elf self.now }
+    {
         match self {
             ElfError::NotElf => "not an ELF file",
             ElfError::HeaderCut => "the file ends in its header",
@@ -155,6 +165,7 @@ impl ElfError {
             ElfError::NoRelocationSymbol(_) => "a relocation has no symbol at index ",
             ElfError::ExtendedSectionIndex => "the section of a symbol has an extended index",
             ElfError::NotRead { .. } => "bytes of the file have not been read",
+            ElfError::OutOfMemory => "memory is refused",
         }
     }
 }

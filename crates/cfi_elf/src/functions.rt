@@ -40,7 +40,7 @@ impl<'input> ElfFile<'input> {
     {
         let mut functions = Vec::new(alloc);
         for index in 0..table.bytes.len() {
-            let Some(symbol) = self.symbol_in(table.bytes, index) else {
+            let Some(symbol) = self.located_in(table, index) else {
                 return Ok(functions);
             };
             if let Some(function) = named_function(&symbol, table.names) {

@@ -14,6 +14,7 @@ pub mod constants;
 pub mod elf_file;
 pub mod error;
 pub mod file_header;
+mod function_entry;
 mod function_names;
 mod function_place;
 mod functions;
@@ -28,6 +29,7 @@ mod section_header;
 mod sections;
 pub mod segments;
 mod symbol;
+mod symbol_addresses;
 mod symbols;
 
 pub use elf_file::{ElfFile, Section};

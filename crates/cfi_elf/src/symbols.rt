@@ -12,23 +12,21 @@ ghost use Rattle.cfi_elf.specs.SymbolTables.{symbol_table, symbol_table_view, sy
 ghost use Rattle.cfi_elf.specs.SymbolTables.{symbols_in, symbols_of_bytes};
 
 use crate::bytes::entry;
-use crate::constants::{SHT_DYNSYM, SHT_SYMTAB};
-use crate::elf_file::ElfFile;
+use crate::constants::{SHT_DYNSYM, SHT_SYMTAB, STT_FUNC};
+use crate::elf_file::{ElfFile, Section};
 use crate::error::ElfError;
 use crate::section_header::SectionHeader;
 use crate::sections::name_at;
 use crate::symbol::{Symbol, parse_symbol, symbol_size};
 
-const SHN_UNDEF: u16 = 0;
-
-const STT_FUNC: u8 = 2;
+pub(crate) const SHN_UNDEF: u16 = 0;
 
 /// A function that a symbol names.
 #[derive(Clone, Copy, Debug)]
 pub struct Function<'input> {
     /// The name, without the zero that ends it. Empty if the symbol has none.
     pub name: &'input [u8],
-    /// The address of the first byte (`st_value`).
+    /// The address of the first instruction, as `ElfFile::symbol_address` has it.
     pub address: u64,
     /// The number of bytes (`st_size`).
     pub size: u64,
@@ -36,19 +34,26 @@ pub struct Function<'input> {
     pub binding: u8,
 }
 
-/// The bytes of the symbols of a file, and the string table with their names.
+/// The bytes of the symbols of a file, the string table with their names, and the section of the
+/// descriptors of functions.
 #[derive(Clone, Copy, Debug)]
 pub(crate) struct SymbolTable<'input> {
     pub(crate) bytes: &'input [u8],
     pub(crate) names: &'input [u8],
+    pub(crate) descriptors: Option<Section<'input>>,
 }
 
 impl<'input> ElfFile<'input> {
-    /// The value of the first defined symbol with this name, in `.symtab`, or in `.dynsym` where
+    /// The address of the first defined symbol with this name, in `.symtab`, or in `.dynsym` where
     /// there is none. Returns `None` where no symbol has the name, or the file has no symbols.
     ///
-    /// Fails as `section` for the section headers, the symbols and their names. Does not allocate
-    /// (System V ABI chapter 4, "Symbol Table").
+    /// The address is the symbol's value (`st_value`), but for functions of two machines: of one of
+    /// Arm bit 0 says Thumb, and is cleared; of one of PowerPC64 whose value is in `.opd`, the
+    /// address is the first doubleword of the descriptor there (64-bit PowerPC ELF ABI 1.9, section
+    /// 3.2.5), unless the file is relocatable.
+    ///
+    /// Fails as `section` for the section headers, the symbols, their names and `.opd`. Does not
+    /// allocate (System V ABI chapter 4, "Symbol Table").
     #[tactic(auto, unfolding(crate::specs::SymbolTables::symbol_address))]
     pub fn symbol_address(&self, name: &[u8]) -> Result<Option<u64>, ElfError>
         ensures { result ≡ symbol_address (file_view self.now) name.now }
@@ -86,8 +91,8 @@ impl<'input> ElfFile<'input> {
     /// Whether all was read that `symbol_address` and `functions` need of the file. `functions`
     /// itself returns none where it was not.
     ///
-    /// Fails with `NotRead` where section headers, the symbols or their names have not been read,
-    /// and with nothing else. Does not allocate.
+    /// Fails with `NotRead` where section headers, the symbols, their names or `.opd` have not been
+    /// read, and with nothing else. Does not allocate.
     pub fn symbols_read(&self) -> Result<(), ElfError>
         ensures ok { OnOk result (IsRead (symbol_table (file_view self.now))) }
         ensures err { IfErr result (λ e. symbol_table (file_view self.now) ≡ Err e) }
@@ -111,6 +116,7 @@ impl<'input> ElfFile<'input> {
             None => Ok(SymbolTable {
                 bytes: &[],
                 names: &[],
+                descriptors: None,
             }),
         }
     }
@@ -153,7 +159,12 @@ impl<'input> ElfFile<'input> {
     {
         let bytes = self.contents(header)?;
         let names = self.names_at(table, header.sh_link)?;
-        Ok(SymbolTable { bytes, names })
+        let descriptors = self.function_descriptors()?;
+        Ok(SymbolTable {
+            bytes,
+            names,
+            descriptors,
+        })
     }
 
     /// The first symbol that is defined and has this name.
@@ -166,7 +177,7 @@ impl<'input> ElfFile<'input> {
             (symbols (file_view self.now) (symbol_table_view table.entry)) }
     {
         for index in 0..table.bytes.len() {
-            let Some(symbol) = self.symbol_in(table.bytes, index) else {
+            let Some(symbol) = self.located_in(table, index) else {
                 return Ok(None);
             };
             if is_symbol_named(&symbol, table.names, name)? {
@@ -182,7 +193,7 @@ impl<'input> ElfFile<'input> {
             (symbols (file_view self.now) (symbol_table_view table.entry)) }
     {
         for index in 0..table.bytes.len() {
-            let Some(symbol) = self.symbol_in(table.bytes, index) else {
+            let Some(symbol) = self.located_in(table, index) else {
                 return None;
             };
             if is_function_at(&symbol, address) {
@@ -190,6 +201,15 @@ impl<'input> ElfFile<'input> {
             }
         }
         None
+    }
+
+    /// The symbol at an index, with its address for its value; `None` where there are fewer.
+    pub(crate) fn located_in(&self, table: SymbolTable<'input>, index: usize) -> Option<Symbol>
+        ensures { result ≡ slice_get
+            (symbols (file_view self.now) (symbol_table_view table.entry)) index }
+    {
+        let symbol = self.symbol_in(table.bytes, index)?;
+        Some(self.located(table.descriptors, &symbol))
     }
 
     /// The symbol at an index of a table, or `None` where it has fewer.

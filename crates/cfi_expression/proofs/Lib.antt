@@ -3,3 +3,4 @@ pub mod Shifts
 pub mod Running
 pub mod Worked
 pub mod Laws
+pub mod LesserFrames

@@ -2,13 +2,13 @@
 use Rattle.std.proofs.Common.{◌≡◌, List, [], ◌∷◌, ◌++◌, ap}
 use Rattle.cfi_compiled.specs.FrameParts.{parts_of_frame}
 use Rattle.cfi_compiled.specs.Steps.{Step}
-use Rattle.cfi_object.specs.declared.register_names.RegisterNames.{RegisterNames}
+use Rattle.cfi_programs.specs.Wordings.{Wording}
 use Rattle.cfi_files.specs.CompiledTexts.{step_text, steps_text}
 
-pub one_more : (names : RegisterNames) (before after : List Step) (step : Step) → before ≡ step ∷ after → steps_text names before ≡ step_text names step.start (parts_of_frame step.frame) ++ steps_text names after
+pub one_more : (wording : Wording) (before after : List Step) (step : Step) → before ≡ step ∷ after → steps_text wording before ≡ step_text wording step.start (parts_of_frame step.frame) ++ steps_text wording after
 unfolding steps_text
-one_more names before after step is = ap (steps_text names) is
+one_more wording before after step is = ap (steps_text wording) is
 
-pub none_left : (names : RegisterNames) (steps : List Step) → steps ≡ [] → steps_text names steps ≡ []
+pub none_left : (wording : Wording) (steps : List Step) → steps ≡ [] → steps_text wording steps ≡ []
 unfolding steps_text
-none_left names steps is = ap (steps_text names) is
+none_left wording steps is = ap (steps_text wording) is

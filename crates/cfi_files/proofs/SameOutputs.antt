@@ -8,27 +8,28 @@ use Rattle.cfi_elf.specs.ElfFiles.{File}
 use Rattle.cfi_elf.specs.FunctionNames.{functions_in, best_name, named_functions}
 use Rattle.cfi_elf.specs.Images.{Image}
 use Rattle.cfi_elf.specs.Results.{and_then}
-use Rattle.cfi_elf.specs.Searches.{first_by}
+use Rattle.cfi_elf.specs.SymbolAddresses.{addresses_of, symbol_addresses}
+use Rattle.cfi_elf.specs.declared.error.ElfError.TheVariants as elf
 use Rattle.cfi_elf.specs.Sections.{section_address}
-use Rattle.cfi_elf.specs.SymbolTables.{SymbolTable, is_symbol_named, symbol_address, symbol_table, symbols, value_of}
+use Rattle.cfi_elf.specs.SymbolTables.{SymbolTable, symbol_table, symbols}
 use Rattle.cfi_programs.specs.Lines.{Line}
 use Rattle.cfi_object.specs.Numbers.{number}
 use Rattle.cfi_programs.specs.Words.{texts}
 use Rattle.cfi_object.specs.declared.register_names.RegisterNames.{RegisterNames}
 use Rattle.cfi_programs.specs.declared.style.Style.{Style}
 use Rattle.gimli_cfi.specs.SectionSources.{GivenSection}
-use Rattle.cfi_object.specs.CallFrames.{debug_frame_of, eh_frame_of, or_else}
-use Rattle.cfi_object.specs.Targets.{address_by_name, address_named, behind_name, is_at, is_plus, number_or_name, sum_of, symbol_named, symbol_or_section, target_address, with_version_or_not, without_version}
+use Rattle.cfi_object.specs.CallFrames.{debug_frame_of, eh_frame_of}
+use Rattle.cfi_object.specs.Targets.{addresses_by_name, addresses_named, behind_name, is_at, is_plus, listed, moved_by, number_or_name, or_others, section_addresses, symbols_named, symbols_or_section, target_addresses, with_version_or_not, without_version}
 use Rattle.cfi_files.specs.declared.request.Printed.{Printed}
 use Rattle.cfi_files.specs.declared.request.Printed.TheVariants.{Row, Rows, Dump, Table}
 use Rattle.cfi_files.specs.declared.sections.SectionPrinted.{SectionPrinted}
 use Rattle.cfi_files.specs.declared.sections.SectionPrinted.TheVariants.{Compiled, Listed}
 use Rattle.cfi_programs.specs.declared.dump.printed.Printed.TheVariants.{Entries, Rows as AllRows}
-use Rattle.cfi_files.specs.FileLines.{out_of_memory}
+use Rattle.cfi_files.specs.FileLines.{AreEach, out_of_memory}
 use Rattle.cfi_files.specs.FileOutputs.{AreEntries, AreFdeRows, AreParts, AreRows, AreRowsAt, AreSections, IsNamed, needs_symbols, styled}
 use Rattle.cfi_files.specs.Asked.{has_several}
 use Rattle.cfi_files.specs.Found.{debug_frame_in, eh_frame_in}
-use Rattle.cfi_files.specs.RowOutputs.{AreLines, IsAnswer, IsAnswerTo}
+use Rattle.cfi_files.specs.RowOutputs.{AreAnswersIn, AreAnswersTo, IsAnswer, IsAnswerAt, IsAnswerTo, IsWordLine, several_lines}
 
 module _ (file : File) (image : Image) where
   -- the other file
@@ -53,36 +54,40 @@ module _ (file : File) (image : Image) where
   unfolding named_functions
   same_functions (e, sections) = ap (functions_in file) e
 
-  -- the value of a symbol among those of a table
-  abbrev address_in : List ℕ → SymbolTable → Result (Option ℕ) ElfError
-  address_in name table = and_then (first_by (is_symbol_named table.names name) (symbols file table)) (λ found. Ok (value_of found))
+  -- the addresses of the symbols of a name among those of a table
+  abbrev addresses_in : List ℕ → SymbolTable → Result (List ℕ) ElfError
+  addresses_in name table = Ok (addresses_of table.names name (symbols file table))
 
-  same_address : HasSameSymbols → (name : List ℕ) → symbol_address file name ≡ symbol_address other name
-  unfolding symbol_address
-  same_address (e, sections) name = ap (λ table. and_then table (address_in name)) e
+  same_addresses : HasSameSymbols → (name : List ℕ) → symbol_addresses file name ≡ symbol_addresses other name
+  unfolding symbol_addresses
+  same_addresses (e, sections) name = ap (λ table. and_then table (addresses_in name)) e
 
-  same_or_section : HasSameSymbols → (name : List ℕ) → symbol_or_section file name ≡ symbol_or_section other name
-  unfolding symbol_or_section
-  same_or_section (e, sections) name = λ i. and_then (same_address (e, sections) name i) (λ address. or_else address (sections name i))
+  same_section : HasSameSymbols → (name : List ℕ) → section_addresses file name ≡ section_addresses other name
+  unfolding section_addresses
+  same_section (e, sections) name = ap (λ (found : Result (Option ℕ) ElfError). and_then found (λ address. Ok (listed address))) (sections name)
 
-  same_symbol : HasSameSymbols → (name : List ℕ) → symbol_named file name ≡ symbol_named other name
-  same_symbol e name = ap (λ found. if length name == 0 then Ok None else found) (same_address e name)
+  same_or_section : HasSameSymbols → (name : List ℕ) → symbols_or_section file name ≡ symbols_or_section other name
+  unfolding symbols_or_section
+  same_or_section e name = λ i. and_then (same_addresses e name i) (λ found. or_others found (same_section e name i))
+
+  same_symbol : HasSameSymbols → (name : List ℕ) → symbols_named file name ≡ symbols_named other name
+  same_symbol e name = ap (λ found. if length name == 0 then Ok [] else found) (same_addresses e name)
 
   same_unversioned : HasSameSymbols → (name : List ℕ) → without_version file name ≡ without_version other name
-  same_unversioned e name = ap (λ found. if position_or_len is_at name == length name then Ok None else found) (same_symbol e (before_first is_at name))
+  same_unversioned e name = ap (λ found. if position_or_len is_at name == length name then Ok [] else found) (same_symbol e (before_first is_at name))
 
   same_versioned : HasSameSymbols → (name : List ℕ) → with_version_or_not file name ≡ with_version_or_not other name
   unfolding with_version_or_not
-  same_versioned e name = λ i. and_then (same_or_section e name i) (λ address. or_else address (same_unversioned e name i))
+  same_versioned e name = λ i. and_then (same_or_section e name i) (λ found. or_others found (same_unversioned e name i))
 
-  same_named : HasSameSymbols → (name : List ℕ) → address_named file name ≡ address_named other name
-  same_named e name = ap (λ found. if length name == 0 then Ok None else found) (same_versioned e name)
+  same_named : HasSameSymbols → (name : List ℕ) → addresses_named file name ≡ addresses_named other name
+  same_named e name = ap (λ found. if length name == 0 then Ok [] else found) (same_versioned e name)
 
   same_behind : HasSameSymbols → (name : List ℕ) (count : Option ℕ) → behind_name file name count ≡ behind_name other name count
   unfolding behind_name
-  same_behind e name count = ap (λ found. and_then found (λ address. Ok (sum_of address count))) (same_named e name)
+  same_behind e name count = ap (λ found. and_then found (λ addresses. Ok (moved_by count addresses))) (same_named e name)
 
-  same_name : HasSameSymbols → (word : List ℕ) → address_by_name file word ≡ address_by_name other word
+  same_name : HasSameSymbols → (word : List ℕ) → addresses_by_name file word ≡ addresses_by_name other word
   same_name e word = λ i.
       if position_or_len is_plus word == length word
       then same_named e word i
@@ -92,30 +97,31 @@ module _ (file : File) (image : Image) where
   same_number e word (Some address) = refl
   same_number e word None = same_name e word
 
-  same_target : HasSameSymbols → (word : List ℕ) → target_address file word ≡ target_address other word
-  same_target e word = same_number e word (number word)
+  same_targets : HasSameSymbols → (word : List ℕ) → target_addresses file word ≡ target_addresses other word
+  same_targets e word = same_number e word (number word)
 
   -- ---- rows
 
-  same_fde_rows : HasSameFrames → HasSameSymbols → (style : Style) (address : Option ℕ) (line : Line) → AreFdeRows style file address line → AreFdeRows style other address line
-  same_fde_rows frames e style address line (inl (functions, names, are)) =
-      inl (functions, (λ at. names at ∙ ap (λ fs. best_name fs at) (same_functions e)), same_sections frames style.names (Listed (AllRows (record { address = address; functions = functions; format = style.format }))) line are)
-  same_fde_rows frames e style address line (inr refused) = inr refused
+  same_fde_rows : HasSameFrames → HasSameSymbols → (style : Style) (addresses : Option (List ℕ)) (line : Line) → AreFdeRows style file addresses line → AreFdeRows style other addresses line
+  same_fde_rows frames e style addresses line (inl (asked, (at, names, format), are)) =
+      inl (asked, (at, (λ address. names address ∙ ap (λ fs. best_name fs address) (same_functions e)), format), same_sections frames style.names (Listed (AllRows asked)) line are)
+  same_fde_rows frames e style addresses line (inr refused) = inr refused
 
   same_entries : HasSameFrames → HasSameSymbols → (names : RegisterNames) (line : Line) → AreEntries names file line → AreEntries names other line
   same_entries frames e names line (inl (functions, of, are)) =
       inl (functions, (λ at. of at ∙ ap (λ fs. best_name fs at) (same_functions e)), same_sections frames names (Listed (Entries functions)) line are)
   same_entries frames e names line (inr refused) = inr refused
 
-  same_rows_at : HasSameFrames → HasSameSymbols → (style : Style) (target : Result (Option ℕ) ElfError) (line : Line) → AreRowsAt style file target line → AreRowsAt style other target line
-  same_rows_at frames e style (Ok (Some address)) line are = same_fde_rows frames e style (Some address) line are
-  same_rows_at frames e style (Ok None) line are = are
+  same_rows_at : HasSameFrames → HasSameSymbols → (style : Style) (named : Result (List ℕ) ElfError) (line : Line) → AreRowsAt style file named line → AreRowsAt style other named line
+  same_rows_at frames e style (Ok (a ∷ others)) line are = same_fde_rows frames e style (Some (a ∷ others)) line are
+  same_rows_at frames e style (Ok []) line are = are
   same_rows_at frames e style (Err error) line are = are
 
   same_rows : HasSameFrames → HasSameSymbols → (style : Style) (word : Option (Bor (List ℕ))) (line : Line) → AreRows style file word line → AreRows style other word line
   same_rows frames e style None line are = same_fde_rows frames e style None line are
-  same_rows frames e style (Some word) line are =
-      subst (λ (target : Result (Option ℕ) ElfError). AreRowsAt style other target line) (same_target e word.now) (same_rows_at frames e style (target_address file word.now) line are)
+  same_rows frames e style (Some word) line (inl are) =
+      inl (subst (λ (named : Result (List ℕ) ElfError). AreRowsAt style other named line) (same_targets e word.now) (same_rows_at frames e style (target_addresses file word.now) line are))
+  same_rows frames e style (Some word) line (inr are) = inr are
 
   -- ---- rows of words
 
@@ -127,15 +133,26 @@ module _ (file : File) (image : Image) where
   same_word : HasSameFrames → (style : Style) (several : Bool) (word : List ℕ) (target : Result (Option ℕ) ElfError) (line : Line) → IsAnswerTo style file several word target line → IsAnswerTo style other several word target line
   same_word frames style several word target line (body, is, whole) = (body, same_answer frames style target body is, whole)
 
-  same_lines : HasSameFrames → HasSameSymbols → (style : Style) (several : Bool) (words : List (List ℕ)) (line : Line) → AreLines style file several words line → AreLines style other several words line
+  same_each : HasSameFrames → (style : Style) (several : Bool) (word addresses : List ℕ) (line : Line) → AreEach (IsAnswerAt style file several word) addresses line → AreEach (IsAnswerAt style other several word) addresses line
+  same_each frames style several word [] line are = are
+  same_each frames style several word (a ∷ others) line (first, second, is, are, whole) =
+      (first, second, same_word frames style several word (Ok (Some a)) first is, same_each frames style several word others second are, whole)
+
+  same_answers : HasSameFrames → (style : Style) (several : Bool) (word : List ℕ) (named : Result (List ℕ) ElfError) (line : Line) → AreAnswersTo style file several word named line → AreAnswersTo style other several word named line
+  same_answers frames style several word (Ok []) line is = same_word frames style several word (Ok None) line is
+  same_answers frames style several word (Ok (a ∷ others)) line are = same_each frames style several word (a ∷ others) line are
+  same_answers frames style several word (Err error) line is = same_word frames style several word (Err error) line is
+
+  same_word_line : HasSameFrames → HasSameSymbols → (style : Style) (several : Bool) (word : List ℕ) (line : Line) → IsWordLine style file several word line → IsWordLine style other several word line
+  same_word_line frames e style several word line (inl are) =
+      inl (subst (λ (named : Result (List ℕ) ElfError). AreAnswersIn style other several word named line) (same_targets e word)
+      (same_answers frames style (several_lines several (target_addresses file word)) word (target_addresses file word) line are))
+  same_word_line frames e style several word line (inr are) = inr (same_answers frames style several word (Err elf.OutOfMemory) line are)
+
+  same_lines : HasSameFrames → HasSameSymbols → (style : Style) (several : Bool) (words : List (List ℕ)) (line : Line) → AreEach (IsWordLine style file several) words line → AreEach (IsWordLine style other several) words line
   same_lines frames e style several [] line are = are
-  same_lines frames e style several (word ∷ words) line (first, second, is, are, whole) = (
-    first,
-    second,
-    subst (λ (target : Result (Option ℕ) ElfError). IsAnswerTo style other several word target first) (same_target e word) (same_word frames style several word (target_address file word) first is),
-    same_lines frames e style several words second are,
-    whole,
-  )
+  same_lines frames e style several (word ∷ words) line (first, second, is, are, whole) =
+      (first, second, same_word_line frames e style several word first is, same_lines frames e style several words second are, whole)
 
   -- ---- all that is printed of a file
 

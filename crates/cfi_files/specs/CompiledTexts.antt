@@ -1,11 +1,10 @@
 -- What is printed of a compiled table.
 --     IsCompiledText names section line      the steps of a table of the section, or that memory
 --         was refused
---     step_text names start parts      the line of a step: its first address, and what it has
---     steps_text names steps      a line for each step
+--     step_text wording start parts      the line of a step: its first address, and what it has
+--     steps_text wording steps      a line for each step
 use Rattle.std.specs.Prelude.{◌≡◌, ◌⊎◌, ℕ, List, [], ◌∷◌, ◌++◌, Some, Result, Ok, Err, codes}
 use Rattle.std.specs.Prelude.{flat_map}
-use Rattle.std.specs.Fmt.{decimal}
 use Rattle.cfi_read_core.specs.declared.error.Error.{Error}
 use Rattle.cfi_read_core.specs.declared.error.Error.TheVariants.{OutOfMemory}
 use Rattle.cfi_read_core.specs.RefusalNames.{name_of}
@@ -17,33 +16,30 @@ use Rattle.cfi_compiled.specs.Steps.{Step}
 use Rattle.cfi_programs.specs.DumpProgramOutput.{text_output}
 use Rattle.cfi_programs.specs.Lines.{Line, address_text, refusal_in}
 use Rattle.cfi_programs.specs.declared.style.Format.TheVariants.{Text}
-use Rattle.cfi_programs.specs.RowLines.{cfa_text, parts_rules}
+use Rattle.cfi_programs.specs.RowLines.{frame_saying, rules_saying}
+use Rattle.cfi_programs.specs.Wordings.{Wording, of_section, text_style}
 use Rattle.cfi_object.specs.declared.register_names.RegisterNames.{RegisterNames}
-
--- what comes before the rules
-abbrev pub step_head : RegisterNames → ℕ → Parts ℕ → List ℕ
-step_head names start parts =
-    address_text start ++ codes " cfa=" ++ cfa_text names parts.cfa ++ codes " args="
-    ++ decimal parts.args_size
 
 abbrev pub error_text : ℕ → Error → List ℕ
 error_text start error = address_text start ++ codes " refused " ++ name_of error ++ 10 ∷ []
 
-abbrev pub step_text : RegisterNames → ℕ → Result (Parts ℕ) Error → List ℕ
-step_text names start (Ok parts) =
-    (step_head names start parts ++ parts_rules names parts) ++ 10 ∷ []
-step_text names start (Err error) = error_text start error
+abbrev pub step_text : Wording → ℕ → Result (Parts ℕ) Error → List ℕ
+step_text wording start (Ok parts) =
+    address_text start
+    ++ (frame_saying wording.words wording.names parts.cfa parts.args_size
+    ++ (rules_saying wording.words wording.names parts ++ 10 ∷ []))
+step_text wording start (Err error) = error_text start error
 
-unfoldable pub steps_text : RegisterNames → List Step → List ℕ
-steps_text names steps =
-    flat_map (λ step. step_text names step.start (parts_of_frame step.frame)) steps
+unfoldable pub steps_text : Wording → List Step → List ℕ
+steps_text wording steps =
+    flat_map (λ step. step_text wording step.start (parts_of_frame step.frame)) steps
 
 -- the steps of a table that has for every address what the scan gives, in a storage of 192 rules
 -- and 4 rows
 abbrev pub AreStepsOf : RegisterNames → Section → Line → Type 0
 AreStepsOf names section printed =
     (table : TableContents) × IsCompiled (Some 192) (Some 4) section table
-    × (printed ≡ text_output (steps_text names (steps_of table)))
+    × (printed ≡ text_output (steps_text (of_section (text_style names) section) (steps_of table)))
 
 abbrev pub IsCompiledText : RegisterNames → Section → Line → Type 0
 IsCompiledText names section printed =

@@ -1,17 +1,35 @@
 -- Lines that say why nothing is printed of a file, and outputs that are put together.
 use Rattle.std.specs.Prelude.{◌≡◌, ℕ, List, [], ◌∷◌, ◌++◌, codes, max}
 use Rattle.cfi_elf.specs.declared.error.ElfError.{ElfError}
+use Rattle.cfi_elf.specs.declared.error.ElfError.TheVariants.{Compressed, Core}
 use Rattle.cfi_elf.specs.ErrorNames.{name_of_elf}
+use Rattle.cfi_elf.specs.ErrorTexts.{text_of_elf}
 use Rattle.cfi_read_core.specs.declared.error.Error.TheVariants.{OutOfMemory}
 use Rattle.cfi_programs.specs.Lines.{Line, reason_line, refusal_in, refused_line}
 use Rattle.cfi_programs.specs.JsonLines.{escaped, json_section}
 use Rattle.cfi_programs.specs.declared.style.Format.{Format}
 use Rattle.cfi_programs.specs.declared.style.Format.TheVariants.{Text, Json}
 
+-- ---- the name of an error of a file, and in a sentence what it says and what to do
+
+abbrev pub advice_on : ElfError → List ℕ
+advice_on Compressed = codes "; objcopy --decompress-debug-sections decompresses it"
+advice_on Core = codes "; cfi stack reads core files"
+advice_on _ = []
+
+-- between the two; in JSON they are two members
+abbrev pub elf_parting : Format → List ℕ
+elf_parting Text = codes ": "
+elf_parting Json = codes "\",\"reason\":\""
+
+abbrev pub elf_words : Format → ElfError → List ℕ
+elf_words format error =
+    name_of_elf error ++ (elf_parting format ++ (text_of_elf error ++ advice_on error))
+
 -- ---- lines, with their status, by the format
 
 abbrev pub elf_refusal : Format → ElfError → Line
-elf_refusal format error = refused_line format (name_of_elf error)
+elf_refusal format error = refused_line format (elf_words format error)
 
 abbrev pub no_call_frames : Format → Line
 no_call_frames format = reason_line format (codes "no call frames") 1
@@ -56,3 +74,12 @@ abbrev pub InTurn : (Line → Type 0) → (Line → Type 0) → Line → Type 0
 InTurn IsFirst IsSecond printed =
     (first : Line) × (second : Line) × IsFirst first × IsSecond second
     × (printed ≡ in_turn first second)
+
+-- no output
+abbrev pub no_lines : Line
+no_lines = record { text = []; status = 0 }
+
+-- an output for each thing, with the greatest status
+abbrev pub AreEach : {A : Type 0} → (A → Line → Type 0) → List A → Line → Type 0
+AreEach Is [] printed = printed ≡ no_lines
+AreEach Is (x ∷ xs) printed = InTurn (Is x) (AreEach Is xs) printed

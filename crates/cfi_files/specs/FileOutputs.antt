@@ -7,13 +7,13 @@
 --         written, with its status
 --     ChecksNamed format name input old new result      the check of an input, and its line, was
 --         written
-use Rattle.std.specs.Prelude.{◌≡◌, ◌≢◌, ◌⊎◌, ℕ, Bool, true, false, List, ◌++◌, Option, Some, None}
-use Rattle.std.specs.Prelude.{Result, Ok, Err, codes}
+use Rattle.std.specs.Prelude.{◌≡◌, ◌≢◌, ◌⊎◌, ℕ, Bool, true, false, List, [], ◌∷◌, Option, Some}
+use Rattle.std.specs.Prelude.{None, Result, Ok, Err, codes}
 use Rattle.std.specs.Borrow.{Bor}
 use Rattle.cfi_elf.specs.declared.error.ElfError.{ElfError}
 use Rattle.cfi_elf.specs.declared.function_names.FunctionNames.{FunctionNames}
 use Rattle.cfi_elf.specs.declared.error.ElfError.TheVariants.{Relocatable}
-use Rattle.cfi_elf.specs.ErrorNames.{name_of_elf}
+use Rattle.cfi_elf.specs.declared.error.ElfError.TheVariants as elf
 use Rattle.cfi_elf.specs.ElfFiles.{File, elf_file}
 use Rattle.cfi_read_core.specs.RefusalNames.{name_of}
 use Rattle.cfi_read_core.specs.declared.error.Error.TheVariants.{OutOfMemory}
@@ -27,14 +27,16 @@ use Rattle.cfi_programs.specs.Words.{texts}
 use Rattle.gimli_cfi.specs.declared.hdr.verdict.Verdict.{Verdict}
 use Rattle.gimli_cfi.specs.CheckVerdicts.{IsVerdict}
 use Rattle.cfi_programs.specs.CheckLines.{verdict_line}
+use Rattle.cfi_programs.specs.declared.dump.printed.AskedRows.{AskedRows}
 use Rattle.cfi_programs.specs.declared.dump.printed.Printed.TheVariants as listed
+use Rattle.cfi_programs.specs.DumpRowTexts.{given_addresses}
 use Rattle.cfi_programs.specs.DumpProgramOutput.{IsPrinted, format_of}
 use Rattle.cfi_object.specs.declared.register_names.RegisterNames.{RegisterNames}
 use Rattle.cfi_programs.specs.declared.style.Format.{Format}
 use Rattle.cfi_programs.specs.declared.style.Format.TheVariants.{Text}
 use Rattle.cfi_programs.specs.declared.style.Style.{Style}
 use Rattle.cfi_object.specs.MachineNames.{names_in}
-use Rattle.cfi_object.specs.Targets.{target_address}
+use Rattle.cfi_object.specs.Targets.{target_addresses}
 use Rattle.cfi_object.specs.FileParts.{AreLeft}
 use Rattle.cfi_files.specs.declared.request.Request.{Request}
 use Rattle.cfi_files.specs.declared.request.Printed.{Printed}
@@ -42,11 +44,12 @@ use Rattle.cfi_files.specs.declared.request.Printed.TheVariants.{Row, Rows, Dump
 use Rattle.cfi_files.specs.declared.finding.Finding.{Finding}
 use Rattle.cfi_files.specs.declared.finding.Finding.TheVariants.{NoTable, Unreadable}
 use Rattle.cfi_files.specs.Findings.{ChecksSome, finding_of, finding_without, found_line}
+use Rattle.cfi_files.specs.Findings.{refused}
 use Rattle.cfi_files.specs.declared.sections.SectionPrinted.{SectionPrinted}
 use Rattle.cfi_files.specs.declared.sections.SectionPrinted.TheVariants as sections
 use Rattle.cfi_files.specs.CompiledTexts.{IsCompiledText}
 use Rattle.cfi_programs.specs.WriterOutput.{PrintsSome}
-use Rattle.cfi_files.specs.FileLines.{IsUnder, InTurn, elf_refusal, file_label}
+use Rattle.cfi_files.specs.FileLines.{IsUnder, InTurn, elf_refusal, elf_words, file_label}
 use Rattle.cfi_files.specs.FileLines.{no_address, no_call_frames, out_of_memory, section_line}
 use Rattle.cfi_files.specs.FileLines.{wrong_input}
 use Rattle.cfi_files.specs.Found.{debug_frame_in, eh_frame_in}
@@ -102,9 +105,6 @@ abbrev pub IsFound : Format → Finding → List ℕ → Finding → Line → Ty
 IsFound format what reason finding printed =
     (finding ≡ what) × (printed ≡ found_line format what reason)
 
-abbrev pub refused : List ℕ → List ℕ
-refused name = codes "refused " ++ name
-
 abbrev pub IsVerdictIn :
     Format → GivenSection → Option HeaderSection → Finding → Line → Type 0
 IsVerdictIn format frames None finding printed =
@@ -118,13 +118,13 @@ IsCheck format None finding printed =
 IsCheck format (Some (Ok frames)) finding printed =
     IsVerdictIn format frames (given_header frames) finding printed
 IsCheck format (Some (Err e)) finding printed =
-    IsFound format NoTable (refused (name_of_elf e)) finding printed
+    IsFound format NoTable (refused (elf_words Text e)) finding printed
 
 -- of a file
 abbrev pub IsCheckOfParsed : Format → Result File ElfError → Finding → Line → Type 0
 IsCheckOfParsed format (Ok file) finding printed = IsCheck format (eh_frame_in file) finding printed
 IsCheckOfParsed format (Err e) finding printed =
-    IsFound format (finding_without e) (refused (name_of_elf e)) finding printed
+    IsFound format (finding_without e) (refused (elf_words Text e)) finding printed
 
 -- or that there was no memory, or the input can't be read
 abbrev pub IsCheckOfInput : Format → List ℕ → Finding → Line → Type 0
@@ -144,33 +144,34 @@ IsNamedCheck format name bytes finding printed =
 abbrev pub AreNamesOf : File → FunctionNames → Type 0
 AreNamesOf file functions = (address : ℕ) → name_in functions address ≡ function_name file address
 
-abbrev pub AreNamedRows : Style → File → Option ℕ → Line → Type 0
-AreNamedRows style file address printed =
-    (functions : Bor FunctionNames) × AreNamesOf file functions.now
-    × AreSections style.names
-    (sections.Listed
-    (listed.Rows (record {
-      address = address;
-      functions = functions;
-      format = style.format;
-    })))
-    file printed
+-- in this form, at these addresses
+abbrev pub IsAskedFor : Style → File → Option (List ℕ) → AskedRows → Type 0
+IsAskedFor style file addresses asked =
+    (given_addresses asked.addresses ≡ addresses) × AreNamesOf file asked.functions.now
+    × (asked.format ≡ style.format)
+
+abbrev pub AreNamedRows : Style → File → Option (List ℕ) → Line → Type 0
+AreNamedRows style file addresses printed =
+    (asked : AskedRows) × IsAskedFor style file addresses asked
+    × AreSections style.names (sections.Listed (listed.Rows asked)) file printed
 
 -- or that memory was refused for these
-abbrev pub AreFdeRows : Style → File → Option ℕ → Line → Type 0
-AreFdeRows style file address printed =
-    AreNamedRows style file address printed ⊎ (printed ≡ out_of_memory style.format)
+abbrev pub AreFdeRows : Style → File → Option (List ℕ) → Line → Type 0
+AreFdeRows style file addresses printed =
+    AreNamedRows style file addresses printed ⊎ (printed ≡ out_of_memory style.format)
 
--- at the address that a word names
-abbrev pub AreRowsAt : Style → File → Result (Option ℕ) ElfError → Line → Type 0
-AreRowsAt style file (Ok (Some address)) printed = AreFdeRows style file (Some address) printed
-AreRowsAt style file (Ok None) printed = printed ≡ no_address style.format
+-- at the addresses that a word names
+abbrev pub AreRowsAt : Style → File → Result (List ℕ) ElfError → Line → Type 0
+AreRowsAt style file (Ok []) printed = printed ≡ no_address style.format
+AreRowsAt style file (Ok (a ∷ others)) printed = AreFdeRows style file (Some (a ∷ others)) printed
 AreRowsAt style file (Err e) printed = printed ≡ elf_refusal style.format e
 
--- of all, where there is no word
+-- or that memory was refused for the addresses; of all, where there is no word
 abbrev pub AreRows : Style → File → Option (Bor (List ℕ)) → Line → Type 0
 AreRows style file None printed = AreFdeRows style file None printed
-AreRows style file (Some word) printed = AreRowsAt style file (target_address file word.now) printed
+AreRows style file (Some word) printed =
+    AreRowsAt style file (target_addresses file word.now) printed
+    ⊎ AreRowsAt style file (Err elf.OutOfMemory) printed
 
 -- ---- entries
 

@@ -1,5 +1,5 @@
 -- What the check of a file found.
-use Rattle.std.specs.Prelude.{◌≡◌, ℕ, Bool, true, false, List, Option, Result, IfOk, codes}
+use Rattle.std.specs.Prelude.{◌≡◌, ℕ, Bool, true, false, List, Option, Result, IfOk, ◌++◌, codes}
 use Rattle.cfi_programs.specs.Lines.{Line, line}
 use Rattle.cfi_programs.specs.CheckLines.{finding_text}
 use Rattle.cfi_programs.specs.declared.style.Format.{Format}
@@ -40,6 +40,9 @@ name_of_finding Unfaithful = codes "unfaithful"
 name_of_finding NoTable = codes "no table"
 name_of_finding OtherFile = codes "not ELF"
 name_of_finding Unreadable = codes "unreadable"
+
+abbrev pub refused : List ℕ → List ℕ
+refused words = codes "refused " ++ words
 
 -- the end of the line of a file, for a reason
 abbrev pub found_line : Format → Finding → List ℕ → Line

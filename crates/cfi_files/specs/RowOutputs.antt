@@ -1,10 +1,10 @@
 -- Which lines are right for the rows of addresses in a file.
 --     IsRowOrRefused style eh_frame debug_frame address line      the row for an address, behind
 --         what was asked for
---     AreWordLines style file words line      a line for each word, with the row for the address
---         that it names
+--     AreWordLines style file words line      for each word a line for each address that it names,
+--         with the row for that
 use Rattle.std.specs.Prelude.{◌≡◌, ◌≢◌, ◌⊎◌, ℕ, Bool, true, List, [], ◌∷◌, Option, Some, None}
-use Rattle.std.specs.Prelude.{Result, Ok, Err, codes}
+use Rattle.std.specs.Prelude.{Result, Ok, Err, ◌||◌, codes, length, nat_lt}
 use Rattle.cfi_read_core.specs.declared.error.Error.{Error}
 use Rattle.cfi_read_core.specs.declared.error.Error.TheVariants.{NoUnwindInfoForAddress}
 use Rattle.cfi_read_core.specs.declared.error.Error.TheVariants.{OutOfMemory}
@@ -15,15 +15,16 @@ use Rattle.gimli_cfi.specs.EhFrameHdr.{HeaderSection}
 use Rattle.gimli_cfi.specs.RowsByHeader.{IsRowByHeader}
 use Rattle.gimli_cfi.specs.SectionSources.{GivenSection, given_header, given_section}
 use Rattle.cfi_elf.specs.declared.error.ElfError.{ElfError}
-use Rattle.cfi_elf.specs.ErrorNames.{name_of_elf}
+use Rattle.cfi_elf.specs.declared.error.ElfError.TheVariants as elf
 use Rattle.cfi_elf.specs.ElfFiles.{File}
 use Rattle.cfi_programs.specs.Lines.{Line, reason_behind}
 use Rattle.cfi_programs.specs.AnswerLines.{answer_behind}
+use Rattle.cfi_programs.specs.Wordings.{Wording, of_section}
 use Rattle.cfi_programs.specs.declared.style.Format.{Format}
 use Rattle.cfi_programs.specs.declared.style.Style.{Style}
-use Rattle.cfi_object.specs.Targets.{target_address}
+use Rattle.cfi_object.specs.Targets.{target_addresses}
 use Rattle.cfi_files.specs.Asked.{address_found, asked_text, has_several}
-use Rattle.cfi_files.specs.FileLines.{InTurn, IsUnder}
+use Rattle.cfi_files.specs.FileLines.{AreEach, IsUnder, elf_words}
 use Rattle.cfi_files.specs.Found.{debug_frame_in, eh_frame_in}
 
 -- ---- why there is no row, behind what was asked for
@@ -32,7 +33,7 @@ abbrev pub no_row_for : Format → Error → Line
 no_row_for format error = reason_behind format (codes "refused ") (name_of error)
 
 abbrev pub no_row_of : Format → ElfError → Line
-no_row_of format error = reason_behind format (codes "refused ") (name_of_elf error)
+no_row_of format error = reason_behind format (codes "refused ") (elf_words format error)
 
 abbrev pub no_frames : Format → Line
 no_frames format = reason_behind format [] (codes "no call frames")
@@ -40,7 +41,12 @@ no_frames format = reason_behind format [] (codes "no call frames")
 abbrev pub no_place : Format → Line
 no_place format = reason_behind format [] (codes "no address")
 
--- ---- in a section, where the unwind has room for 192 rules and 4 rows
+-- ---- in a section, whose expressions are in words
+
+abbrev pub wording_in : Style → GivenSection → Wording
+wording_in style frames = of_section style (given_section frames)
+
+-- ---- the row, where the unwind has room for 192 rules and 4 rows
 
 -- by a scan
 abbrev pub IsScanned : GivenSection → ℕ → Result (Row ℕ) Error → Type 0
@@ -58,7 +64,7 @@ IsByTable frames header address answer =
 abbrev pub IsPartRow : Style → Result GivenSection ElfError → ℕ → Line → Type 0
 IsPartRow style (Ok frames) address printed =
     (answer : Result (Row ℕ) Error) × IsScanned frames address answer
-    × (printed ≡ answer_behind style answer)
+    × (printed ≡ answer_behind (wording_in style frames) answer)
 IsPartRow style (Err e) address printed = printed ≡ no_row_of style.format e
 
 -- the line where there is no .debug_frame
@@ -75,9 +81,11 @@ OtherwiseIn style debug_frame error address printed =
     ⊎ ((error ≢ NoUnwindInfoForAddress) × (printed ≡ no_row_for style.format error))
 
 abbrev pub IsAnswered :
-    Style → Option (Result GivenSection ElfError) → ℕ → Result (Row ℕ) Error → Line → Type 0
-IsAnswered style debug_frame address (Ok row) printed = printed ≡ answer_behind style (Ok row)
-IsAnswered style debug_frame address (Err error) printed =
+    Style → GivenSection → Option (Result GivenSection ElfError) → ℕ → Result (Row ℕ) Error →
+    Line → Type 0
+IsAnswered style frames debug_frame address (Ok row) printed =
+    printed ≡ answer_behind (wording_in style frames) (Ok row)
+IsAnswered style frames debug_frame address (Err error) printed =
     OtherwiseIn style debug_frame error address printed
 
 -- by a scan of .eh_frame
@@ -85,14 +93,14 @@ abbrev pub IsRowOr :
     Style → GivenSection → Option (Result GivenSection ElfError) → ℕ → Line → Type 0
 IsRowOr style frames debug_frame address printed =
     (answer : Result (Row ℕ) Error) × IsScanned frames address answer
-    × IsAnswered style debug_frame address answer printed
+    × IsAnswered style frames debug_frame address answer printed
 
 -- the row to which the table leads, or by a scan where it leads to none
 abbrev pub IsTableRowOr :
     Style → GivenSection → Option (Result GivenSection ElfError) → ℕ → Result (Row ℕ) Error →
     Line → Type 0
 IsTableRowOr style frames debug_frame address (Ok row) printed =
-    printed ≡ answer_behind style (Ok row)
+    printed ≡ answer_behind (wording_in style frames) (Ok row)
 IsTableRowOr style frames debug_frame address (Err e) printed =
     IsRowOr style frames debug_frame address printed
 
@@ -141,18 +149,37 @@ IsAnswerTo style file several word target printed =
     IsUnder (asked_text style.format several word (address_found target))
     (IsAnswer style (eh_frame_in file) (debug_frame_in file) target) printed
 
+-- by each address that a word names
+abbrev pub IsAnswerAt : Style → File → Bool → List ℕ → ℕ → Line → Type 0
+IsAnswerAt style file several word address printed =
+    IsAnswerTo style file several word (Ok (Some address)) printed
+
+abbrev pub AreAnswersTo :
+    Style → File → Bool → List ℕ → Result (List ℕ) ElfError → Line → Type 0
+AreAnswersTo style file several word (Ok []) printed =
+    IsAnswerTo style file several word (Ok None) printed
+AreAnswersTo style file several word (Ok (a ∷ others)) printed =
+    AreEach (IsAnswerAt style file several word) (a ∷ others) printed
+AreAnswersTo style file several word (Err e) printed =
+    IsAnswerTo style file several word (Err e) printed
+
+-- whether there are several lines: by several words, or by several addresses of this one
+abbrev pub several_lines : Bool → Result (List ℕ) ElfError → Bool
+several_lines several (Ok addresses) = several || nat_lt 1 (length addresses)
+several_lines several (Err e) = several
+
+abbrev pub AreAnswersIn :
+    Style → File → Bool → List ℕ → Result (List ℕ) ElfError → Line → Type 0
+AreAnswersIn style file several word named printed =
+    AreAnswersTo style file (several_lines several named) word named printed
+
+-- or that memory was refused for the addresses
 abbrev pub IsWordLine : Style → File → Bool → List ℕ → Line → Type 0
 IsWordLine style file several word printed =
-    IsAnswerTo style file several word (target_address file word) printed
+    AreAnswersIn style file several word (target_addresses file word) printed
+    ⊎ AreAnswersIn style file several word (Err elf.OutOfMemory) printed
 
-abbrev pub no_lines : Line
-no_lines = record { text = []; status = 0 }
-
--- a line for each word, with the greatest status
-abbrev pub AreLines : Style → File → Bool → List (List ℕ) → Line → Type 0
-AreLines style file several [] printed = printed ≡ no_lines
-AreLines style file several (word ∷ words) printed =
-    InTurn (IsWordLine style file several word) (AreLines style file several words) printed
-
+-- the lines of each word, with the greatest status
 abbrev pub AreWordLines : Style → File → List (List ℕ) → Line → Type 0
-AreWordLines style file words printed = AreLines style file (has_several words) words printed
+AreWordLines style file words printed =
+    AreEach (IsWordLine style file (has_several words)) words printed

@@ -8,7 +8,8 @@ ghost use Rattle.cfi_compiled.specs.CompiledTables.{steps_of};
 ghost use Rattle.cfi_compiled.specs.FrameParts.{parts_of_frame};
 ghost use Rattle.cfi_compiled.specs.TableSteps.{step_view};
 ghost use Rattle.cfi_programs.specs.DumpProgramOutput.{text_output};
-ghost use Rattle.cfi_programs.specs.Lines.{Line};
+ghost use Rattle.cfi_programs.specs.Lines.{Line, address_text};
+ghost use Rattle.cfi_programs.specs.Wordings.{text_style, worded};
 ghost use Rattle.cfi_programs.specs.WriterOutput.{Prints, Writes};
 ghost use Rattle.cfi_files.specs.CompiledTexts.{IsCompiledText, error_text, step_text};
 ghost use Rattle.cfi_files.specs.CompiledTexts.{steps_text};
@@ -16,11 +17,11 @@ ghost use Rattle.cfi_files.specs.CompiledTexts.{steps_text};
 use cfi_compiled::{CompiledRow, CompiledStep, CompiledTable};
 use cfi_object::register_names::RegisterNames;
 use cfi_programs::lines::{Address, write_part, write_refusal, write_text};
-use cfi_programs::row_line::{HasRules, number_behind, push_frame, write_by_number};
-use cfi_programs::text::{Text, push, push_address};
+use cfi_programs::row_line::{HasRules, number_behind};
+use cfi_programs::row_words::{write_frame, write_rules};
 use gimli_cfi::{
-    BaseAddresses, CallFrameSection, Error, Reader, Register, RegisterRule, SectionSource,
-    UnwindSection,
+    _UnwindSectionPrivate, BaseAddresses, CallFrameSection, Error, Reader, Register, RegisterRule,
+    SectionSource, UnwindSection,
 };
 use std::alloc::Global;
 use std::io;
@@ -63,73 +64,91 @@ fn print_table<R: Reader<Offset = usize>, S: UnwindSection<R>, W: Write>(
         × IsCompiledText names (section_of (S.view section.now) bases.now) line }
 {
     match CompiledTable::new(alloc, section, bases) {
-        Ok(table) => print_steps(names, &table, output),
+        Ok(table) => print_steps(names, section, &table, output),
         Err(error) => write_refusal(output, error),
     }
 }
 
 /// Prints the steps of the table, and returns the status 0.
-fn print_steps<W: Write>(
+fn print_steps<R: Reader<Offset = usize>, S: UnwindSection<R>, W: Write>(
     names: RegisterNames,
+    section: &S,
     table: &CompiledTable,
     output: &mut W,
 ) -> io::Result<u8>
-    ensures { Prints (text_output (steps_text names (steps_of table.now)))
+    ensures { let from = S.view section.now in
+        let wording = worded (text_style names) from.address_size from.position in
+        Prints (text_output (steps_text wording (steps_of table.now)))
         (W.contents output.old) (W.contents output.new) result }
 {
-    write_steps(output, names, table)?;
+    write_steps(output, names, section, table)?;
     Ok(0)
 }
 
 /// Writes a line for each step of the table, in the order of their addresses: the first address,
 /// and the CFA, the argument size and the rules from there up to the next step; or `refused` and
 /// the name of the error.
-pub fn write_steps<W: Write>(
+pub fn write_steps<R: Reader<Offset = usize>, S: UnwindSection<R>, W: Write>(
     output: &mut W,
     names: RegisterNames,
+    section: &S,
     table: &CompiledTable,
 ) -> io::Result<()>
-    ensures { Writes (W.contents output.old) (W.contents output.new) result
-        (steps_text names (steps_of table.now)) }
+    ensures { let from = S.view section.now in
+        let wording = worded (text_style names) from.address_size from.position in
+        Writes (W.contents output.old) (W.contents output.new) result
+        (steps_text wording (steps_of table.now)) }
 {
     for step in table.iter() {
-        write_step(output, names, &step)?;
+        write_step(output, names, section, &step)?;
     }
     Ok(())
 }
 
 /// Writes the line of a step.
-fn write_step<W: Write>(
+fn write_step<R: Reader<Offset = usize>, S: UnwindSection<R>, W: Write>(
     output: &mut W,
     names: RegisterNames,
+    section: &S,
     step: &CompiledStep<'_>,
 ) -> io::Result<()>
-    ensures { let viewed = step_view step.now in
+    ensures { let from = S.view section.now in
+        let wording = worded (text_style names) from.address_size from.position in
+        let viewed = step_view step.now in
         Writes (W.contents output.old) (W.contents output.new) result
-        (step_text names viewed.start (parts_of_frame viewed.frame)) }
+        (step_text wording viewed.start (parts_of_frame viewed.frame)) }
 {
     match step.row {
-        Ok(row) => write_row(output, names, step.start, &row),
+        Ok(row) => write_row(output, names, section, step.start, &row),
         Err(error) => write_error(output, step.start, error),
     }
 }
 
 /// Writes the line of a step that has a row, its registers in ascending order.
-fn write_row<W: Write>(
+fn write_row<R: Reader<Offset = usize>, S: UnwindSection<R>, W: Write>(
     output: &mut W,
     names: RegisterNames,
+    section: &S,
     start: u64,
     row: &CompiledRow<'_>,
 ) -> io::Result<()>
-    ensures { Writes (W.contents output.old) (W.contents output.new) result
-        (step_text names start (Ok (parts_kept row.now))) }
+    ensures { let from = S.view section.now in
+        let wording = worded (text_style names) from.address_size from.position in
+        Writes (W.contents output.old) (W.contents output.new) result
+        (step_text wording start (Ok (parts_kept row.now))) }
 {
-    let mut text = Text::new();
-    push_address(&mut text, start)?;
-    push_frame(&mut text, names, *row.cfa(), row.saved_args_size())?;
-    write_by_number(output, &mut text, names, &TableRow(row))?;
-    push(&mut text, b"\n")?;
-    write_text(output, text.as_slice())
+    write_start(output, start)?;
+    write_frame(output, names, section, *row.cfa(), row.saved_args_size())?;
+    write_rules(output, names, section, &TableRow(row))?;
+    write_text(output, b"\n")
+}
+
+/// Writes the first address of a step.
+fn write_start<W: Write>(output: &mut W, start: u64) -> io::Result<()>
+    ensures { Writes (W.contents output.old) (W.contents output.new) result (address_text start) }
+{
+    let start = Address(start);
+    write_part(output, format_args!("{start}"))
 }
 
 /// Writes the line of a step that has an error.

@@ -3,10 +3,14 @@ ghost use Rattle.std.specs.Prelude.{◌≡◌, ◌++◌, IfOk};
 ghost use Rattle.cfi_read_core.specs.ReaderCalls.{map_ok};
 ghost use Rattle.cfi_programs.specs.WriterOutput.{Writes};
 ghost use Rattle.cfi_files.specs.Findings.{finding_of, finding_without, found_line, has_table};
-ghost use Rattle.cfi_files.specs.Findings.{is_faithful, name_of_finding, status_of};
+ghost use Rattle.cfi_files.specs.Findings.{is_faithful, name_of_finding, refused, status_of};
+ghost use Rattle.cfi_files.specs.FileLines.{elf_words};
+ghost use Rattle.cfi_programs.specs.declared.style.Format.TheVariants.{Json, Text};
 
+use crate::lines::write_elf_words;
 use cfi_elf::ElfError;
 use cfi_programs::check::output_line::write_finding;
+use cfi_programs::lines::write_between;
 use cfi_programs::style::Format;
 use gimli_cfi::Verdict;
 use std::io;
@@ -118,4 +122,50 @@ pub(crate) fn write_found<W: Write>(
     let what = finding.name().as_bytes();
     write_finding(output, format, what, reason.as_bytes(), name.as_bytes())?;
     Ok(finding)
+}
+
+/// Writes the end of the line of a file of which this was found for an error of the file, and
+/// returns what was found.
+pub(crate) fn write_refused<W: Write>(
+    output: &mut W,
+    format: Format,
+    finding: Finding,
+    error: ElfError,
+) -> io::Result<Finding>
+    ensures line { Writes (W.contents output.old) (W.contents output.new) result
+        (found_line format finding (refused (elf_words Text error))).text }
+    ensures found { IfOk result (λ found. found ≡ finding) }
+{
+    write_refused_end(output, format, finding, error)?;
+    Ok(finding)
+}
+
+/// Writes the same.
+fn write_refused_end<W: Write>(
+    output: &mut W,
+    format: Format,
+    finding: Finding,
+    error: ElfError,
+) -> io::Result<()>
+    ensures { Writes (W.contents output.old) (W.contents output.new) result
+        (found_line format finding (refused (elf_words Text error))).text }
+{
+    match format {
+        Format::Text => write_elf_words(output, Format::Text, b"refused ", error, b"\n"),
+        Format::Json => write_refused_members(output, finding, error),
+    }
+}
+
+/// Writes the end of an object of JSON.
+fn write_refused_members<W: Write>(
+    output: &mut W,
+    finding: Finding,
+    error: ElfError,
+) -> io::Result<()>
+    ensures { Writes (W.contents output.old) (W.contents output.new) result
+        (found_line Json finding (refused (elf_words Text error))).text }
+{
+    let name = finding.name().as_bytes();
+    write_between(output, b"\"result\":\"", name, b"\",\"reason\":\"")?;
+    write_elf_words(output, Format::Text, b"refused ", error, b"\"}\n")
 }

@@ -1,15 +1,18 @@
 //! Lines that say why nothing is printed of a file.
+ghost use Rattle.std.specs.Prelude.{◌≡◌, ◌++◌};
 ghost use Rattle.cfi_programs.specs.WriterOutput.{Prints, Writes};
-ghost use Rattle.cfi_files.specs.FileLines.{elf_refusal, no_address, no_call_frames};
-ghost use Rattle.cfi_files.specs.FileLines.{section_line, wrong_input};
+ghost use Rattle.cfi_files.specs.FileLines.{advice_on, elf_parting, elf_refusal, elf_words};
+ghost use Rattle.cfi_files.specs.FileLines.{no_address, no_call_frames, section_line};
+ghost use Rattle.cfi_files.specs.FileLines.{wrong_input};
 
 use cfi_elf::ElfError;
-use cfi_programs::lines::{write_between, write_reason, write_refused_name};
+use cfi_programs::lines::{write_between, write_part, write_reason, write_text};
 use cfi_programs::style::Format;
 use std::io;
 use std::io::Write;
 
-/// Prints that something was refused, by the name of the error, and returns the status 1.
+/// Prints that something was refused, by the name of the error and in a sentence, and returns the
+/// status 1.
 pub fn write_elf_refusal<W: Write>(
     output: &mut W,
     format: Format,
@@ -18,7 +21,68 @@ pub fn write_elf_refusal<W: Write>(
     ensures { Prints (elf_refusal format error)
         (W.contents output.old) (W.contents output.new) result }
 {
-    write_refused_name(output, format, error.name())
+    write_refused_line(output, format, error)?;
+    Ok(1)
+}
+
+/// Writes the line.
+fn write_refused_line<W: Write>(output: &mut W, format: Format, error: ElfError) -> io::Result<()>
+    ensures { Writes (W.contents output.old) (W.contents output.new) result
+        (elf_refusal format error).text }
+{
+    match format {
+        Format::Text => write_elf_words(output, Format::Text, b"refused ", error, b"\n"),
+        Format::Json => write_elf_words(output, Format::Json, b"{\"error\":\"", error, b"\"}\n"),
+    }
+}
+
+/// Writes, between two texts, the name of the error and a sentence that says what it is and what to
+/// do.
+pub(crate) fn write_elf_words<W: Write>(
+    output: &mut W,
+    format: Format,
+    before: &[u8],
+    error: ElfError,
+    after: &[u8],
+) -> io::Result<()>
+    ensures { Writes (W.contents output.old) (W.contents output.new) result
+        (before.now ++ (elf_words format error ++ after.now)) }
+{
+    write_text(output, before)?;
+    write_elf_reason(output, format, error)?;
+    write_text(output, after)
+}
+
+/// Writes these words.
+fn write_elf_reason<W: Write>(output: &mut W, format: Format, error: ElfError) -> io::Result<()>
+    ensures { Writes (W.contents output.old) (W.contents output.new) result
+        (elf_words format error) }
+{
+    let name = error.name();
+    let parting = elf_parting(format);
+    let advice = advice_on(error);
+    write_part(output, format_args!("{name}{parting}{error}{advice}"))
+}
+
+/// Returns what stands between the name of an error and the sentence.
+fn elf_parting(format: Format) -> &'static str
+    ensures { result.now ≡ elf_parting format }
+{
+    match format {
+        Format::Text => ": ",
+        Format::Json => "\",\"reason\":\"",
+    }
+}
+
+/// Returns what to do about an error, behind its sentence.
+fn advice_on(error: ElfError) -> &'static str
+    ensures { result.now ≡ advice_on error }
+{
+    match error {
+        ElfError::Compressed => "; objcopy --decompress-debug-sections decompresses it",
+        ElfError::Core => "; cfi stack reads core files",
+        _ => "",
+    }
 }
 
 /// Prints that the file has no section of call frames, and returns the status 1.

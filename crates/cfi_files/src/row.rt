@@ -1,21 +1,25 @@
 //! The rows for the addresses that words name in a file.
+ghost use Rattle.std.specs.Prelude.{◌≡◌, Ok};
 ghost use Rattle.cfi_elf.specs.ElfFiles.{file_view};
 ghost use Rattle.cfi_read_core.specs.ReaderCalls.{map_ok};
 ghost use Rattle.gimli_cfi.specs.SectionSources.{given_header, source_view};
 ghost use Rattle.cfi_programs.specs.Words.{texts};
-ghost use Rattle.cfi_programs.specs.WriterOutput.{Prints, PrintsSome};
+ghost use Rattle.cfi_programs.specs.WriterOutput.{Prints, PrintsSome, Writes};
 ghost use Rattle.cfi_files.specs.Found.{AreSectionsOf, part_view};
-ghost use Rattle.cfi_files.specs.RowOutputs.{AreWordLines, IsAnswer, IsPartRow};
+ghost use Rattle.cfi_files.specs.FileLines.{AreEach};
+ghost use Rattle.cfi_files.specs.RowOutputs.{AreAnswersIn, AreWordLines, IsAnswer, IsAnswerAt};
+ghost use Rattle.cfi_files.specs.RowOutputs.{IsAnswerTo, IsPartRow};
 ghost use Rattle.cfi_files.specs.RowOutputs.{IsRowByTableOrScan, IsRowLine, IsRowOr, IsWordLine};
 ghost use Rattle.cfi_files.specs.RowOutputs.{OtherwiseIn, no_frames, no_place, no_row_for};
-ghost use Rattle.cfi_files.specs.RowOutputs.{no_row_of};
+ghost use Rattle.cfi_files.specs.RowOutputs.{no_row_of, several_lines};
 
 use crate::asked::{address_found, has_several, write_asked};
+use crate::lines::write_elf_words;
 use crate::sections::{debug_frame_part, eh_frame_part};
 use cfi_elf::{ElfError, ElfFile};
-use cfi_object::target::target_address;
+use cfi_object::target::target_addresses;
 use cfi_programs::lines::write_reason_behind;
-use cfi_programs::row_line::write_answer_behind;
+use cfi_programs::row_words::write_answer_behind;
 use cfi_programs::style::{Format, Style};
 use gimli_cfi::{Error, SectionSource, UnwindContext};
 use std::alloc::Global;
@@ -31,10 +35,11 @@ pub struct FrameSections<'file> {
     pub debug_frame: Option<Result<SectionSource<'file>, ElfError>>,
 }
 
-/// Prints a line for each word: the row for the address that it names, `no address` where it names
-/// none, or `refused` and the name of the error. Where there are several words, each line begins
-/// with its word, the address that this names, and a colon; in JSON each object begins with these.
-/// Returns the greatest status.
+/// Prints for each word a line for each address that it names: the row for the address, or
+/// `refused` and the name of the error; one line with `no address` where it names none. Where there
+/// are several words, or a word names several addresses, each line begins with its word, the
+/// address that this names, and a colon; in JSON each object begins with these. Returns the
+/// greatest status.
 pub fn print_words<W: Write>(
     alloc: Global,
     style: Style,
@@ -54,6 +59,7 @@ pub fn print_words<W: Write>(
     let mut status: u8 = 0;
     for word in words {
         let status_of_word = print_word(
+            alloc,
             style,
             several,
             word,
@@ -67,8 +73,9 @@ pub fn print_words<W: Write>(
     Ok(status)
 }
 
-/// Prints the line of a word. Without a context memory is refused.
+/// Prints the lines of a word.
 fn print_word<W: Write>(
+    alloc: Global,
     style: Style,
     has_several: bool,
     word: &str,
@@ -81,7 +88,122 @@ fn print_word<W: Write>(
     ensures { PrintsSome (λ line. IsWordLine style (file_view file.now) has_several word.now line)
         (W.contents output.old) (W.contents output.new) result }
 {
-    let target = target_address(file, word);
+    match target_addresses(alloc, file, word) {
+        Ok(addresses) => {
+            print_named(
+                style,
+                has_several,
+                word,
+                addresses.as_slice(),
+                file,
+                sections,
+                context,
+                output,
+            )
+        }
+        Err(error) => {
+            print_target(
+                style,
+                has_several,
+                word,
+                Err(error),
+                file,
+                sections,
+                context,
+                output,
+            )
+        }
+    }
+}
+
+/// Prints the lines of a word that names these addresses.
+fn print_named<W: Write>(
+    style: Style,
+    has_several: bool,
+    word: &str,
+    addresses: &[u64],
+    file: &ElfFile<'_>,
+    sections: &FrameSections<'_>,
+    context: &mut Option<UnwindContext<usize>>,
+    output: &mut W,
+) -> io::Result<u8>
+    requires { AreSectionsOf (file_view file.now) sections.now }
+    ensures { PrintsSome (λ line. AreAnswersIn style (file_view file.now) has_several word.now
+        (Ok addresses.now) line)
+        (W.contents output.old) (W.contents output.new) result }
+{
+    let several = several_lines(has_several, addresses);
+    if addresses.is_empty() {
+        return print_target(
+            style,
+            several,
+            word,
+            Ok(None),
+            file,
+            sections,
+            context,
+            output,
+        );
+    }
+    print_each(
+        style, several, word, addresses, file, sections, context, output,
+    )
+}
+
+/// Returns whether there are several lines: by several words, or by several addresses of this one.
+fn several_lines(has_several: bool, addresses: &[u64]) -> bool
+    ensures { result ≡ several_lines has_several (Ok addresses.now) }
+{
+    has_several || addresses.len() > 1
+}
+
+/// Prints a line for each of the addresses that a word names. Returns the greatest status.
+fn print_each<W: Write>(
+    style: Style,
+    has_several: bool,
+    word: &str,
+    addresses: &[u64],
+    file: &ElfFile<'_>,
+    sections: &FrameSections<'_>,
+    context: &mut Option<UnwindContext<usize>>,
+    output: &mut W,
+) -> io::Result<u8>
+    requires { AreSectionsOf (file_view file.now) sections.now }
+    ensures { PrintsSome (λ line. AreEach (IsAnswerAt style (file_view file.now) has_several
+        word.now) addresses.now line) (W.contents output.old) (W.contents output.new) result }
+{
+    let mut status: u8 = 0;
+    for address in addresses {
+        let status_of_address = print_target(
+            style,
+            has_several,
+            word,
+            Ok(Some(*address)),
+            file,
+            sections,
+            context,
+            output,
+        )?;
+        status = status.max(status_of_address);
+    }
+    Ok(status)
+}
+
+/// Prints the line of a word that names this. Without a context memory is refused.
+fn print_target<W: Write>(
+    style: Style,
+    has_several: bool,
+    word: &str,
+    target: Result<Option<u64>, ElfError>,
+    file: &ElfFile<'_>,
+    sections: &FrameSections<'_>,
+    context: &mut Option<UnwindContext<usize>>,
+    output: &mut W,
+) -> io::Result<u8>
+    requires { AreSectionsOf (file_view file.now) sections.now }
+    ensures { PrintsSome (λ line. IsAnswerTo style (file_view file.now) has_several word.now target
+        line) (W.contents output.old) (W.contents output.new) result }
+{
     let address = address_found(target);
     write_asked(output, style.format, has_several, word, address)?;
     print_answer(style, target, sections, context, output)
@@ -123,7 +245,19 @@ fn write_no_row_of<W: Write>(output: &mut W, format: Format, error: ElfError) ->
     ensures { Prints (no_row_of format error)
         (W.contents output.old) (W.contents output.new) result }
 {
-    write_reason_behind(output, format, b"refused ", error.name())
+    write_no_row_line(output, format, error)?;
+    Ok(1)
+}
+
+/// Writes that there is no row, for this error of the file.
+fn write_no_row_line<W: Write>(output: &mut W, format: Format, error: ElfError) -> io::Result<()>
+    ensures { Writes (W.contents output.old) (W.contents output.new) result
+        (no_row_of format error).text }
+{
+    match format {
+        Format::Text => write_elf_words(output, Format::Text, b"refused ", error, b"\n"),
+        Format::Json => write_elf_words(output, Format::Json, b"\"error\":\"", error, b"\"}\n"),
+    }
 }
 
 /// Prints that the file has no call frames, and returns the status 1.
@@ -189,7 +323,7 @@ fn print_eh_frame_row<W: Write>(
         return print_scanned_row(style, frames, debug_frame, address, context, output);
     };
     match frames.row(context, address) {
-        Ok(row) => write_answer_behind(output, style, Ok(row)),
+        Ok(row) => write_answer_behind(output, style, frames, Ok(row)),
         Err(_) => print_scanned_row(style, frames, debug_frame, address, context, output),
     }
 }
@@ -208,7 +342,7 @@ fn print_scanned_row<W: Write>(
         (W.contents output.old) (W.contents output.new) result }
 {
     match frames.row_by_scan(context, address) {
-        Ok(row) => write_answer_behind(output, style, Ok(row)),
+        Ok(row) => write_answer_behind(output, style, frames, Ok(row)),
         Err(error) => print_otherwise(style, debug_frame, error, address, context, output),
     }
 }
@@ -249,7 +383,7 @@ fn print_part_row<W: Write>(
     match part {
         Ok(frames) => {
             let row = frames.row_by_scan(context, address);
-            write_answer_behind(output, style, row)
+            write_answer_behind(output, style, &frames, row)
         }
         Err(error) => write_no_row_of(output, style.format, error),
     }

@@ -1,14 +1,15 @@
-//! The rows of a file: of each FDE, or of those that contain an address.
+//! The rows of a file: of each FDE, or of those that contain an address that a word names.
+ghost use Rattle.std.specs.Prelude.{Ok, Some};
 ghost use Rattle.cfi_elf.specs.ElfFiles.{file_view};
 ghost use Rattle.cfi_programs.specs.WriterOutput.{PrintsSome};
-ghost use Rattle.cfi_object.specs.Targets.{target_address};
+ghost use Rattle.cfi_programs.specs.DumpRowTexts.{given_addresses};
 ghost use Rattle.cfi_files.specs.FileOutputs.{AreFdeRows, AreNamedRows, AreNamesOf, AreRows};
 ghost use Rattle.cfi_files.specs.FileOutputs.{AreRowsAt};
 
 use crate::lines::{write_elf_refusal, write_no_address};
 use crate::sections::{SectionPrinted, print_sections};
 use cfi_elf::{ElfFile, FunctionNames};
-use cfi_object::target::target_address;
+use cfi_object::target::target_addresses;
 use cfi_programs::dump::{AskedRows, Printed};
 use cfi_programs::lines::write_refusal_in;
 use cfi_programs::style::Style;
@@ -18,9 +19,9 @@ use std::io;
 use std::io::Write;
 
 /// Prints the rows of each FDE, as `print_sections` does, each after the name of the function that
-/// begins there; where there is a word, of those that contain the address that it names. Prints
-/// `no address` with the status 1 where the word names none, and `refused` and the name of the
-/// error where that can't be read.
+/// begins there; where there is a word, of those that contain an address that it names. Prints `no
+/// address` with the status 1 where the word names none, and `refused` and the name of the error
+/// where that can't be read.
 pub fn print_rows<W: Write>(
     alloc: Global,
     style: Style,
@@ -37,7 +38,7 @@ pub fn print_rows<W: Write>(
     }
 }
 
-/// Prints the rows of the FDEs that contain the address that the word names.
+/// Prints the rows of the FDEs that contain an address that the word names.
 fn print_rows_at<W: Write>(
     alloc: Global,
     style: Style,
@@ -45,52 +46,70 @@ fn print_rows_at<W: Write>(
     file: &ElfFile<'_>,
     output: &mut W,
 ) -> io::Result<u8>
-    ensures { PrintsSome (λ line. AreRowsAt style (file_view file.now)
-        (target_address (file_view file.now) word.now) line)
+    ensures { PrintsSome (λ line. AreRows style (file_view file.now) (Some word.entry) line)
         (W.contents output.old) (W.contents output.new) result }
 {
-    match target_address(file, word) {
-        Ok(Some(address)) => print_fde_rows(alloc, style, Some(address), file, output),
-        Ok(None) => write_no_address(output, style.format),
+    match target_addresses(alloc, file, word) {
+        Ok(addresses) => print_rows_of(alloc, style, addresses.as_slice(), file, output),
         Err(error) => write_elf_refusal(output, style.format, error),
     }
 }
 
-/// Prints the rows of each FDE, or of those that contain the address, each after the name of the
-/// function that begins there. Prints `refused OutOfMemory` with the status 1 where there is no
-/// memory for the names of functions.
-fn print_fde_rows<W: Write>(
+/// Prints the rows of the FDEs that contain one of the addresses.
+fn print_rows_of<W: Write>(
     alloc: Global,
     style: Style,
-    address: Option<u64>,
+    addresses: &[u64],
     file: &ElfFile<'_>,
     output: &mut W,
 ) -> io::Result<u8>
-    ensures { PrintsSome (λ line. AreFdeRows style (file_view file.now) address line)
+    ensures { PrintsSome (λ line. AreRowsAt style (file_view file.now) (Ok addresses.now) line)
+        (W.contents output.old) (W.contents output.new) result }
+{
+    if addresses.is_empty() {
+        write_no_address(output, style.format)
+    } else {
+        print_fde_rows(alloc, style, Some(addresses), file, output)
+    }
+}
+
+/// Prints the rows of each FDE, or of those that contain one of the addresses, each after the name
+/// of the function that begins there. Prints `refused OutOfMemory` with the status 1 where there is
+/// no memory for the names of functions.
+fn print_fde_rows<W: Write>(
+    alloc: Global,
+    style: Style,
+    addresses: Option<&[u64]>,
+    file: &ElfFile<'_>,
+    output: &mut W,
+) -> io::Result<u8>
+    ensures { PrintsSome (λ line. AreFdeRows style (file_view file.now)
+        (given_addresses addresses.entry) line)
         (W.contents output.old) (W.contents output.new) result }
 {
     match FunctionNames::new(alloc, file) {
-        Ok(functions) => print_named_rows(alloc, style, address, &functions, file, output),
+        Ok(functions) => print_named_rows(alloc, style, addresses, &functions, file, output),
         Err(_) => write_refusal_in(output, style.format, Error::OutOfMemory),
     }
 }
 
-/// Prints the rows of each FDE, or of those that contain the address, each after the name of the
-/// function that begins there.
+/// Prints the rows of each FDE, or of those that contain one of the addresses, each after the name
+/// of the function that begins there.
 fn print_named_rows<W: Write>(
     alloc: Global,
     style: Style,
-    address: Option<u64>,
+    addresses: Option<&[u64]>,
     functions: &FunctionNames<'_>,
     file: &ElfFile<'_>,
     output: &mut W,
 ) -> io::Result<u8>
     requires { AreNamesOf (file_view file.now) functions.now }
-    ensures { PrintsSome (λ line. AreNamedRows style (file_view file.now) address line)
+    ensures { PrintsSome (λ line. AreNamedRows style (file_view file.now)
+        (given_addresses addresses.entry) line)
         (W.contents output.old) (W.contents output.new) result }
 {
     let asked = AskedRows {
-        address,
+        addresses,
         functions,
         format: style.format,
     };

@@ -9,7 +9,7 @@ ghost use Rattle.cfi_object.specs.FileParts.{IsEnoughOf};
 ghost use Rattle.cfi_files.specs.Findings.{ChecksSome};
 
 use crate::entries::print_entries;
-use crate::finding::{Finding, finding_without, write_found};
+use crate::finding::{Finding, finding_without, write_found, write_refused};
 use crate::lines::{write_elf_refusal, write_wrong_input};
 use crate::relocated::print_bytes;
 use crate::request::{Printed, Request};
@@ -196,7 +196,7 @@ fn check_image<W: Write>(image: Image<'_>, format: Format, output: &mut W) -> io
         Ok(file) => check_table(&file, format, output),
         Err(error) => {
             let finding = finding_without(error);
-            write_found(output, format, finding, "refused ", error.name())
+            write_refused(output, format, finding, error)
         }
     }
 }

@@ -5,7 +5,7 @@ ghost use Rattle.cfi_files.specs.FileOutputs.{IsCheck, IsVerdictIn};
 ghost use Rattle.cfi_files.specs.Findings.{ChecksSome};
 ghost use Rattle.cfi_files.specs.Found.{eh_frame_in};
 
-use crate::finding::{Finding, finding_of, found, write_found};
+use crate::finding::{Finding, finding_of, found, write_found, write_refused};
 use crate::sections::eh_frame_part;
 use cfi_elf::ElfFile;
 use cfi_programs::check::output_line::write_verdict;
@@ -29,9 +29,7 @@ pub fn check_table<W: Write>(
     match eh_frame_part(file) {
         None => write_found(output, format, Finding::NoTable, "no call frames", ""),
         Some(Ok(frames)) => check_frames(&frames, format, output),
-        Some(Err(error)) => {
-            write_found(output, format, Finding::NoTable, "refused ", error.name())
-        }
+        Some(Err(error)) => write_refused(output, format, Finding::NoTable, error),
     }
 }
 

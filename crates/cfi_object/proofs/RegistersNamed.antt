@@ -1,7 +1,7 @@
 -- Names of registers, by computation: the first and the last of a block, and a number that has no name.
 use Rattle.std.proofs.Common.{◌≡◌, [], ◌∷◌, map, refl, codes}
 use Rattle.cfi_object.specs.RegisterNames.{register_text}
-use Rattle.cfi_object.specs.declared.register_names.RegisterNames.TheVariants.{Numbers, X86_64, I386, AArch64, Arm, RiscV, S390x, PowerPc64}
+use Rattle.cfi_object.specs.declared.register_names.RegisterNames.TheVariants.{Numbers, X86_64, I386, AArch64, Arm, RiscV, S390x, PowerPc64, Mips, Sparc, M68k}
 use Rattle.std.specs.Fmt.{digits}
 
 by_number : map (register_text Numbers) (0 ∷ 16 ∷ 65535 ∷ []) ≡ codes "r0" ∷ codes "r16" ∷ codes "r65535" ∷ []
@@ -39,3 +39,18 @@ on_powerpc64 : map (register_text PowerPc64) (31 ∷ 32 ∷ 63 ∷ 64 ∷ 65 ∷
     ≡ codes "r31" ∷ codes "f0" ∷ codes "f31" ∷ codes "r64" ∷ codes "lr" ∷ codes "ctr" ∷ codes "r67" ∷ codes "cr0" ∷ codes "cr7" ∷ codes "v0" ∷ codes "v31" ∷ codes "r109" ∷ []
 unfolding digits
 on_powerpc64 = refl
+
+on_mips : map (register_text Mips) (0 ∷ 7 ∷ 8 ∷ 15 ∷ 16 ∷ 23 ∷ 24 ∷ 29 ∷ 31 ∷ 32 ∷ 63 ∷ 65 ∷ 66 ∷ [])
+    ≡ codes "zero" ∷ codes "a3" ∷ codes "r8" ∷ codes "r15" ∷ codes "s0" ∷ codes "s7" ∷ codes "t8" ∷ codes "sp" ∷ codes "ra" ∷ codes "f0" ∷ codes "f31" ∷ codes "lo" ∷ codes "r66" ∷ []
+unfolding digits
+on_mips = refl
+
+on_sparc : map (register_text Sparc) (0 ∷ 7 ∷ 8 ∷ 15 ∷ 16 ∷ 24 ∷ 31 ∷ 32 ∷ 63 ∷ 64 ∷ [])
+    ≡ codes "g0" ∷ codes "g7" ∷ codes "o0" ∷ codes "o7" ∷ codes "l0" ∷ codes "i0" ∷ codes "i7" ∷ codes "f0" ∷ codes "f31" ∷ codes "r64" ∷ []
+unfolding digits
+on_sparc = refl
+
+on_m68k : map (register_text M68k) (0 ∷ 7 ∷ 8 ∷ 15 ∷ 16 ∷ 23 ∷ 24 ∷ 25 ∷ [])
+    ≡ codes "d0" ∷ codes "d7" ∷ codes "a0" ∷ codes "a7" ∷ codes "fp0" ∷ codes "fp7" ∷ codes "pc" ∷ codes "r25" ∷ []
+unfolding digits
+on_m68k = refl

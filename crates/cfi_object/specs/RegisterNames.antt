@@ -1,6 +1,8 @@
 -- The names of registers, by the tables of DWARF register numbers in the ABIs of the machines: the
 -- System V psABIs of x86-64 and of the Intel386, DWARF for the Arm 64-bit Architecture, DWARF for
--- the Arm Architecture, the RISC-V psABI, the s390x psABI, and the 64-bit ELF V2 ABI of Power.
+-- the Arm Architecture, the RISC-V psABI, the s390x psABI, and the 64-bit ELF V2 ABI of Power; for
+-- MIPS, SPARC and m68k by the numbers of their ABIs' registers, which GCC's and elfutils' tables
+-- have.
 --     register_text names number      the name of the register with a DWARF number; r and the
 --         number where it has none
 use Rattle.std.specs.Prelude.{ℕ, ◌+◌, ◌-◌, ◌&&◌, List, [], ◌∷◌, ◌++◌, Option, Some, None, get_or}
@@ -10,7 +12,8 @@ use Rattle.cfi_object.specs.declared.register_names.RegisterNames.{RegisterNames
 use Rattle.cfi_object.specs.declared.register_names.RegisterNames.TheVariants.{Numbers, X86_64}
 use Rattle.cfi_object.specs.declared.register_names.RegisterNames.TheVariants.{I386, AArch64, Arm}
 use Rattle.cfi_object.specs.declared.register_names.RegisterNames.TheVariants.{RiscV, S390x}
-use Rattle.cfi_object.specs.declared.register_names.RegisterNames.TheVariants.{PowerPc64}
+use Rattle.cfi_object.specs.declared.register_names.RegisterNames.TheVariants.{PowerPc64, Mips}
+use Rattle.cfi_object.specs.declared.register_names.RegisterNames.TheVariants.{Sparc, M68k}
 use Rattle.cfi_object.specs.declared.register_names.RegisterName.{RegisterName}
 
 -- ---- blocks of a table, each before the others
@@ -72,6 +75,33 @@ powerpc64 n =
     (counted 68 8 (codes "cr") (counted 77 32 (codes "v") numbered)))
     n
 
+-- 8 to 15 have other names in each ABI: t0 to t7, or a4 to a7 and t0 to t3
+abbrev pub mips : ℕ → List ℕ
+mips n =
+    named 0
+    (codes "zero" ∷ codes "at" ∷ codes "v0" ∷ codes "v1" ∷ codes "a0" ∷ codes "a1" ∷ codes "a2"
+    ∷ codes "a3" ∷ [])
+    (counted 16 8 (codes "s")
+    (named 24
+    (codes "t8" ∷ codes "t9" ∷ codes "k0" ∷ codes "k1" ∷ codes "gp" ∷ codes "sp" ∷ codes "s8"
+    ∷ codes "ra" ∷ [])
+    (counted 32 32 (codes "f") (named 64 (codes "hi" ∷ codes "lo" ∷ []) numbered))))
+    n
+
+abbrev pub sparc : ℕ → List ℕ
+sparc n =
+    counted 0 8 (codes "g")
+    (counted 8 8 (codes "o")
+    (counted 16 8 (codes "l") (counted 24 8 (codes "i") (counted 32 32 (codes "f") numbered))))
+    n
+
+abbrev pub m68k : ℕ → List ℕ
+m68k n =
+    counted 0 8 (codes "d")
+    (counted 8 8 (codes "a")
+    (counted 16 8 (codes "fp") (named 24 (codes "pc" ∷ []) numbered)))
+    n
+
 abbrev pub register_text : RegisterNames → ℕ → List ℕ
 register_text Numbers n = numbered n
 register_text X86_64 n = x86_64 n
@@ -81,6 +111,9 @@ register_text Arm n = arm n
 register_text RiscV n = riscv n
 register_text S390x n = s390x n
 register_text PowerPc64 n = powerpc64 n
+register_text Mips n = mips n
+register_text Sparc n = sparc n
+register_text M68k n = m68k n
 
 -- ---- a name of the code: a text, and a number behind it
 

@@ -1,15 +1,20 @@
--- The address that a word names in an ELF file.
---     target_address file word      a number; the name of a symbol or a section; or such a name, a
+-- The addresses that a word names in an ELF file.
+--     target_addresses file word      a number; the name of symbols or a section; or such a name, a
 --         plus sign and a number. Behind the name of a symbol may stand an @ and its version
-use Rattle.std.specs.Prelude.{ℕ, ◌+◌, Bool, List, length, Option, Some, None, Result, Ok, ◌==◌}
-use Rattle.std.specs.Prelude.{if◌then◌else◌}
-use Rattle.std.specs.List.{after_first, before_first, position_or_len}
+use Rattle.std.specs.Prelude.{◌≡◌, ◌⊎◌, ℕ, ◌+◌, Bool, List, [], ◌∷◌, length, Option, Some, None}
+use Rattle.std.specs.Prelude.{Result, Ok, Err, ◌==◌, if◌then◌else◌}
+use Rattle.std.specs.List.{after_first, before_first, filter_map, position_or_len}
 use Rattle.cfi_elf.specs.declared.error.ElfError.{ElfError}
+use Rattle.cfi_elf.specs.declared.error.ElfError.TheVariants.{OutOfMemory}
 use Rattle.cfi_elf.specs.ElfFiles.{File}
 use Rattle.cfi_elf.specs.Sections.{section_address}
-use Rattle.cfi_elf.specs.SymbolTables.{symbol_address}
+use Rattle.cfi_elf.specs.SymbolAddresses.{symbol_addresses}
 use Rattle.cfi_object.specs.Numbers.{below_2_64, number}
-use Rattle.cfi_object.specs.CallFrames.{◌>>=◌, or_else}
+use Rattle.cfi_object.specs.CallFrames.{◌>>=◌}
+
+-- that an error is the one that is meant, or that memory for a list was refused
+abbrev pub IsOrNoMemory : Result (List ℕ) ElfError → ElfError → Type 0
+IsOrNoMemory meant e = (e ≡ OutOfMemory) ⊎ (meant ≡ Err e)
 
 -- + is 43
 abbrev pub is_plus : ℕ → Bool
@@ -19,54 +24,70 @@ is_plus c = c == 43
 abbrev pub is_at : ℕ → Bool
 is_at c = c == 64
 
--- of the symbol of this name, or else of the section
-unfoldable pub symbol_or_section : File → List ℕ → Result (Option ℕ) ElfError
-symbol_or_section file name = do
-  address ← symbol_address file name
-  or_else address (section_address file name)
+-- those that were found, or others where there are none
+abbrev pub or_others : List ℕ → Result (List ℕ) ElfError → Result (List ℕ) ElfError
+or_others found others = if length found == 0 then others else Ok found
+
+-- of the section of this name
+abbrev pub listed : Option ℕ → List ℕ
+listed None = []
+listed (Some address) = address ∷ []
+
+unfoldable pub section_addresses : File → List ℕ → Result (List ℕ) ElfError
+section_addresses file name = do
+  address ← section_address file name
+  Ok (listed address)
+
+-- of the symbols of this name, or else of the section
+unfoldable pub symbols_or_section : File → List ℕ → Result (List ℕ) ElfError
+symbols_or_section file name = do
+  found ← symbol_addresses file name
+  or_others found (section_addresses file name)
 
 -- nothing is meant by the empty name
-abbrev pub symbol_named : File → List ℕ → Result (Option ℕ) ElfError
-symbol_named file name = if length name == 0 then Ok None else symbol_address file name
+abbrev pub symbols_named : File → List ℕ → Result (List ℕ) ElfError
+symbols_named file name = if length name == 0 then Ok [] else symbol_addresses file name
 
--- of the symbol whose name stands before the first @, as nm(1) prints a symbol and its version: no
+-- of the symbols whose name stands before the first @, as nm(1) prints a symbol and its version: no
 -- version is compared
-abbrev pub without_version : File → List ℕ → Result (Option ℕ) ElfError
+abbrev pub without_version : File → List ℕ → Result (List ℕ) ElfError
 without_version file name =
     if position_or_len is_at name == length name
-    then Ok None
-    else symbol_named file (before_first is_at name)
+    then Ok []
+    else symbols_named file (before_first is_at name)
 
--- of what has the whole name, or else of the symbol without the version
-unfoldable pub with_version_or_not : File → List ℕ → Result (Option ℕ) ElfError
+-- of what has the whole name, or else of the symbols without the version
+unfoldable pub with_version_or_not : File → List ℕ → Result (List ℕ) ElfError
 with_version_or_not file name = do
-  address ← symbol_or_section file name
-  or_else address (without_version file name)
+  found ← symbols_or_section file name
+  or_others found (without_version file name)
 
-abbrev pub address_named : File → List ℕ → Result (Option ℕ) ElfError
-address_named file name = if length name == 0 then Ok None else with_version_or_not file name
+abbrev pub addresses_named : File → List ℕ → Result (List ℕ) ElfError
+addresses_named file name = if length name == 0 then Ok [] else with_version_or_not file name
 
-abbrev pub sum_of : Option ℕ → Option ℕ → Option ℕ
-sum_of (Some address) (Some count) = below_2_64 (address + count)
-sum_of (Some address) None = None
-sum_of None count = None
+-- so many bytes behind each, where that is an address
+abbrev pub moved : ℕ → List ℕ → List ℕ
+moved count addresses = filter_map (λ address. below_2_64 (address + count)) addresses
 
--- so many bytes behind it
-unfoldable pub behind_name : File → List ℕ → Option ℕ → Result (Option ℕ) ElfError
+abbrev pub moved_by : Option ℕ → List ℕ → List ℕ
+moved_by None addresses = []
+moved_by (Some count) addresses = moved count addresses
+
+unfoldable pub behind_name : File → List ℕ → Option ℕ → Result (List ℕ) ElfError
 behind_name file name count = do
-  address ← address_named file name
-  Ok (sum_of address count)
+  addresses ← addresses_named file name
+  Ok (moved_by count addresses)
 
 -- the first plus sign ends the name
-abbrev pub address_by_name : File → List ℕ → Result (Option ℕ) ElfError
-address_by_name file word =
+abbrev pub addresses_by_name : File → List ℕ → Result (List ℕ) ElfError
+addresses_by_name file word =
     if position_or_len is_plus word == length word
-    then address_named file word
+    then addresses_named file word
     else behind_name file (before_first is_plus word) (number (after_first is_plus word))
 
-abbrev pub number_or_name : File → List ℕ → Option ℕ → Result (Option ℕ) ElfError
-number_or_name file word (Some address) = Ok (Some address)
-number_or_name file word None = address_by_name file word
+abbrev pub number_or_name : File → List ℕ → Option ℕ → Result (List ℕ) ElfError
+number_or_name file word (Some address) = Ok (address ∷ [])
+number_or_name file word None = addresses_by_name file word
 
-abbrev pub target_address : File → List ℕ → Result (Option ℕ) ElfError
-target_address file word = number_or_name file word (number word)
+abbrev pub target_addresses : File → List ℕ → Result (List ℕ) ElfError
+target_addresses file word = number_or_name file word (number word)

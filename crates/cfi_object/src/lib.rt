@@ -18,4 +18,4 @@ pub use machine_names::names_in;
 pub use numbers::number_in;
 pub use parts::{FileParts, read_parts, read_whole};
 pub use register_names::RegisterNames;
-pub use target::target_address;
+pub use target::target_addresses;

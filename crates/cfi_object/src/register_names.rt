@@ -1,7 +1,8 @@
 //! The names of registers, by the machine.
 ghost use Rattle.std.specs.Prelude.{◌≡◌, ◌++◌, Some};
-ghost use Rattle.cfi_object.specs.RegisterNames.{aarch64, arm, i386, name_text, powerpc64, riscv};
-ghost use Rattle.cfi_object.specs.RegisterNames.{register_text, s390x, x86_64};
+ghost use Rattle.cfi_object.specs.RegisterNames.{aarch64, arm, i386, m68k, mips, name_text};
+ghost use Rattle.cfi_object.specs.RegisterNames.{powerpc64, register_text, riscv, s390x, sparc};
+ghost use Rattle.cfi_object.specs.RegisterNames.{x86_64};
 ghost use Rattle.std.specs.Fmt.{decimal};
 
 use std::fmt;
@@ -26,6 +27,12 @@ pub enum RegisterNames {
     S390x,
     /// By the 64-bit ELF V2 ABI of Power.
     PowerPc64,
+    /// By the psABI of MIPS; registers 8 to 15, whose names differ between its ABIs, by number.
+    Mips,
+    /// By the System V psABI of SPARC.
+    Sparc,
+    /// By the psABI of the Motorola 68000.
+    M68k,
 }
 
 /// The name of a register: a text, and a number behind it where there is one.
@@ -64,6 +71,9 @@ impl RegisterNames {
             RegisterNames::RiscV => riscv(register),
             RegisterNames::S390x => s390x(register),
             RegisterNames::PowerPc64 => powerpc64(register),
+            RegisterNames::Mips => mips(register),
+            RegisterNames::Sparc => sparc(register),
+            RegisterNames::M68k => m68k(register),
         }
     }
 }
@@ -195,6 +205,62 @@ fn powerpc64(register: u16) -> RegisterName
         66 => alone("ctr"),
         68..=75 => counted("cr", register - 68),
         77..=108 => counted("v", register - 77),
+        _ => counted("r", register),
+    }
+}
+
+/// Returns the name of a register of MIPS.
+fn mips(register: u16) -> RegisterName
+    ensures { name_text result ≡ mips register }
+{
+    match register {
+        0 => alone("zero"),
+        1 => alone("at"),
+        2 => alone("v0"),
+        3 => alone("v1"),
+        4 => alone("a0"),
+        5 => alone("a1"),
+        6 => alone("a2"),
+        7 => alone("a3"),
+        16..=23 => counted("s", register - 16),
+        24 => alone("t8"),
+        25 => alone("t9"),
+        26 => alone("k0"),
+        27 => alone("k1"),
+        28 => alone("gp"),
+        29 => alone("sp"),
+        30 => alone("s8"),
+        31 => alone("ra"),
+        32..=63 => counted("f", register - 32),
+        64 => alone("hi"),
+        65 => alone("lo"),
+        _ => counted("r", register),
+    }
+}
+
+/// Returns the name of a register of SPARC.
+fn sparc(register: u16) -> RegisterName
+    ensures { name_text result ≡ sparc register }
+{
+    match register {
+        0..=7 => counted("g", register),
+        8..=15 => counted("o", register - 8),
+        16..=23 => counted("l", register - 16),
+        24..=31 => counted("i", register - 24),
+        32..=63 => counted("f", register - 32),
+        _ => counted("r", register),
+    }
+}
+
+/// Returns the name of a register of the Motorola 68000.
+fn m68k(register: u16) -> RegisterName
+    ensures { name_text result ≡ m68k register }
+{
+    match register {
+        0..=7 => counted("d", register),
+        8..=15 => counted("a", register - 8),
+        16..=23 => counted("fp", register - 16),
+        24 => alone("pc"),
         _ => counted("r", register),
     }
 }

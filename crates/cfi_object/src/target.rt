@@ -1,103 +1,192 @@
-//! The address that a word names in an ELF file.
-ghost use Rattle.std.specs.Prelude.{◌≡◌};
+//! The addresses that a word names in an ELF file.
+ghost use Rattle.std.specs.Prelude.{◌≡◌, ◌∷◌, [], IfErr, IfOk, Ok};
+ghost use Rattle.cfi_elf.specs.declared.error.ElfError.TheVariants.{OutOfMemory};
 ghost use Rattle.cfi_elf.specs.ElfFiles.{file_view};
-ghost use Rattle.cfi_object.specs.Targets.{address_by_name, address_named, behind_name};
-ghost use Rattle.cfi_object.specs.Targets.{symbol_named, symbol_or_section, target_address};
+ghost use Rattle.cfi_object.specs.Targets.{IsOrNoMemory, addresses_by_name, addresses_named};
+ghost use Rattle.cfi_object.specs.Targets.{behind_name, moved, moved_by, section_addresses};
+ghost use Rattle.cfi_object.specs.Targets.{symbols_named, symbols_or_section, target_addresses};
 ghost use Rattle.cfi_object.specs.Targets.{with_version_or_not, without_version};
 
 use crate::number_in;
 use cfi_elf::{ElfError, ElfFile};
+use std::alloc::Global;
 
-/// The address that the word names: a number, as `crate::number_in` reads it; the name of a symbol,
-/// or where no symbol has it of a section; or such a name, a plus sign and a number of bytes behind
-/// what it names. Where neither a symbol nor a section has a name with an `@`, what stands before
-/// the first one is the name of the symbol: so `nm -D` prints a symbol with its version. No version
-/// is compared, so of several versions of a symbol the first is named.
+/// The addresses that the word names: a number, as `crate::number_in` reads it; the name of
+/// symbols, or where no symbol has it of a section; or such a name, a plus sign and a number of
+/// bytes behind what it names. Where neither a symbol nor a section has a name with an `@`, what
+/// stands before the first one is the name of symbols: so `nm -D` prints a symbol with its version.
+/// No version is compared. The addresses of symbols are in the order of the symbols, each once.
 ///
-/// Returns `None` where neither a symbol nor a section has the name, what is behind the plus sign
-/// is no number, or the sum is not below 2^64. The first plus sign ends the name.
+/// There are none where neither a symbol nor a section has the name, what is behind the plus sign
+/// is no number, or no sum is below 2^64. The first plus sign ends the name.
 ///
-/// Fails as `ElfFile::symbol_address` and `ElfFile::section_address`, unless the word is a number.
-/// Does not allocate.
-pub fn target_address(file: &ElfFile<'_>, word: &str) -> Result<Option<u64>, ElfError>
-    ensures { result ≡ target_address (file_view file.now) word.now }
+/// Fails as `ElfFile::symbol_addresses` and `ElfFile::section_address`, unless the word is a
+/// number; with `OutOfMemory`. Allocates the list.
+pub fn target_addresses(alloc: Global, file: &ElfFile<'_>, word: &str) -> Result<Vec<u64>, ElfError>
+    ensures ok { IfOk result (λ found. target_addresses (file_view file.now) word.now
+        ≡ Ok found.items) }
+    ensures err { IfErr result (λ e.
+        IsOrNoMemory (target_addresses (file_view file.now) word.now) e) }
 {
     match number_in(word) {
-        Some(address) => Ok(Some(address)),
-        None => address_by_name(file, word),
+        Some(address) => alone(alloc, address),
+        None => addresses_by_name(alloc, file, word),
     }
 }
 
-/// The address of what has a name, or behind it.
-fn address_by_name(file: &ElfFile<'_>, word: &str) -> Result<Option<u64>, ElfError>
-    ensures { result ≡ address_by_name (file_view file.now) word.now }
+/// The list of an address. Fails with `OutOfMemory`.
+fn alone(alloc: Global, address: u64) -> Result<Vec<u64>, ElfError>
+    ensures ok { IfOk result (λ found. found.items ≡ address ∷ []) }
+    ensures err { IfErr result (λ e. e ≡ OutOfMemory) }
+{
+    let mut addresses = Vec::new(alloc);
+    match addresses.push(address) {
+        Ok(()) => Ok(addresses),
+        Err(_) => Err(ElfError::OutOfMemory),
+    }
+}
+
+/// The addresses of what has a name, or behind it.
+fn addresses_by_name(alloc: Global, file: &ElfFile<'_>, word: &str) -> Result<Vec<u64>, ElfError>
+    ensures ok { IfOk result (λ found. addresses_by_name (file_view file.now) word.now
+        ≡ Ok found.items) }
+    ensures err { IfErr result (λ e.
+        IsOrNoMemory (addresses_by_name (file_view file.now) word.now) e) }
 {
     match word.split_once('+') {
-        Some((name, digits)) => behind_name(file, name, number_in(digits)),
-        None => address_named(file, word),
+        Some((name, digits)) => behind_name(alloc, file, name, number_in(digits)),
+        None => addresses_named(alloc, file, word),
     }
 }
 
-/// The address so many bytes behind what has this name.
+/// The addresses so many bytes behind what has this name.
 #[tactic(auto, unfolding(crate::specs::Targets::behind_name))]
-fn behind_name(file: &ElfFile<'_>, name: &str, count: Option<u64>) -> Result<Option<u64>, ElfError>
-    ensures { result ≡ behind_name (file_view file.now) name.now count }
+fn behind_name(
+    alloc: Global,
+    file: &ElfFile<'_>,
+    name: &str,
+    count: Option<u64>,
+) -> Result<Vec<u64>, ElfError>
+    ensures ok { IfOk result (λ found. behind_name (file_view file.now) name.now count
+        ≡ Ok found.items) }
+    ensures err { IfErr result (λ e.
+        IsOrNoMemory (behind_name (file_view file.now) name.now count) e) }
 {
-    match (address_named(file, name)?, count) {
-        (Some(address), Some(count)) => Ok(address.checked_add(count)),
-        _ => Ok(None),
+    let addresses = addresses_named(alloc, file, name)?;
+    moved_by(alloc, count, addresses.as_slice())
+}
+
+/// The addresses so many bytes behind these; none where there is no number. Fails with
+/// `OutOfMemory`.
+fn moved_by(alloc: Global, count: Option<u64>, addresses: &[u64]) -> Result<Vec<u64>, ElfError>
+    ensures ok { IfOk result (λ found. found.items ≡ moved_by count addresses.now) }
+    ensures err { IfErr result (λ e. e ≡ OutOfMemory) }
+{
+    match count {
+        Some(count) => moved(alloc, count, addresses),
+        None => Ok(Vec::new(alloc)),
     }
 }
 
-/// The address of the symbol or section of this name. Nothing is meant by the empty name, which the
-/// symbols of sections have.
-fn address_named(file: &ElfFile<'_>, name: &str) -> Result<Option<u64>, ElfError>
-    ensures { result ≡ address_named (file_view file.now) name.now }
+/// The addresses so many bytes behind these, where they are below 2^64. Fails with `OutOfMemory`.
+fn moved(alloc: Global, count: u64, addresses: &[u64]) -> Result<Vec<u64>, ElfError>
+    ensures ok { IfOk result (λ found. found.items ≡ moved count addresses.now) }
+    ensures err { IfErr result (λ e. e ≡ OutOfMemory) }
+{
+    let mut all = Vec::new(alloc);
+    for address in addresses {
+        if let Some(sum) = address.checked_add(count) {
+            if all.push(sum).is_err() {
+                return Err(ElfError::OutOfMemory);
+            }
+        }
+    }
+    Ok(all)
+}
+
+/// The addresses of the symbols or the section of this name. Nothing is meant by the empty name,
+/// which the symbols of sections have.
+fn addresses_named(alloc: Global, file: &ElfFile<'_>, name: &str) -> Result<Vec<u64>, ElfError>
+    ensures ok { IfOk result (λ found. addresses_named (file_view file.now) name.now
+        ≡ Ok found.items) }
+    ensures err { IfErr result (λ e.
+        IsOrNoMemory (addresses_named (file_view file.now) name.now) e) }
 {
     if name.is_empty() {
-        return Ok(None);
+        return Ok(Vec::new(alloc));
     }
-    with_version_or_not(file, name)
+    with_version_or_not(alloc, file, name)
 }
 
-/// The address of the symbol or section of this name, or else of the symbol without the version.
+/// The addresses of the symbols or the section of this name, or else of the symbols without the
+/// version.
 #[tactic(auto, unfolding(crate::specs::Targets::with_version_or_not))]
-fn with_version_or_not(file: &ElfFile<'_>, name: &str) -> Result<Option<u64>, ElfError>
-    ensures { result ≡ with_version_or_not (file_view file.now) name.now }
+fn with_version_or_not(alloc: Global, file: &ElfFile<'_>, name: &str) -> Result<Vec<u64>, ElfError>
+    ensures ok { IfOk result (λ found. with_version_or_not (file_view file.now) name.now
+        ≡ Ok found.items) }
+    ensures err { IfErr result (λ e.
+        IsOrNoMemory (with_version_or_not (file_view file.now) name.now) e) }
 {
-    match symbol_or_section(file, name.as_bytes())? {
-        Some(address) => Ok(Some(address)),
-        None => without_version(file, name),
+    let found = symbols_or_section(alloc, file, name.as_bytes())?;
+    if found.as_slice().is_empty() {
+        without_version(alloc, file, name)
+    } else {
+        Ok(found)
     }
 }
 
-/// The address of the symbol whose name stands before the first `@`.
-fn without_version(file: &ElfFile<'_>, name: &str) -> Result<Option<u64>, ElfError>
-    ensures { result ≡ without_version (file_view file.now) name.now }
+/// The addresses of the symbols whose name stands before the first `@`.
+fn without_version(alloc: Global, file: &ElfFile<'_>, name: &str) -> Result<Vec<u64>, ElfError>
+    ensures ok { IfOk result (λ found. without_version (file_view file.now) name.now
+        ≡ Ok found.items) }
+    ensures err { IfErr result (λ e.
+        IsOrNoMemory (without_version (file_view file.now) name.now) e) }
 {
     match name.split_once('@') {
-        Some((symbol, _)) => symbol_named(file, symbol),
-        None => Ok(None),
+        Some((symbol, _)) => symbols_named(alloc, file, symbol),
+        None => Ok(Vec::new(alloc)),
     }
 }
 
-/// The address of the symbol of this name, unless it is empty.
-fn symbol_named(file: &ElfFile<'_>, name: &str) -> Result<Option<u64>, ElfError>
-    ensures { result ≡ symbol_named (file_view file.now) name.now }
+/// The addresses of the symbols of this name, unless it is empty.
+fn symbols_named(alloc: Global, file: &ElfFile<'_>, name: &str) -> Result<Vec<u64>, ElfError>
+    ensures ok { IfOk result (λ found. symbols_named (file_view file.now) name.now
+        ≡ Ok found.items) }
+    ensures err { IfErr result (λ e.
+        IsOrNoMemory (symbols_named (file_view file.now) name.now) e) }
 {
     if name.is_empty() {
-        return Ok(None);
+        return Ok(Vec::new(alloc));
     }
-    file.symbol_address(name.as_bytes())
+    file.symbol_addresses(alloc, name.as_bytes())
 }
 
-/// The address of the symbol of this name, or else of the section.
-#[tactic(auto, unfolding(crate::specs::Targets::symbol_or_section))]
-fn symbol_or_section(file: &ElfFile<'_>, name: &[u8]) -> Result<Option<u64>, ElfError>
-    ensures { result ≡ symbol_or_section (file_view file.now) name.now }
+/// The addresses of the symbols of this name, or else of the section.
+#[tactic(auto, unfolding(crate::specs::Targets::symbols_or_section))]
+fn symbols_or_section(alloc: Global, file: &ElfFile<'_>, name: &[u8]) -> Result<Vec<u64>, ElfError>
+    ensures ok { IfOk result (λ found. symbols_or_section (file_view file.now) name.now
+        ≡ Ok found.items) }
+    ensures err { IfErr result (λ e.
+        IsOrNoMemory (symbols_or_section (file_view file.now) name.now) e) }
 {
-    match file.symbol_address(name)? {
-        Some(address) => Ok(Some(address)),
-        None => file.section_address(name),
+    let found = file.symbol_addresses(alloc, name)?;
+    if found.as_slice().is_empty() {
+        section_addresses(alloc, file, name)
+    } else {
+        Ok(found)
+    }
+}
+
+/// The address of the section of this name, alone in a list.
+#[tactic(auto, unfolding(crate::specs::Targets::section_addresses))]
+fn section_addresses(alloc: Global, file: &ElfFile<'_>, name: &[u8]) -> Result<Vec<u64>, ElfError>
+    ensures ok { IfOk result (λ found. section_addresses (file_view file.now) name.now
+        ≡ Ok found.items) }
+    ensures err { IfErr result (λ e.
+        IsOrNoMemory (section_addresses (file_view file.now) name.now) e) }
+{
+    match file.section_address(name)? {
+        Some(address) => alone(alloc, address),
+        None => Ok(Vec::new(alloc)),
     }
 }

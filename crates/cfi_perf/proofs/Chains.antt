@@ -2,7 +2,7 @@
 use Rattle.std.proofs.Common.{◌≡◌, Bool, true, false, Option, Some, None, Result, Ok, Err, ap, refl}
 use Rattle.std.specs.Prelude.{if◌then◌else◌}
 use Rattle.cfi_perf.specs.declared.error.PerfError.{PerfError}
-use Rattle.cfi_perf.specs.Results.{and_then, or_missing}
+use Rattle.cfi_perf.specs.Results.{and_then, or_error, or_missing}
 
 pub ok_then : {A B : Type 0} (x : A) (r : Result A PerfError) (next : A → Result B PerfError) → Ok x ≡ r → next x ≡ and_then r next
 ok_then x r next is = ap (λ r. and_then r next) is
@@ -29,3 +29,7 @@ not_refused false e r y is = (refl, is)
 pub not_missing : {A : Type 0} (e : PerfError) (o : Option A) (y : A) → or_missing e o ≡ Ok y → o ≡ Some y
 not_missing e (Some x) y is = cc
 not_missing e None y is = absurd (cc)
+
+pub not_error : {A E : Type 0} (e : PerfError) (r : Result A E) (y : A) → or_error e r ≡ Ok y → r ≡ Ok y
+not_error e (Ok x) y is = cc
+not_error e (Err other) y is = absurd (cc)

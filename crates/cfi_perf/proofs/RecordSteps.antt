@@ -19,7 +19,7 @@ some_part : (b : Bool) (xs ys : List ℕ) → (if b then Some xs else None) ≡ 
 some_part true xs ys is = refl
 some_part false xs ys is = absurd (cc)
 
-part_fits : (bytes : List ℕ) (offset size : ℕ) (found : List ℕ) → part bytes offset size ≡ Some found → offset + size ≤ length bytes
+pub part_fits : (bytes : List ℕ) (offset size : ℕ) (found : List ℕ) → part bytes offset size ≡ Some found → offset + size ≤ length bytes
 part_fits bytes offset size found is = leb-true _ _ (some_part (nat_le (offset + size) (length bytes)) (slice_range bytes offset (offset + size)) found is)
 
 after_trace : (behind others : List ℕ) (trace : Result ℕ PerfError) → and_then trace (λ size. if nat_lt (length behind) size then Err RecordCut else Ok (drop size behind)) ≡ Ok others → length others ≤ length behind
@@ -35,7 +35,7 @@ after_other : (b : Bool) (behind others : List ℕ) (trace : Result (List ℕ) P
 after_other true behind others trace h is = h is
 after_other false behind others trace h is = let same : behind ≡ others = cc in let count : length behind ≡ length others = ap length same in omega (arith, count)
 
-no_more_after : (big : Bool) (header : RecordHeader) (body behind others : List ℕ) → after_record big header body behind ≡ Ok others → length others ≤ length behind
+pub no_more_after : (big : Bool) (header : RecordHeader) (body behind others : List ℕ) → after_record big header body behind ≡ Ok others → length others ≤ length behind
 no_more_after big header body behind others is = after_other (header.kind == 71) behind others _ (after_trace behind others _) is
 
 -- what follows the record in a result, or else this
@@ -47,16 +47,16 @@ same_others : (header : RecordHeader) (body others : List ℕ) (found : Framed) 
 same_others header body others found is = ap (λ (r : Result Framed PerfError). length (others_of r others)) is
 
 -- the steps of a record, each with what the ones before gave
-abbrev with_others : RecordHeader → List ℕ → List ℕ → Result Framed PerfError
+abbrev pub with_others : RecordHeader → List ℕ → List ℕ → Result Framed PerfError
 with_others header body others = Ok (record { header = header; body = body; others = others })
 
-abbrev with_body : Bool → List ℕ → RecordHeader → List ℕ → Result Framed PerfError
+abbrev pub with_body : Bool → List ℕ → RecordHeader → List ℕ → Result Framed PerfError
 with_body big bytes header body = and_then (after_record big header body (drop header.size bytes)) (with_others header body)
 
-abbrev sized : Bool → List ℕ → RecordHeader → Result Framed PerfError
+abbrev pub sized : Bool → List ℕ → RecordHeader → Result Framed PerfError
 sized big bytes header = and_then (or_missing RecordCut (part bytes 8 (header.size - 8))) (with_body big bytes header)
 
-abbrev with_header : Bool → List ℕ → RecordHeader → Result Framed PerfError
+abbrev pub with_header : Bool → List ℕ → RecordHeader → Result Framed PerfError
 with_header big bytes header = if nat_lt header.size 8 then Err (RecordSize header.size) else sized big bytes header
 
 framed_fewer : (big : Bool) (bytes : List ℕ) (found : Framed) → split_record big bytes ≡ Ok found → length found.others < length bytes
@@ -81,7 +81,7 @@ same_behind : (first : Record) (others : List ℕ) (found : First) → ◌≡◌
 same_behind first others found is = ap (λ (r : Result First PerfError). length (behind_first r others)) is
 
 module _ (events : EventTable) (big : Bool) where
-  abbrev with_frame : Framed → Record → Result First PerfError
+  abbrev pub with_frame : Framed → Record → Result First PerfError
   with_frame frame first = Ok (record { first = first; others = frame.others })
 
   fewer : (bytes : List ℕ) (found : First) → first_record events big bytes ≡ Ok found → length found.others < length bytes
@@ -139,7 +139,7 @@ module _ (events : EventTable) (big : Bool) where
 
   -- ---- where the file ends before the records do
 
-  abbrev left : Bool → List ℕ → Records
+  abbrev pub left : Bool → List ℕ → Records
   left is_cut bytes = until_cut is_cut (records_of events big bytes)
 
   pub none_left : (is_cut : Bool) (bytes : List ℕ) → (length bytes == 0) ≡ true → is_cut ≡ false → left is_cut bytes ≡ no_records None

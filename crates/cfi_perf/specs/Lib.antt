@@ -10,3 +10,5 @@ pub mod Events
 pub mod Records
 pub mod Recordings
 pub mod Profiles
+pub mod Windows
+pub mod Indexes

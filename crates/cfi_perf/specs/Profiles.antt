@@ -1,7 +1,8 @@
 -- A profile, by its header (perf.data-file-format.txt).
 --     profile bytes      the profile of these bytes, or the first error
 --     profile_view p      what a `Profile` of the code is
-use Rattle.std.specs.Prelude.{ℕ, ◌+◌, ◌*◌, ◌/◌, Bool, ◌&&◌, List, [], codes, drop, length, take}
+use Rattle.std.specs.Prelude.{ℕ, ◌+◌, ◌-◌, ◌*◌, ◌/◌, Bool, ◌&&◌, List, [], codes, drop, length}
+use Rattle.std.specs.Prelude.{take}
 use Rattle.std.specs.Prelude.{Option, Some, None, Result, Ok, Err, count_ones, bit_and, nat_lt}
 use Rattle.std.specs.Prelude.{◌==◌, if◌then◌else◌}
 use Rattle.cfi_read_core.specs.declared.endianity.RunTimeEndian.{RunTimeEndian}
@@ -166,3 +167,7 @@ event_table p = record {
 abbrev pub profile_records : Profile → Records
 profile_records p =
     until_cut p.is_cut (records_of (event_table p) (is_big p.endian) p.records)
+
+-- where they are in the file
+abbrev pub records_place : Profile → ℕ
+records_place p = (length p.bytes - length p.behind) - length p.records

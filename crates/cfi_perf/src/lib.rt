@@ -9,6 +9,9 @@
 //! iterates over the records, `event_table` and `event_names` find the event of each, `record`,
 //! `sample` and `call_chain` have what a record says. `recording` says what all records together
 //! tell of the recording. Nothing is allocated or copied.
+//!
+//! Of a profile that is read by parts, `windows` reads each record by the bytes that the caller has
+//! of it, and `index` keeps where each is; only the index allocates.
 
 pub mod attribute;
 mod build_ids;
@@ -18,6 +21,7 @@ pub mod error;
 mod event_names;
 mod event_table;
 mod file_header;
+pub mod index;
 pub mod profile;
 pub mod record;
 mod record_fields;
@@ -25,12 +29,15 @@ pub mod recording;
 pub mod records;
 pub mod sample;
 mod sample_fields;
+pub mod windows;
 
 pub use attribute::EventLayout;
 pub use call_chain::{Addresses, CallChain};
 pub use error::PerfError;
+pub use index::{PlaceKind, RecordIndex, RecordPlace};
 pub use profile::Profile;
 pub use record::{Event, Fork, Lost, Mapping, Program, Record};
 pub use recording::{lacks_stacks, lost_in};
 pub use records::Records;
 pub use sample::{Sample, UserRegisters, UserState};
+pub use windows::RecordWalk;

@@ -1,5 +1,5 @@
 //! A profile, by its header (`perf.data-file-format.txt`).
-ghost use Rattle.std.specs.Prelude.{◌≡◌, option_map};
+ghost use Rattle.std.specs.Prelude.{◌≡◌, length, option_map};
 ghost use Rattle.cfi_read_core.specs.ByteOrder.{is_big};
 ghost use Rattle.cfi_read_core.specs.ReaderCalls.{map_ok};
 ghost use Rattle.cfi_perf.specs.EventTables.{table_view};
@@ -7,7 +7,9 @@ ghost use Rattle.cfi_perf.specs.Profiles.{architecture, build_ids, descriptions,
 ghost use Rattle.cfi_perf.specs.Profiles.{events_by};
 ghost use Rattle.cfi_perf.specs.Profiles.{feature_section, machine_by, profile, profile_records};
 ghost use Rattle.cfi_perf.specs.Profiles.{profile_view, section_view, text_in};
+ghost use Rattle.cfi_perf.specs.Profiles.{records_place};
 ghost use Rattle.cfi_perf.specs.Records.{records_left};
+ghost use Rattle.cfi_perf.specs.Windows.{bytes_left, place_in, records_in};
 
 use crate::attribute::{EventEntry, EventLayout, first_event, has_any};
 use crate::bytes::{before_zero, bytes_from, first_bytes, part, read_header_text};
@@ -16,6 +18,7 @@ use crate::event_names::event_name;
 use crate::event_table::{EventTable, ProfileEvent};
 use crate::file_header::{FileHeader, byte_order, file_header, read_file_section};
 use crate::records::Records;
+use crate::windows::RecordWalk;
 use cfi_read_core::{EndianSlice, Endianity, Reader, RunTimeEndian};
 
 /// The least size of an event: attributes that say which registers samples have
@@ -147,6 +150,19 @@ impl<'input> Profile<'input> {
         ensures { records_left result ≡ profile_records (profile_view self.now) }
     {
         Records::new(self.records, self.endian, self.event_table(), self.is_cut)
+    }
+
+    /// A walk over the records, for those who read the bytes of the file by parts. Only the header
+    /// is read, and what the other sections say of the events and of builds. Does not allocate.
+    pub fn walk(&self) -> RecordWalk<'input>
+        ensures records { records_in result (profile_view self.now).records
+            ≡ profile_records (profile_view self.now) }
+        ensures left { bytes_left result ≡ length (profile_view self.now).records }
+        ensures place { place_in result ≡ records_place (profile_view self.now) }
+    {
+        let end = self.bytes.len().saturating_sub(self.behind.len()) as u64;
+        let left = self.records.len() as u64;
+        RecordWalk::new(self.event_table(), self.endian, end, left, self.is_cut)
     }
 
     /// The events.

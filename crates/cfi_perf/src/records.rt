@@ -43,7 +43,7 @@ const PERF_RECORD_LOST_SAMPLES: u32 = 13;
 /// The first type of the records that perf itself writes.
 const PERF_RECORD_USER_TYPE_START: u32 = 64;
 
-const PERF_RECORD_AUXTRACE: u32 = 71;
+pub(crate) const PERF_RECORD_AUXTRACE: u32 = 71;
 
 const PERF_RECORD_COMPRESSED: u32 = 81;
 
@@ -191,7 +191,7 @@ pub(crate) struct WithoutId<'input> {
 
 /// Reads the first record of these bytes.
 #[tactic(auto, unfolding(crate::specs::Records::first_record))]
-fn first_record<'input>(
+pub(crate) fn first_record<'input>(
     events: &EventTable<'input>,
     endian: RunTimeEndian,
     bytes: &'input [u8],
@@ -233,7 +233,7 @@ pub(crate) fn split_record(endian: RunTimeEndian, bytes: &[u8]) -> Result<Framed
 
 /// Reads the type, the flags and the size of a record.
 #[tactic(auto, unfolding(crate::specs::Records::record_header))]
-fn read_record_header<R: Reader>(input: &mut R) -> cfi_read_core::Result<RecordHeader>
+pub(crate) fn read_record_header<R: Reader>(input: &mut R) -> cfi_read_core::Result<RecordHeader>
     ensures { ReadsValue R.position record_header input.old result input.new }
 {
     let kind = input.read_u32()?;
@@ -267,7 +267,7 @@ fn after_record<'input>(
 
 /// Reads what a record says, by its type.
 #[tactic(auto, unfolding(crate::specs::Records::record_of))]
-fn record_of<'input>(
+pub(crate) fn record_of<'input>(
     events: &EventTable<'input>,
     endian: RunTimeEndian,
     header: &RecordHeader,

@@ -6,6 +6,8 @@ pub mod Worked
 mod RegisterTables
 mod Unwinding
 mod WorkedSamples
+mod WorkedSymbols
 pub mod CodeLemmas
 pub mod ModuleLemmas
 pub mod FileLemmas
+mod SymbolLemmas

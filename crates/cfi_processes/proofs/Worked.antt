@@ -146,5 +146,5 @@ longer_note : is_build (1 ∷ 0 ∷ []) (1 ∷ 0 ∷ 0 ∷ []) ≡ false
 longer_note = refl
 
 -- a mapping whose build isn't known is of the file for which none is known
-unknown_build : is_same (record { name = codes "/a"; build_id = None }) (record { name = codes "/a"; build_id = Some (1 ∷ []) }) ≡ false
+unknown_build : is_same (record { name = codes "/a"; build_id = None; process = None }) (record { name = codes "/a"; build_id = Some (1 ∷ []); process = None }) ≡ false
 unknown_build = refl

@@ -8,6 +8,12 @@ pub mod SampleStacks
 pub mod Names
 pub mod ThreadNames
 pub mod Sites
+pub mod TextSymbols
+pub mod SortedSymbols
+pub mod KernelSymbols
+pub mod KernelNames
+pub mod CodeMaps
+pub mod CodeMapViews
 pub mod FileFunctions
 pub mod KnownFiles
 pub mod FileModules

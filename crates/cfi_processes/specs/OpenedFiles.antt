@@ -7,23 +7,30 @@
 --     AreOpened .. files opened      these files
 --     AreFilesOf opened files      what they are as files of a profile
 use Rattle.std.specs.Prelude.{◌≡◌, ◌⊎◌, ℕ, Bool, true, false, not, ◌&&◌, List, [], ◌∷◌, Option}
-use Rattle.std.specs.Prelude.{Some, None, IfSome, Vec, codes, nat_eq, option_map, if◌then◌else◌}
+use Rattle.std.specs.Prelude.{Some, None, IfSome, Vec, codes, drop, length, nat_eq, option_map}
+use Rattle.std.specs.Prelude.{string_bytes}
+use Rattle.std.specs.Prelude.{if◌then◌else◌}
 use Rattle.std.specs.List.{starts_with}
 use Rattle.std.specs.Option.{option_and_then}
 use Rattle.cfi_compiled.specs.CompiledTables.{TableContents, IsCompiled}
 use Rattle.cfi_entry.specs.Sections.{Section}
 use Rattle.cfi_processes.specs.declared.profile_files.OpenedFile.{OpenedFile}
+use Rattle.cfi_processes.specs.CodeMaps.{CodeMapText, map_name}
 use Rattle.cfi_processes.specs.FileFunctions.{Functions, functions_of}
+use Rattle.cfi_processes.specs.KernelNames.{KernelText}
+use Rattle.cfi_processes.specs.KernelSymbols.{is_kernel_name, kernel_image}
 use Rattle.cfi_processes.specs.KnownFiles.{KnownCode, KnownFile}
 use Rattle.cfi_processes.specs.Objects.{Object, has_table, object_of}
 use Rattle.cfi_processes.specs.Wanted.{FilePlace, Wanted, at_path, copy_of, debug_of, has_build}
-use Rattle.cfi_processes.specs.Wanted.{id_of}
+use Rattle.cfi_processes.specs.Wanted.{code_map, id_of, kernel_symbols}
 
 pub record Opened : Type 0 where
   pub name : List ℕ
   pub build_id : Option (List ℕ)
   pub bytes : Option (List ℕ)
   pub debug : Option (List ℕ)  -- of its debug file
+  pub process : Option ℕ
+  pub map_name : Option (List ℕ)  -- where its process tells functions
 
 abbrev pub bytes_view : {A : Type 0} → Option (Vec ℕ A) → Option (List ℕ)
 bytes_view bytes = option_map (λ read. read.items) bytes
@@ -34,11 +41,19 @@ opened_view opened = record {
   build_id = option_map (λ id. id.now) opened.build_id;
   bytes = bytes_view opened.bytes;
   debug = bytes_view opened.debug;
+  process = opened.process;
+  map_name = option_map string_bytes opened.map_name;
 }
 
 abbrev pub opened_as : Wanted → Option (List ℕ) → Option (List ℕ) → Opened
-opened_as file bytes debug =
-    record { name = file.name; build_id = file.build_id; bytes = bytes; debug = debug }
+opened_as file bytes debug = record {
+  name = file.name;
+  build_id = file.build_id;
+  bytes = bytes;
+  debug = debug;
+  process = file.process;
+  map_name = option_map map_name file.process;
+}
 
 abbrev pub begins_with : List ℕ → List ℕ → Bool
 begins_with front name = starts_with nat_eq name front
@@ -90,10 +105,19 @@ module _ {Handle : Type 0} (may_open : FilePlace → Option Handle → Type 0)
   IsFound name (Some build) bytes =
       (found : Option (List ℕ)) × IsBuild build (at_path name) found × IsOrCopy build found bytes
 
+  -- of the kernel, what it tells of its symbols; of memory, what its process tells of its code
+  abbrev pub IsToldBy : Option ℕ → Option (List ℕ) → Type 0
+  IsToldBy None bytes = bytes ≡ None
+  IsToldBy (Some pid) bytes = IsRead (code_map pid) bytes
+
+  abbrev pub IsTold : Bool → Option ℕ → Option (List ℕ) → Type 0
+  IsTold true process bytes = IsRead kernel_symbols bytes
+  IsTold false process bytes = IsToldBy process bytes
+
   -- files are opened where the name is one of a file
   abbrev pub IsContents : Wanted → Option (List ℕ) → Type 0
   IsContents file bytes =
-      ((is_file_name file.name ≡ false) × (bytes ≡ None))
+      ((is_file_name file.name ≡ false) × IsTold (is_kernel_name file.name) file.process bytes)
       ⊎ ((is_file_name file.name ≡ true) × IsFound file.name file.build_id bytes)
 
   -- of a build only a debug file of it
@@ -130,10 +154,26 @@ IsCodeOf (Some object) code =
 abbrev pub functions_in : Opened → Option Functions
 functions_in opened = option_and_then (λ bytes. functions_of bytes opened.debug) opened.bytes
 
+-- those of the kernel itself, with the symbol after which its mapping is named
+abbrev pub kernel_text : List ℕ → List ℕ → KernelText
+kernel_text name text = record { text = text; symbol = drop (length kernel_image) name }
+
+abbrev pub kernel_of : Opened → Option KernelText
+kernel_of opened =
+    if is_kernel_name opened.name then option_map (kernel_text opened.name) opened.bytes else None
+
+-- of memory the functions that its process tells
+abbrev pub map_by : Option (List ℕ) → List ℕ → Option CodeMapText
+map_by text name = option_map (λ text. record { name = name; text = text }) text
+
+abbrev pub map_of : Opened → Option CodeMapText
+map_of opened = option_and_then (map_by opened.bytes) opened.map_name
+
 abbrev pub IsFileOf : Opened → KnownFile → Type 0
 IsFileOf opened file =
     (file.name ≡ opened.name) × (file.build_id ≡ opened.build_id)
-    × (file.functions ≡ functions_in opened)
+    × (file.functions ≡ functions_in opened) × (file.kernel ≡ kernel_of opened)
+    × (file.process ≡ opened.process) × (file.code_map ≡ map_of opened)
     × IsCodeOf (option_and_then object_of opened.bytes) file.code
 
 abbrev pub AreFilesOf : List Opened → List KnownFile → Type 0

@@ -1,13 +1,16 @@
 -- What the records of a profile say of processes, one after the other.
 --     wanted_of records      the files that executable mappings are of, each once, in the order of
---         the records
+--         the records, and the kernel where samples have frames of it; memory that is no file's for
+--         each process
 --     after files event before      what is mapped in each process after a record
 --     replayed replay      what is mapped in each process, for a replay of the code
 --     named replay      the name of each thread, for a replay of the code
 --     files_of replay, loaded_in replay      its files, and its modules
 --     HasOwnModules replay      its modules are of its files
-use Rattle.std.specs.Prelude.{◌≡◌, ℕ, ◌+◌, ◌-◌, ◌^◌, Bool, ◌&&◌, List, [], ◌∷◌, ◌++◌, Option, Some}
-use Rattle.std.specs.Prelude.{None, fold, map, min, position, ⊤, if◌then◌else◌}
+use Rattle.std.specs.Prelude.{◌≡◌, ℕ, ◌+◌, ◌-◌, ◌^◌, Bool, true, false, not, ◌&&◌, ◌||◌}
+use Rattle.std.specs.Prelude.{List, [], ◌∷◌}
+use Rattle.std.specs.Prelude.{◌++◌, Option, Some, None, fold, map, min, position, ⊤}
+use Rattle.std.specs.Prelude.{if◌then◌else◌}
 use Rattle.std.specs.List.{list_any}
 use Rattle.std.specs.Str.{bytes_eq}
 use Rattle.cfi_read_core.specs.SliceReaders.{EndianSlice}
@@ -15,30 +18,54 @@ use Rattle.cfi_read_core.specs.declared.endianity.RunTimeEndian.{RunTimeEndian}
 use Rattle.cfi_step.specs.declared.module.LoadedModule.{LoadedModule}
 use Rattle.cfi_perf.specs.Events.{Event, Mapping, Record, ForkEvent, LostEvent, MappingEvent}
 use Rattle.cfi_perf.specs.Events.{OtherEvent, ProgramEvent, SampleEvent}
+use Rattle.cfi_perf.specs.Samples.{kernel_frames}
 use Rattle.cfi_processes.specs.declared.mappings.MappedCode.{MappedCode}
 use Rattle.cfi_processes.specs.declared.profile_files.ProfileFile.{ProfileFile}
 use Rattle.cfi_processes.specs.declared.replay.Replay.{Replay}
 use Rattle.cfi_processes.specs.Histories.{Change, executed, forked, mapped, mappings_after}
 use Rattle.cfi_processes.specs.FileModules.{AreOfFiles}
+use Rattle.cfi_processes.specs.CodeMaps.{is_memory_name}
+use Rattle.cfi_processes.specs.KernelSymbols.{is_kernel_name}
 use Rattle.cfi_processes.specs.KnownFiles.{KnownFile, known_view, modules_in}
 use Rattle.cfi_processes.specs.Modules.{module_view}
 use Rattle.cfi_processes.specs.Processes.{mappings_of}
 use Rattle.cfi_processes.specs.ThreadNames.{name_of}
-use Rattle.cfi_processes.specs.Wanted.{Wanted, is_same, same_id}
+use Rattle.cfi_processes.specs.Wanted.{Wanted, is_same, same_id, same_process}
 
 -- ---- the files
 
+-- the process that may make code there
+abbrev pub process_of : Mapping → Option ℕ
+process_of m = if is_memory_name m.name then Some m.pid else None
+
 -- the file that is mapped as code
 abbrev pub mapped_file : Mapping → Wanted
-mapped_file m = record { name = m.name; build_id = m.build_id }
+mapped_file m =
+    record { name = m.name; build_id = m.build_id; process = process_of m }
 
-abbrev pub code_file : Event → Option Wanted
-code_file (MappingEvent m) = if m.is_executable then Some (mapped_file m) else None
-code_file (ProgramEvent p) = None
-code_file (ForkEvent f) = None
-code_file (SampleEvent s) = None
-code_file (LostEvent l) = None
-code_file OtherEvent = None
+abbrev pub has_some : List ℕ → Bool
+has_some [] = false
+has_some (a ∷ addresses) = true
+
+abbrev pub has_kernel_frames : Event → Bool
+has_kernel_frames (SampleEvent s) = has_some (kernel_frames s)
+has_kernel_frames _ = false
+
+abbrev pub has_kernel : List Record → Bool
+has_kernel records = list_any (λ r. has_kernel_frames r.event) records
+
+-- the kernel itself only where samples have frames of it
+abbrev pub is_code_file : Bool → Mapping → Bool
+is_code_file in_kernel m = m.is_executable && (in_kernel || not (is_kernel_name m.name))
+
+abbrev pub code_file : Bool → Event → Option Wanted
+code_file in_kernel (MappingEvent m) =
+    if is_code_file in_kernel m then Some (mapped_file m) else None
+code_file in_kernel (ProgramEvent p) = None
+code_file in_kernel (ForkEvent f) = None
+code_file in_kernel (SampleEvent s) = None
+code_file in_kernel (LostEvent l) = None
+code_file in_kernel OtherEvent = None
 
 abbrev pub is_among : List Wanted → Wanted → Bool
 is_among files file = list_any (λ known. is_same known file) files
@@ -47,11 +74,17 @@ abbrev pub with_file : List Wanted → Option Wanted → List Wanted
 with_file files None = files
 with_file files (Some file) = if is_among files file then files else files ++ file ∷ []
 
+abbrev pub wanted_in : Bool → List Record → List Wanted
+wanted_in in_kernel records =
+    fold (λ files r. with_file files (code_file in_kernel r.event)) [] records
+
 abbrev pub wanted_of : List Record → List Wanted
-wanted_of records = fold (λ files r. with_file files (code_file r.event)) [] records
+wanted_of records = wanted_in (has_kernel records) records
 
 abbrev pub is_of : Mapping → KnownFile → Bool
-is_of m file = bytes_eq file.name m.name && same_id file.build_id m.build_id
+is_of m file =
+    bytes_eq file.name m.name && same_id file.build_id m.build_id
+    && same_process file.process (process_of m)
 
 -- which of the files is mapped; none where it isn't mapped as code
 abbrev pub object_of : List KnownFile → Mapping → Option ℕ

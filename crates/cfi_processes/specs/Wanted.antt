@@ -1,6 +1,6 @@
 -- Which files the mappings of a profile are of.
---     Wanted, wanted_view      a file by its name, and by its build if that is known; that of the
---         code
+--     Wanted, wanted_view      a file by its name, and by its build if that is known; or memory
+--         that is no file's by its name and its process; that of the code
 --     FilePlace      where a file is opened
 --     has_build build bytes      whether the file of these bytes is of the build
 use Rattle.std.specs.Prelude.{ℕ, Bool, true, false, ◌&&◌, List, drop, length, Option, Some, None}
@@ -17,10 +17,14 @@ use Rattle.cfi_processes.specs.Objects.{there}
 pub record Wanted : Type 0 where
   pub name : List ℕ
   pub build_id : Option (List ℕ)
+  pub process : Option ℕ
 
 abbrev pub wanted_view : WantedFile → Wanted
-wanted_view file =
-    record { name = file.name.now; build_id = option_map (λ id. id.now) file.build_id }
+wanted_view file = record {
+  name = file.name.now;
+  build_id = option_map (λ id. id.now) file.build_id;
+  process = file.process;
+}
 
 abbrev pub same_id : Option (List ℕ) → Option (List ℕ) → Bool
 same_id None None = true
@@ -28,14 +32,24 @@ same_id None (Some b) = false
 same_id (Some a) None = false
 same_id (Some a) (Some b) = bytes_eq a b
 
-abbrev pub is_same : Wanted → Wanted → Bool
-is_same a b = bytes_eq a.name b.name && same_id a.build_id b.build_id
+abbrev pub same_process : Option ℕ → Option ℕ → Bool
+same_process None None = true
+same_process None (Some b) = false
+same_process (Some a) None = false
+same_process (Some a) (Some b) = a == b
 
--- at a path, where the recorder keeps a copy of each build, or where debug files are
+abbrev pub is_same : Wanted → Wanted → Bool
+is_same a b =
+    bytes_eq a.name b.name && same_id a.build_id b.build_id && same_process a.process b.process
+
+-- at a path, where the recorder keeps a copy of each build, where debug files are, where the kernel
+-- tells its symbols, or where a process tells the functions of code that it made
 pub data FilePlace : Type 0 where
   at_path : List ℕ → FilePlace
   copy_of : List ℕ → FilePlace
   debug_of : List ℕ → FilePlace
+  kernel_symbols : FilePlace
+  code_map : ℕ → FilePlace
 
 -- ---- the build of a file
 

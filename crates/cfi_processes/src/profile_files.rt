@@ -1,31 +1,45 @@
 //! The files that a profile's mappings name.
 ghost use Rattle.std.specs.Prelude.{◌≡◌, Option, Some, IfOk, OnOk, map, option_map};
+ghost use Rattle.std.specs.Prelude.{string_bytes};
 ghost use Rattle.cfi_perf.specs.Events.{mapping_view, record_view};
 ghost use Rattle.cfi_processes.specs.FileFunctions.{functions_view};
+ghost use Rattle.cfi_perf.specs.CallChains.{addresses_left};
+ghost use Rattle.cfi_processes.specs.CodeMapViews.{map_view};
+ghost use Rattle.cfi_processes.specs.CodeMaps.{map_name};
+ghost use Rattle.cfi_processes.specs.KernelNames.{kernel_view};
 ghost use Rattle.cfi_processes.specs.KnownFiles.{code_view, known_view};
 ghost use Rattle.cfi_processes.specs.Objects.{object_of};
 ghost use Rattle.cfi_processes.specs.OpenedFiles.{AreFilesOf, AreOpened, IsBuild, IsBuildOf};
 ghost use Rattle.cfi_processes.specs.OpenedFiles.{IsCodeOf, IsContents, IsDebug, IsDebugOf};
 ghost use Rattle.cfi_processes.specs.OpenedFiles.{IsFileOf, IsFound, functions_in};
-ghost use Rattle.cfi_processes.specs.OpenedFiles.{IsReadOf, IsReading, bytes_view, if_built};
+ghost use Rattle.cfi_processes.specs.OpenedFiles.{IsReadOf, IsReading, IsTold, bytes_view};
+ghost use Rattle.cfi_processes.specs.OpenedFiles.{if_built, kernel_of, kernel_text, map_by, map_of};
 ghost use Rattle.cfi_processes.specs.OpenedFiles.{is_file_name, opened_view};
-ghost use Rattle.cfi_processes.specs.Replays.{code_file, is_among, is_of, wanted_of, with_file};
-ghost use Rattle.cfi_processes.specs.Wanted.{FilePlace, at_path, copy_of, debug_of, wanted_view};
+ghost use Rattle.cfi_processes.specs.Replays.{code_file, has_kernel, has_kernel_frames, has_some};
+ghost use Rattle.cfi_processes.specs.Replays.{is_among, is_code_file, is_of, wanted_in, wanted_of};
+ghost use Rattle.cfi_processes.specs.Replays.{process_of, with_file};
+ghost use Rattle.cfi_processes.specs.Wanted.{FilePlace, at_path, code_map, copy_of, debug_of};
+ghost use Rattle.cfi_processes.specs.Wanted.{kernel_symbols, wanted_view};
 
+use crate::code_map::{CodeMap, is_memory_name, map_name};
 use crate::file_code::FileCode;
 use crate::file_functions::FileFunctions;
+use crate::kernel_names::KernelNames;
+use crate::kernel_symbols::{KERNEL_IMAGE, is_kernel_name};
 use crate::names::Name;
 use crate::objects::Object;
-use crate::wanted::{WantedFile, has_build, id_of, same_id};
-use cfi_object::input::{InputError, read_all};
-use cfi_perf::{Event, Mapping, Record};
+use crate::wanted::{WantedFile, has_build, id_of, same_id, same_process};
+use cfi_elf::bytes::bytes_from;
+use cfi_object::input::{FileInput, InputError, read_all};
+use cfi_object::parts::read_whole;
+use cfi_perf::{Addresses, Event, Mapping, Record};
 use std::alloc::{AllocError, Global};
 use std::io::Read;
 
 /// Opens files by the names that a profile has for them.
 pub trait Opener {
     /// An open file.
-    type File: Read + Drop;
+    type File: FileInput + Read + Drop;
 
     /// What may be opened at a place; none where nothing can be opened.
     ghost may_open: { Self → FilePlace → Option Self.File → Type 0 };
@@ -48,6 +62,16 @@ pub trait Opener {
     fn open_debug(&self, build: &[u8]) -> Option<Self::File>
         ensures { may_open self.now (debug_of build.now) result };
 
+    /// Opens what the kernel tells of its symbols (`/proc/kallsyms`, proc(5)); `None` where it
+    /// can't be opened. Says nothing.
+    fn open_kernel_symbols(&self) -> Option<Self::File>
+        ensures { may_open self.now kernel_symbols result };
+
+    /// Opens what a process tells of the functions of code that it made (`/tmp/perf-PID.map`);
+    /// `None` where it can't be opened. Says nothing.
+    fn open_code_map(&self, process: u32) -> Option<Self::File>
+        ensures { may_open self.now (code_map process) result };
+
     /// Says that for the file with this name none of the build that ran was found.
     fn tell_missing(&self, name: &[u8]);
 
@@ -58,6 +82,9 @@ pub trait Opener {
     /// Says how many of the profile's records were lost, and how many of its samples. One of these
     /// numbers may be 0.
     fn tell_lost(&self, records: u64, samples: u64);
+
+    /// Of each file the bytes that it has left as a reader are those that it has by parts.
+    ghost same_bytes: { (file : Self.File) → Self.File.remaining file ≡ Self.File.bytes file };
 }
 
 /// A file of a profile, as it was opened.
@@ -68,11 +95,16 @@ pub struct OpenedFile<'run> {
     /// The identification of its build, if it is known.
     pub build_id: Option<&'run [u8]>,
     /// Its bytes; `None` where it can't be opened or read, or the name is none of a file; where the
-    /// build is known, also where no file of it was found.
+    /// build is known, also where no file of it was found. Of the kernel, what it tells of its
+    /// symbols; of memory of a process, what that tells of its code.
     pub bytes: Option<Vec<u8>>,
     /// The bytes of its debug file; `None` where it can't be opened or read, or is of another
     /// build.
     pub debug: Option<Vec<u8>>,
+    /// The process whose memory it is, where it is no file's.
+    pub process: Option<u32>,
+    /// The path of the file in which that process tells the functions of code that it made.
+    pub map_name: Option<String>,
 }
 
 /// A file of a profile: its name, and its functions and its code if it could be read.
@@ -86,20 +118,28 @@ pub struct ProfileFile<'run> {
     pub functions: Option<FileFunctions<'run>>,
     /// Its code; `None` where it can't be opened or read, is no ELF file, or has no `.eh_frame`.
     pub code: Option<FileCode<'run>>,
+    /// The symbols of the kernel that runs, if it is the kernel itself, and they can be read.
+    pub kernel: Option<KernelNames<'run>>,
+    /// The process whose memory it is, where it is no file's.
+    pub process: Option<u32>,
+    /// The functions of code that this process made, if they can be read.
+    pub code_map: Option<CodeMap<'run>>,
 }
 
 impl ProfileFile<'_> {
-    /// Returns whether this is the file that is mapped: it has its name, and its build if that is
-    /// known. Does not allocate.
+    /// Returns whether this is the file that is mapped: it has its name, its build if that is
+    /// known, and where it is memory its process. Does not allocate.
     pub fn is_of(&self, mapping: &Mapping<'_>) -> bool
         ensures { result ≡ is_of (mapping_view mapping.now) (known_view self.now) }
     {
-        self.name.bytes() == mapping.name && same_id(self.build_id, mapping.build_id)
+        self.name.bytes() == mapping.name
+            && same_id(self.build_id, mapping.build_id)
+            && same_process(self.process, process_of(mapping))
     }
 }
 
 /// The files that the executable mappings among the records are of, each once, in the order of the
-/// records. Fails where memory is refused.
+/// records; and the kernel, if samples have frames of it. Fails where memory is refused.
 pub fn mapped_files<'run>(
     alloc: Global,
     records: &[Record<'run>],
@@ -107,11 +147,48 @@ pub fn mapped_files<'run>(
     ensures { IfOk result (λ files. map wanted_view files.items
         ≡ wanted_of (map record_view records.now)) }
 {
+    mapped_in(alloc, has_kernel(records), records)
+}
+
+/// The same, where samples have frames of the kernel or none has.
+fn mapped_in<'run>(
+    alloc: Global,
+    in_kernel: bool,
+    records: &[Record<'run>],
+) -> Result<Vec<WantedFile<'run>>, AllocError>
+    ensures { IfOk result (λ files. map wanted_view files.items
+        ≡ wanted_in in_kernel (map record_view records.now)) }
+{
     let mut files = Vec::new(alloc);
     for record in records {
-        push_file(&mut files, code_file(record))?;
+        push_file(&mut files, code_file(in_kernel, record))?;
     }
     Ok(files)
+}
+
+/// Whether a sample has frames of the kernel.
+fn has_kernel(records: &[Record<'_>]) -> bool
+    ensures { result ≡ has_kernel (map record_view records.now) }
+{
+    records.iter().any(|record| has_kernel_frames(record))
+}
+
+/// Whether a record is a sample that has frames of the kernel.
+fn has_kernel_frames(item: &Record<'_>) -> bool
+    ensures { result ≡ has_kernel_frames (record_view item.now).event }
+{
+    match item.event {
+        Event::Sample(sample) => has_address(sample.kernel_frames()),
+        _ => false,
+    }
+}
+
+/// Whether a call chain has an address left.
+fn has_address(addresses: Addresses<'_>) -> bool
+    ensures { result ≡ has_some (addresses_left addresses.entry) }
+{
+    let mut addresses = addresses;
+    addresses.next().is_some()
 }
 
 /// Appends a file, unless it is there. Fails where memory is refused.
@@ -133,17 +210,37 @@ pub fn push_file<'run>(
     }
 }
 
-/// The file that a record says is mapped as code.
-fn code_file<'run>(item: &Record<'run>) -> Option<WantedFile<'run>>
-    ensures { option_map wanted_view result ≡ code_file (record_view item.now).event }
+/// The file that a record says is mapped as code; the kernel itself only if samples have frames of
+/// it.
+fn code_file<'run>(in_kernel: bool, item: &Record<'run>) -> Option<WantedFile<'run>>
+    ensures { option_map wanted_view result ≡ code_file in_kernel (record_view item.now).event }
 {
     match item.event {
-        Event::Mapping(mapping) if mapping.is_executable => Some(WantedFile {
+        Event::Mapping(mapping) if is_code_file(in_kernel, &mapping) => Some(WantedFile {
             name: mapping.name,
             build_id: mapping.build_id,
+            process: process_of(&mapping),
         }),
         _ => None,
     }
+}
+
+/// The process that may make code where this is mapped: its memory is no file's.
+fn process_of(mapping: &Mapping<'_>) -> Option<u32>
+    ensures { result ≡ process_of (mapping_view mapping.now) }
+{
+    if is_memory_name(mapping.name) {
+        Some(mapping.pid)
+    } else {
+        None
+    }
+}
+
+/// Whether a file is mapped as code that samples may have frames of.
+fn is_code_file(in_kernel: bool, mapping: &Mapping<'_>) -> bool
+    ensures { result ≡ is_code_file in_kernel (mapping_view mapping.now) }
+{
+    mapping.is_executable && (in_kernel || !is_kernel_name(mapping.name))
 }
 
 /// Whether the file is one of these.
@@ -168,14 +265,27 @@ pub fn read_files<'run, O: Opener>(
     for file in files {
         let bytes = read_file(alloc, opener, file)?;
         let debug = read_debug(alloc, opener, &bytes)?;
+        let map_name = map_name_of(alloc, file.process)?;
         opened.push(OpenedFile {
             name: file.name,
             build_id: file.build_id,
             bytes,
             debug,
+            process: file.process,
+            map_name,
         })?;
     }
     Ok(opened)
+}
+
+/// The path of the file in which a process tells the functions of code that it made.
+fn map_name_of(alloc: Global, process: Option<u32>) -> Result<Option<String>, AllocError>
+    ensures { IfOk result (λ name. option_map string_bytes name ≡ option_map map_name process) }
+{
+    match process {
+        Some(process) => Ok(Some(map_name(alloc, process)?)),
+        None => Ok(None),
+    }
 }
 
 /// Reads the debug file of a file of these bytes.
@@ -203,7 +313,7 @@ fn read_debug_of<O: Opener>(
         (option_map (λ build. build.now) build.entry) (bytes_view debug)) }
 {
     match build {
-        Some(build) => read_build(alloc, build, opener.open_debug(build)),
+        Some(build) => read_build::<O>(alloc, build, opener.open_debug(build)),
         None => Ok(None),
     }
 }
@@ -218,11 +328,30 @@ fn read_file<O: Opener>(
         (wanted_view file.now) (bytes_view bytes)) }
 {
     if !is_file_name(file.name) {
-        return Ok(None);
+        return read_told(alloc, opener, is_kernel_name(file.name), file.process);
     }
     match file.build_id {
         Some(build) => read_found(alloc, opener, file.name, build),
-        None => read_opened(alloc, opener.open(file.name)),
+        None => read_opened::<O>(alloc, opener.open(file.name)),
+    }
+}
+
+/// Reads what the kernel tells of its symbols, or a process of code that it made.
+fn read_told<O: Opener>(
+    alloc: Global,
+    opener: &O,
+    is_kernel: bool,
+    process: Option<u32>,
+) -> Result<Option<Vec<u8>>, AllocError>
+    ensures { IfOk result (λ bytes. IsTold (O.may_open opener.now) O.File.remaining
+        is_kernel process (bytes_view bytes)) }
+{
+    if is_kernel {
+        return read_text(alloc, opener.open_kernel_symbols());
+    }
+    match process {
+        Some(process) => read_text(alloc, opener.open_code_map(process)),
+        None => Ok(None),
     }
 }
 
@@ -236,7 +365,7 @@ fn read_found<O: Opener>(
     ensures { IfOk result (λ bytes. IsFound (O.may_open opener.now) O.File.remaining name.now
         (Some build.now) (bytes_view bytes)) }
 {
-    let found = read_build(alloc, build, opener.find(name))?;
+    let found = read_build::<O>(alloc, build, opener.find(name))?;
     match found {
         Some(bytes) => Ok(Some(bytes)),
         None => read_copy(alloc, opener, name, build),
@@ -253,7 +382,7 @@ fn read_copy<O: Opener>(
     ensures { IfOk result (λ bytes. IsBuild (O.may_open opener.now) O.File.remaining build.now
         (copy_of build.now) (bytes_view bytes)) }
 {
-    let bytes = read_build(alloc, build, opener.open_copy(build))?;
+    let bytes = read_build::<O>(alloc, build, opener.open_copy(build))?;
     if bytes.is_none() {
         opener.tell_missing(name);
     }
@@ -261,15 +390,15 @@ fn read_copy<O: Opener>(
 }
 
 /// Reads a file that was opened, if it is of the build.
-fn read_build<R: Read + Drop>(
+fn read_build<O: Opener>(
     alloc: Global,
     build: &[u8],
-    opened: Option<R>,
+    opened: Option<O::File>,
 ) -> Result<Option<Vec<u8>>, AllocError>
-    ensures { IfOk result (λ bytes. IsBuildOf R.remaining build.now opened
+    ensures { IfOk result (λ bytes. IsBuildOf O.File.remaining build.now opened
         (bytes_view bytes)) }
 {
-    let bytes = read_opened(alloc, opened)?;
+    let bytes = read_opened::<O>(alloc, opened)?;
     Ok(if_built(build, bytes))
 }
 
@@ -290,23 +419,48 @@ fn if_built(build: &[u8], bytes: Option<Vec<u8>>) -> Option<Vec<u8>>
 }
 
 /// Reads a file that was opened, if it was.
-fn read_opened<R: Read + Drop>(
+fn read_opened<O: Opener>(
+    alloc: Global,
+    opened: Option<O::File>,
+) -> Result<Option<Vec<u8>>, AllocError>
+    ensures { IfOk result (λ bytes. IsReadOf O.File.remaining opened (bytes_view bytes)) }
+{
+    match opened {
+        Some(mut file) => read_input(alloc, &mut file),
+        None => Ok(None),
+    }
+}
+
+/// Reads a text that was opened to its end, if it was. The system makes such texts up as they are
+/// read, so they have no length before.
+fn read_text<R: Read + Drop>(
     alloc: Global,
     opened: Option<R>,
 ) -> Result<Option<Vec<u8>>, AllocError>
     ensures { IfOk result (λ bytes. IsReadOf R.remaining opened (bytes_view bytes)) }
 {
     match opened {
-        Some(mut file) => read_whole(alloc, &mut file),
+        Some(mut text) => read_to_end(alloc, &mut text),
         None => Ok(None),
     }
 }
 
-/// Reads a file to its end; `None` where it can't be read.
-fn read_whole<R: Read>(alloc: Global, file: &mut R) -> Result<Option<Vec<u8>>, AllocError>
-    ensures { IfOk result (λ bytes. IsReading (R.remaining file.old) (bytes_view bytes)) }
+/// Reads a text to its end; `None` where it can't be read.
+fn read_to_end<R: Read>(alloc: Global, text: &mut R) -> Result<Option<Vec<u8>>, AllocError>
+    ensures { IfOk result (λ bytes. IsReading (R.remaining text.old) (bytes_view bytes)) }
 {
-    match read_all(alloc, file) {
+    match read_all(alloc, text) {
+        Ok(bytes) => Ok(Some(bytes)),
+        Err(InputError::OutOfMemory) => Err(AllocError),
+        Err(_) => Ok(None),
+    }
+}
+
+/// Reads all bytes of a file; `None` where it can't be read.
+fn read_input<I: FileInput>(alloc: Global, file: &mut I) -> Result<Option<Vec<u8>>, AllocError>
+    ensures { IfOk result (λ bytes. IsReading (I.bytes file.old) (bytes_view bytes)) }
+{
+    match read_whole(alloc, file) {
         Ok(bytes) => Ok(Some(bytes)),
         Err(InputError::OutOfMemory) => Err(AllocError),
         Err(_) => Ok(None),
@@ -353,12 +507,74 @@ fn profile_file<'opened>(
         Some(bytes) => code_of(alloc, bytes.as_slice())?,
         None => None,
     };
+    let kernel = kernel_of(alloc, opened)?;
+    let code_map = map_of(alloc, opened)?;
     Ok(ProfileFile {
         name: Name::new(opened.name),
         build_id: opened.build_id,
         functions,
         code,
+        kernel,
+        process: opened.process,
+        code_map,
     })
+}
+
+/// The functions of code that a process made, if this is its memory.
+fn map_of<'opened>(
+    alloc: Global,
+    opened: &'opened OpenedFile<'_>,
+) -> Result<Option<CodeMap<'opened>>, AllocError>
+    ensures { IfOk result (λ found. option_map map_view found ≡ map_of (opened_view opened.now)) }
+{
+    match &opened.map_name {
+        Some(name) => map_by(alloc, slice_of(&opened.bytes), name.as_bytes()),
+        None => Ok(None),
+    }
+}
+
+/// The functions that are told in a text with this path, if it could be read.
+fn map_by<'opened>(
+    alloc: Global,
+    text: Option<&'opened [u8]>,
+    name: &'opened [u8],
+) -> Result<Option<CodeMap<'opened>>, AllocError>
+    ensures { IfOk result (λ found. option_map map_view found
+        ≡ map_by (option_map (λ text. text.now) text.entry) name.entry.now) }
+{
+    match text {
+        Some(text) => Ok(Some(CodeMap::of(alloc, name, text)?)),
+        None => Ok(None),
+    }
+}
+
+/// The symbols of the kernel, if the file is the kernel itself.
+fn kernel_of<'opened>(
+    alloc: Global,
+    opened: &'opened OpenedFile<'_>,
+) -> Result<Option<KernelNames<'opened>>, AllocError>
+    ensures { IfOk result (λ names. option_map kernel_view names
+        ≡ kernel_of (opened_view opened.now)) }
+{
+    if !is_kernel_name(opened.name) {
+        return Ok(None);
+    }
+    match &opened.bytes {
+        Some(bytes) => Ok(Some(names_in(alloc, opened.name, bytes.as_slice())?)),
+        None => Ok(None),
+    }
+}
+
+/// The symbols of a text, with that after which the kernel's mapping is named.
+fn names_in<'opened>(
+    alloc: Global,
+    name: &'opened [u8],
+    text: &'opened [u8],
+) -> Result<KernelNames<'opened>, AllocError>
+    ensures { IfOk result (λ names. kernel_view names
+        ≡ kernel_text name.entry.now text.entry.now) }
+{
+    KernelNames::of(alloc, text, bytes_from(name, KERNEL_IMAGE.len() as u64))
 }
 
 /// The functions of a file that was opened.

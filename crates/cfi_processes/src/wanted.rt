@@ -2,26 +2,31 @@
 ghost use Rattle.std.specs.Prelude.{◌≡◌, ◌==◌, option_map};
 ghost use Rattle.std.specs.List.{list_all};
 ghost use Rattle.cfi_processes.specs.Wanted.{has_build, id_of, is_build, is_same, same_id};
-ghost use Rattle.cfi_processes.specs.Wanted.{wanted_view};
+ghost use Rattle.cfi_processes.specs.Wanted.{same_process, wanted_view};
 
 use cfi_elf::ElfFile;
 use cfi_elf::bytes::bytes_from;
 
-/// A file that a profile's mappings are of.
+/// A file that a profile's mappings are of, or memory of a process.
 #[derive(Clone, Copy, Debug)]
 pub struct WantedFile<'run> {
     /// The name, as the mappings have it.
     pub name: &'run [u8],
     /// The identification of its build, if it is known.
     pub build_id: Option<&'run [u8]>,
+    /// The process whose memory it is, where it is no file's.
+    pub process: Option<u32>,
 }
 
 impl WantedFile<'_> {
-    /// Returns whether both have the same name and the same build. Does not allocate.
+    /// Returns whether both have the same name, the same build and the same process. Does not
+    /// allocate.
     pub fn is_same(&self, other: &WantedFile<'_>) -> bool
         ensures { result ≡ is_same (wanted_view self.now) (wanted_view other.now) }
     {
-        self.name == other.name && same_id(self.build_id, other.build_id)
+        self.name == other.name
+            && same_id(self.build_id, other.build_id)
+            && same_process(self.process, other.process)
     }
 }
 
@@ -29,6 +34,19 @@ impl WantedFile<'_> {
 pub fn same_id(one: Option<&[u8]>, other: Option<&[u8]>) -> bool
     ensures { result ≡ same_id (option_map (λ id. id.now) one.entry)
         (option_map (λ id. id.now) other.entry) }
+{
+    match one {
+        Some(one) => match other {
+            Some(other) => one == other,
+            None => false,
+        },
+        None => other.is_none(),
+    }
+}
+
+/// Returns whether both are the same process, or both are none. Does not allocate.
+pub fn same_process(one: Option<u32>, other: Option<u32>) -> bool
+    ensures { result ≡ same_process one other }
 {
     match one {
         Some(one) => match other {

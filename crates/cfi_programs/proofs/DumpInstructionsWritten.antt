@@ -8,7 +8,7 @@ use Rattle.cfi_read_core.specs.declared.error.Error.{Error}
 use Rattle.cfi_read_core.specs.declared.instruction.CallFrameInstruction.TheVariants as variant
 use Rattle.cfi_parts.specs.Instructions.{Instruction}
 use Rattle.cfi_parts.specs.InstructionReaders.{items, refusal_item}
-use Rattle.cfi_object.specs.declared.register_names.RegisterNames.{RegisterNames}
+use Rattle.cfi_programs.specs.Wordings.{Wording}
 use Rattle.cfi_programs.specs.Lines.{refusal_in}
 use Rattle.cfi_programs.specs.ReadingTexts.{item_text, refusal_text}
 use Rattle.cfi_programs.specs.DumpInstructionLines.{instruction_line, instruction_lines, instructions_text, item_moved, moved}
@@ -50,55 +50,55 @@ same_item (Err e) = refl
 
 -- ---- the lines, item by item
 
-module _ (names : RegisterNames) (factor size : ℕ) where
+module _ (wording : Wording) (factor size : ℕ) where
   -- the lines of items from an address on
   abbrev item_lines : Option ℕ → List (Result Instruction Error) → List ℕ
   item_lines at [] = []
   item_lines at (item ∷ items) =
       let next = item_moved factor size at item in
-      item_text AsText (instruction_line names next) item ++ item_lines next items
+      item_text AsText (instruction_line wording next) item ++ item_lines next items
 
   refusal_lines : (at : Option ℕ) (refusal : Option Error) → refusal_text AsText refusal ≡ item_lines at (refusal_item refusal)
   refusal_lines at None = refl
   refusal_lines at (Some e) = sym (append-nil (refusal_in AsText e).text)
 
   item_by_item : (at : Option ℕ) (values : List Instruction) (refusal : Option Error) →
-      instruction_lines names factor size at values ++ refusal_text AsText refusal ≡ item_lines at (map Ok values ++ refusal_item refusal)
+      instruction_lines wording factor size at values ++ refusal_text AsText refusal ≡ item_lines at (map Ok values ++ refusal_item refusal)
   item_by_item at [] refusal = refusal_lines at refusal
   item_by_item at (i ∷ is) refusal =
       let next = moved factor size at i in
-      append_assoc (instruction_line names next i) (instruction_lines names factor size next is) (refusal_text AsText refusal)
-      ∙ ap (λ xs. instruction_line names next i ++ xs) (item_by_item next is refusal)
+      append_assoc (instruction_line wording next i) (instruction_lines wording factor size next is) (refusal_text AsText refusal)
+      ∙ ap (λ xs. instruction_line wording next i ++ xs) (item_by_item next is refusal)
 
-  by_items : (at : Option ℕ) (readings : Readings Instruction) → instructions_text names factor size at readings ≡ item_lines at (items readings)
+  by_items : (at : Option ℕ) (readings : Readings Instruction) → instructions_text wording factor size at readings ≡ item_lines at (items readings)
   unfolding instructions_text
   by_items at readings = item_by_item at readings.values readings.refusal
 
-  none_left : (at : Option ℕ) (before : Readings Instruction) → items before ≡ [] → instructions_text names factor size at before ≡ []
+  none_left : (at : Option ℕ) (before : Readings Instruction) → items before ≡ [] → instructions_text wording factor size at before ≡ []
   none_left at before is = by_items at before ∙ ap (item_lines at) is
 
   one_more : (at : Option ℕ) (before after : Readings Instruction) (item : Result Instruction Error) → items before ≡ item ∷ items after →
-      instructions_text names factor size at before
-      ≡ item_text AsText (instruction_line names (item_moved factor size at item)) item ++ instructions_text names factor size (item_moved factor size at item) after
+      instructions_text wording factor size at before
+      ≡ item_text AsText (instruction_line wording (item_moved factor size at item)) item ++ instructions_text wording factor size (item_moved factor size at item) after
   one_more at before after item is =
       by_items at before ∙ ap (item_lines at) is
-      ∙ ap (λ xs. item_text AsText (instruction_line names (item_moved factor size at item)) item ++ xs) (sym (by_items (item_moved factor size at item) after))
+      ∙ ap (λ xs. item_text AsText (instruction_line wording (item_moved factor size at item)) item ++ xs) (sym (by_items (item_moved factor size at item) after))
 
 -- ---- what is written
 
-module _ (names : RegisterNames) (factor size : ℕ) (at : Option ℕ) (before : Readings Instruction) (old now : Option (List ℕ)) (text : List ℕ) (given : IsGiven old now (instructions_text names factor size at before) text) where
+module _ (wording : Wording) (factor size : ℕ) (at : Option ℕ) (before : Readings Instruction) (old now : Option (List ℕ)) (text : List ℕ) (given : IsGiven old now (instructions_text wording factor size at before) text) where
   pub all_written : items before ≡ [] → Appends old now text
-  all_written is = given_all old now (instructions_text names factor size at before) text given (none_left names factor size at before is)
+  all_written is = given_all old now (instructions_text wording factor size at before) text given (none_left wording factor size at before is)
 
   pub to_write : (after : Readings Instruction) (item : Result Instruction Error) (next : Option ℕ) → next ≡ item_moved factor size at item
       → items before ≡ map_ok (map_instruction (λ (n : ℕ). n)) item ∷ items after
-      → IsGiven old now (item_text AsText (instruction_line names next) item ++ instructions_text names factor size next after) text
+      → IsGiven old now (item_text AsText (instruction_line wording next) item ++ instructions_text wording factor size next after) text
   to_write after item next moves is =
-      subst (λ (x : Option ℕ). IsGiven old now (item_text AsText (instruction_line names x) item ++ instructions_text names factor size x after) text) (sym moves)
-      (subst (λ xs. IsGiven old now xs text) (one_more names factor size at before after item (is ∙ ap (λ x. x ∷ items after) (same_item item))) given)
+      subst (λ (x : Option ℕ). IsGiven old now (item_text AsText (instruction_line wording x) item ++ instructions_text wording factor size x after) text) (sym moves)
+      (subst (λ xs. IsGiven old now xs text) (one_more wording factor size at before after item (is ∙ ap (λ x. x ∷ items after) (same_item item))) given)
 
 -- ---- those that are left are all
 
-module _ (names : RegisterNames) (factor size : ℕ) (at : Option ℕ) (left all : Readings Instruction) (is : left ≡ all) where
-  pub as_read : {T E : Type 0} (old new : Option (List ℕ)) (r : Result T E) → Writes old new r (instructions_text names factor size at left) → Writes old new r (instructions_text names factor size at all)
-  as_read old new r written = subst (λ x. Writes old new r (instructions_text names factor size at x)) is written
+module _ (wording : Wording) (factor size : ℕ) (at : Option ℕ) (left all : Readings Instruction) (is : left ≡ all) where
+  pub as_read : {T E : Type 0} (old new : Option (List ℕ)) (r : Result T E) → Writes old new r (instructions_text wording factor size at left) → Writes old new r (instructions_text wording factor size at all)
+  as_read old new r written = subst (λ x. Writes old new r (instructions_text wording factor size at x)) is written

@@ -6,11 +6,13 @@ use Rattle.cfi_read_core.specs.ReadFunctions.{Readings}
 use Rattle.cfi_parts.specs.Instructions.{Instruction}
 use Rattle.cfi_entry.specs.Fdes.{Fde}
 use Rattle.cfi_entry.specs.Sections.{Section}
+use Rattle.cfi_object.specs.declared.register_names.RegisterNames.{RegisterNames}
 use Rattle.cfi_object.specs.declared.register_names.RegisterNames.TheVariants.{Numbers, X86_64}
 use Rattle.cfi_programs.specs.DumpInstructionLines.{instruction_line, instructions_text, moved}
 use Rattle.cfi_programs.specs.DumpRowTexts.{addresses_line, fde_rows_text, is_asked_for}
 use Rattle.cfi_programs.specs.FunctionLines.{function_text}
-use Rattle.cfi_programs.specs.AnswerLines.{text_style}
+use Rattle.cfi_programs.specs.RowLines.{expression_text}
+use Rattle.cfi_programs.specs.Wordings.{Wording, text_style}
 use Rattle.cfi_programs.specs.declared.style.Format.TheVariants.{Text as AsText}
 use Rattle.cfi_programs.proofs.Computing.{computing}
 
@@ -38,30 +40,34 @@ module _ (fde : Fde) (section : Section) where
   any : is_asked_for None (of_addresses 0x1000 0x10) ≡ true
   any = refl
 
-  the_last : is_asked_for (Some 0x100f) (of_addresses 0x1000 0x10) ≡ true
+  the_last : is_asked_for (Some (0x2000 ∷ 0x100f ∷ [])) (of_addresses 0x1000 0x10) ≡ true
   the_last = refl
 
-  the_one_after : fde_rows_text (text_style X86_64) nameless (Some 0x1010) section (Ok (of_addresses 0x1000 0x10)) ≡ []
+  the_one_after : fde_rows_text (text_style X86_64) nameless (Some (0x1010 ∷ [])) section (Ok (of_addresses 0x1000 0x10)) ≡ []
   the_one_after = refl
 
-  unread : fde_rows_text (text_style X86_64) nameless (Some 0x1010) section (Err UnknownAugmentation) ≡ codes "refused UnknownAugmentation" ++ 10 ∷ []
+  unread : fde_rows_text (text_style X86_64) nameless (Some (0x1010 ∷ [])) section (Err UnknownAugmentation) ≡ codes "refused UnknownAugmentation" ++ 10 ∷ []
   unread = refl
 
 -- ---- instructions
 
-factored : instruction_line Numbers None (variant.Offset (record { 0 = 16 }) 1) ≡ codes "  DW_CFA_offset register=r16 factored_offset=1" ++ 10 ∷ []
+-- where an expression is said by its place
+abbrev plainly : RegisterNames → Wording
+plainly names = record { names = names; format = AsText; words = expression_text; bytes = λ e. [] }
+
+factored : instruction_line (plainly Numbers) None (variant.Offset (record { 0 = 16 }) 1) ≡ codes "  DW_CFA_offset register=r16 factored_offset=1" ++ 10 ∷ []
 unfolding computing
 factored = refl
 
-below : instruction_line Numbers None (variant.OffsetExtendedSf (record { 0 = 5 }) (negsuc 2)) ≡ codes "  DW_CFA_offset_extended_sf register=r5 factored_offset=-3" ++ 10 ∷ []
+below : instruction_line (plainly Numbers) None (variant.OffsetExtendedSf (record { 0 = 5 }) (negsuc 2)) ≡ codes "  DW_CFA_offset_extended_sf register=r5 factored_offset=-3" ++ 10 ∷ []
 unfolding computing
 below = refl
 
-two_registers : instruction_line X86_64 None (variant.Register (record { 0 = 5 }) (record { 0 = 6 })) ≡ codes "  DW_CFA_register dest_register=rdi src_register=rbp" ++ 10 ∷ []
+two_registers : instruction_line (plainly X86_64) None (variant.Register (record { 0 = 5 }) (record { 0 = 6 })) ≡ codes "  DW_CFA_register dest_register=rdi src_register=rbp" ++ 10 ∷ []
 unfolding computing
 two_registers = refl
 
-by_expression : instruction_line Numbers None (variant.Expression (record { 0 = 5 }) (record { offset = 77; length = 2 })) ≡ codes "  DW_CFA_expression register=r5 expression=expr@77:2" ++ 10 ∷ []
+by_expression : instruction_line (plainly Numbers) None (variant.Expression (record { 0 = 5 }) (record { offset = 77; length = 2 })) ≡ codes "  DW_CFA_expression register=r5 expression=expr@77:2" ++ 10 ∷ []
 unfolding computing
 by_expression = refl
 
@@ -69,11 +75,11 @@ by_expression = refl
 abbrev two_moves : Readings Instruction
 two_moves = record { values = variant.AdvanceLoc 1 ∷ variant.Nop ∷ variant.AdvanceLoc 2 ∷ []; refusal = None }
 
-moves : instructions_text Numbers 4 8 (Some 0x1000) two_moves ≡ codes "  DW_CFA_advance_loc delta=1 to=0x1004" ++ 10 ∷ codes "  DW_CFA_nop" ++ 10 ∷ codes "  DW_CFA_advance_loc delta=2 to=0x100c" ++ 10 ∷ []
+moves : instructions_text (plainly Numbers) 4 8 (Some 0x1000) two_moves ≡ codes "  DW_CFA_advance_loc delta=1 to=0x1004" ++ 10 ∷ codes "  DW_CFA_nop" ++ 10 ∷ codes "  DW_CFA_advance_loc delta=2 to=0x100c" ++ 10 ∷ []
 unfolding computing instructions_text
 moves = refl
 
-moves_of_cie : instructions_text Numbers 4 8 None two_moves ≡ codes "  DW_CFA_advance_loc delta=1" ++ 10 ∷ codes "  DW_CFA_nop" ++ 10 ∷ codes "  DW_CFA_advance_loc delta=2" ++ 10 ∷ []
+moves_of_cie : instructions_text (plainly Numbers) 4 8 None two_moves ≡ codes "  DW_CFA_advance_loc delta=1" ++ 10 ∷ codes "  DW_CFA_nop" ++ 10 ∷ codes "  DW_CFA_advance_loc delta=2" ++ 10 ∷ []
 unfolding computing instructions_text
 moves_of_cie = refl
 

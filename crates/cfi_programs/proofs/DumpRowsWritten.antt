@@ -28,7 +28,7 @@ use Rattle.cfi_entry.specs.Sections.{Section}
 use Rattle.cfi_unwind.specs.UnwindTableCalls.{AnswersWithoutMachine, AcceptsCieProgram, LendsNextRow}
 use Rattle.cfi_programs.specs.Lines.{refusal_in}
 use Rattle.cfi_programs.specs.AnswerLines.{answer_line}
-use Rattle.cfi_programs.specs.declared.style.Style.{Style}
+use Rattle.cfi_programs.specs.Wordings.{Wording}
 use Rattle.cfi_programs.specs.WriterOutput.{IsBeginning, Writes}
 use Rattle.cfi_programs.proofs.WrittenLemmas.{IsGiven, given_all, given_first, given_then, beginning_then, behind_more, writes_last}
 use Rattle.cfi_programs.specs.DumpSectionTexts.{setting_of_fde, fde_rows, lines}
@@ -41,7 +41,7 @@ Lent = Result (Option (Bor (Row ℕ))) Error
 abbrev numbered : Lent → Result (Option (Row ℕ)) Error
 numbered r = map_ok (option_map (λ row. map_row as_it_is row.now)) r
 
-first_line : (style : Style) (before after : List (Result (Row ℕ) Error)) (r : Lent) (answer : Result (Bor (Row ℕ)) Error) → result_transpose r ≡ Some answer → IsNext before (numbered r) after
+first_line : (style : Wording) (before after : List (Result (Row ℕ) Error)) (r : Lent) (answer : Result (Bor (Row ℕ)) Error) → result_transpose r ≡ Some answer → IsNext before (numbered r) after
     → lines style before ≡ (answer_line style (map_ok (λ row. row.now) answer)).text ++ lines style after
 first_line style before after (Ok None) answer is next = cc
 first_line style before after (Ok (Some row)) answer is next =
@@ -51,7 +51,7 @@ first_line style before after (Err e) answer is next =
     let same : ◌≡◌ {A = Result (Bor (Row ℕ)) Error} (Err e) answer = cc in
     ap (lines style) next ∙ ap (λ a. (answer_line style (map_ok (λ x. x.now) a)).text ++ lines style after) same
 
-no_line : (style : Style) (before after : List (Result (Row ℕ) Error)) (r : Lent) → result_transpose r ≡ None → IsNext before (numbered r) after → lines style before ≡ []
+no_line : (style : Wording) (before after : List (Result (Row ℕ) Error)) (r : Lent) → result_transpose r ≡ None → IsNext before (numbered r) after → lines style before ≡ []
 no_line style before after (Ok None) is next = ap (lines style) next.0
 no_line style before after (Ok (Some row)) is next = cc
 no_line style before after (Err e) is next = cc
@@ -78,12 +78,12 @@ some_answer (Err e) answer is none = cc
 
 -- A table stands after a program, and the text that waits and the lines of the answers that are to come are what is left
 -- of the whole text.
-pub record StandsAt (style : Style) (s : Setting) (p : TableState (State ℕ) ℕ) (old now : Option (List ℕ)) (waiting text : List ℕ) : Type 0 where
+pub record StandsAt (style : Wording) (s : Setting) (p : TableState (State ℕ) ℕ) (old now : Option (List ℕ)) (waiting text : List ℕ) : Type 0 where
   pub program : Program ℕ
   pub after : IsStateAfter s p.so_far program
   pub given : IsGiven old now (waiting ++ lines style (answers_to_come s (at_program p program))) text
 
-pub stands_first : (style : Style) (s : Setting) (p : TableState (State ℕ) ℕ) (old : Option (List ℕ)) (waiting : List ℕ) (program : Program ℕ) → waiting ≡ [] → IsStateAfter s p.so_far program
+pub stands_first : (style : Wording) (s : Setting) (p : TableState (State ℕ) ℕ) (old : Option (List ℕ)) (waiting : List ℕ) (program : Program ℕ) → waiting ≡ [] → IsStateAfter s p.so_far program
     → StandsAt style s p old old waiting (lines style (answers_to_come s (at_program p program)))
 stands_first style s p old waiting program none after =
     let whole = lines style (answers_to_come s (at_program p program)) in
@@ -94,7 +94,7 @@ stands_first style s p old waiting program none after =
     }
 
 -- the text that waits is written
-module _ (style : Style) (s : Setting) (p : TableState (State ℕ) ℕ) (old now newer : Option (List ℕ)) (waiting text : List ℕ) (stands : StandsAt style s p old now waiting text) where
+module _ (style : Wording) (s : Setting) (p : TableState (State ℕ) ℕ) (old now newer : Option (List ℕ)) (waiting text : List ℕ) (stands : StandsAt style s p old now waiting text) where
   pub out_written : (waits : List ℕ) → waits ≡ [] → Appends now newer waiting → StandsAt style s p old newer waits text
   out_written waits none more =
       let left = lines style (answers_to_come s (at_program p stands.program)) in
@@ -120,7 +120,7 @@ module _ (s : Setting) (rules : IsSome s.rule_limit) (stack : IsSome s.stack_lim
     abbrev kept : AnswersWithoutMachine s true p (numbered r) q
     kept = subst (λ x. AnswersWithoutMachine x true p (numbered r) q) same lent.kept
 
-    module _ (style : Style) (old now : Option (List ℕ)) (waiting text : List ℕ) (stands : StandsAt style s p old now waiting text) where
+    module _ (style : Wording) (old now : Option (List ℕ)) (waiting text : List ℕ) (stands : StandsAt style s p old now waiting text) where
       abbrev next_program : Program ℕ
       next_program = (kept.from stands.program stands.after).0
 
@@ -177,7 +177,7 @@ module _ (fde : Fde) (section : Section) where
   never_of_fde = never (setting_of_fde fde) refl refl
 
   -- what is written of a table that stands after the CIE's program
-  pub rows_written : {T E : Type 0} (style : Style) (t : Setting) (p : TableState (State ℕ) ℕ) (old new : Option (List ℕ)) (r : Result T E) → t ≡ setting_of_fde fde
+  pub rows_written : {T E : Type 0} (style : Wording) (t : Setting) (p : TableState (State ℕ) ℕ) (old new : Option (List ℕ)) (r : Result T E) → t ≡ setting_of_fde fde
       → AcceptsCieProgram (setting_of_fde fde) true cie (Ok p.so_far) → p.left ≡ fde_instructions section fde → p.has_ended ≡ false
       → ((program : Program ℕ) → IsStateAfter t p.so_far program → Writes old new r (lines style (answers_to_come t (at_program p program)))) → Writes old new r (lines style (fde_rows section fde))
   rows_written style t p old new r same (all, keeps, stands) is runs written =
@@ -188,7 +188,7 @@ module _ (fde : Fde) (section : Section) where
       let each = subst (λ s. (program : Program ℕ) → IsStateAfter s p.so_far program → Writes old new r (lines style (answers_to_come s (at_program p program)))) same written in
       subst (λ xs. Writes old new r (lines style xs)) (sym rows) (each (in_fde all []) stands)
 
-  pub refused_rows : (style : Style) (e : Error) → AcceptsCieProgram (setting_of_fde fde) true cie (Err e) → (refusal_in style.format e).text ≡ lines style (fde_rows section fde)
+  pub refused_rows : (style : Wording) (e : Error) → AcceptsCieProgram (setting_of_fde fde) true cie (Err e) → (refusal_in style.format e).text ≡ lines style (fde_rows section fde)
   refused_rows style e keeps =
       let refused = refused_error (cie_refusal (setting_of_fde fde) cie) cie.values e (kept_cie_is (may_allocate (setting_of_fde fde) true) (setting_of_fde fde) never_of_fde cie (Err e) keeps) in
       sym (append-nil (refusal_in style.format e).text)

@@ -37,9 +37,9 @@ pub as_read : {T E : Type 0} (old new : Option (List ℕ)) (r : Result T E) (nam
     → Writes old new r (fde_text names function section found reading) → Writes old new r (fde_text names function section found (read_fde section found))
 as_read old new r names function section found reading is written = subst (λ x. Writes old new r (fde_text names function section found x)) is written
 
-pub rows_as_read : {T E : Type 0} (old new : Option (List ℕ)) (r : Result T E) (style : Style) (function : ℕ → Option (List ℕ)) (address : Option ℕ) (section : Section) (found : PartialFde) (reading : Result Fde Error) → reading ≡ read_fde section found
-    → Writes old new r (fde_rows_text style function address section reading) → Writes old new r (fde_rows_text style function address section (read_fde section found))
-rows_as_read old new r style function address section found reading is written = subst (λ x. Writes old new r (fde_rows_text style function address section x)) is written
+pub rows_as_read : {T E : Type 0} (old new : Option (List ℕ)) (r : Result T E) (style : Style) (function : ℕ → Option (List ℕ)) (addresses : Option (List ℕ)) (section : Section) (found : PartialFde) (reading : Result Fde Error) → reading ≡ read_fde section found
+    → Writes old new r (fde_rows_text style function addresses section reading) → Writes old new r (fde_rows_text style function addresses section (read_fde section found))
+rows_as_read old new r style function addresses section found reading is written = subst (λ x. Writes old new r (fde_rows_text style function addresses section x)) is written
 
 -- ---- a section's entries, by the text of one
 

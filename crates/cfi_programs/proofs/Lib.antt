@@ -17,9 +17,11 @@ pub mod DumpRowsWritten
 pub mod ReadingsWritten
 pub mod DumpInstructionsWritten
 pub mod DumpSectionWritten
+mod ExpressionWordsWritten
 mod DumpPrinted
 mod FunctionLineLemmas
 mod EscapedLemmas
 mod PushedLemmas
 mod JsonRowLemmas
+mod RowWordsLemmas
 mod JsonPrinted

@@ -15,7 +15,7 @@ use Rattle.cfi_state.specs.RulePairs.{numbered_pair, rules_of, IsRising}
 use Rattle.cfi_state.specs.declared.table.rules.RegisterRule.{RegisterRule}
 use Rattle.cfi_programs.specs.RowLines.{ruled_by, rules_by}
 
-rules_more : (text_of : ℕ → RegisterRule ℕ → List ℕ) (n r : ℕ) (rule_of : ℕ → Option (RegisterRule ℕ)) → r < n →
+pub rules_more : (text_of : ℕ → RegisterRule ℕ → List ℕ) (n r : ℕ) (rule_of : ℕ → Option (RegisterRule ℕ)) → r < n →
     rules_by text_of (n - r) r rule_of ≡ ruled_by text_of r (rule_of r) ++ rules_by text_of (n - (r + 1)) (r + 1) rule_of
 unfolding rules_by
 rules_more text_of n r rule_of h =
@@ -84,7 +84,7 @@ pub get_behind : (pair : Register × RegisterRule ℕ) (pairs : List (Register �
     get (rules_of (pair ∷ pairs)) register ≡ get (rules_of pairs) register
 get_behind pair pairs register h = get_apart pair pairs register (λ e. omega (arith, e))
 
-get_first : (pair : Register × RegisterRule ℕ) (pairs : List (Register × RegisterRule ℕ)) → get (rules_of (pair ∷ pairs)) pair.0.0 ≡ Some pair.1
+pub get_first : (pair : Register × RegisterRule ℕ) (pairs : List (Register × RegisterRule ℕ)) → get (rules_of (pair ∷ pairs)) pair.0.0 ≡ Some pair.1
 get_first pair pairs =
     let same : eq_by_cmp nat_cmp pair.0.0 pair.0.0 ≡ true = sym (unsigned_ties pair.0.0 pair.0.0) ∙ grind (arith, nat_tests) in
     get-from_entries nat_cmp_total (map numbered_pair (pair ∷ pairs)) pair.0.0 ∙ rw same refl

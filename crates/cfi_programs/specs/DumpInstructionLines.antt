@@ -1,10 +1,10 @@
 -- The lines of instructions: the name of each in DWARF (DWARF 5 section 7.24), and its operands as
 -- the section has them.
 --     shown instruction      the name, one for all sizes of an operand; the registers, which come
---         first; the other operand
---     instruction_line names at instruction      its line, where it moves to this address
---     instructions_text names factor size at readings      a line for each, and after the last one
---         the error with which they end, from this address on
+--         first; the other operand, if it is no expression
+--     instruction_line wording at instruction      its line, where it moves to this address
+--     instructions_text wording factor size at readings      a line for each, and after the last
+--         one the error with which they end, from this address on
 use Rattle.std.specs.Prelude.{ℕ, ℤ, ◌*◌, ◌%◌, ◌^◌, List, [], ◌∷◌, ◌++◌, codes, Option, Some, None}
 use Rattle.std.specs.Prelude.{Bool, true, false, Result, Ok, Err, if◌then◌else◌}
 use Rattle.std.specs.Result.{result_ok}
@@ -14,13 +14,14 @@ use Rattle.cfi_read_core.specs.declared.error.Error.{Error}
 use Rattle.cfi_read_core.specs.declared.instruction.CallFrameInstruction.TheVariants as variant
 use Rattle.cfi_read_core.specs.declared.instruction.UnwindExpression.{UnwindExpression}
 use Rattle.cfi_read_core.specs.Addresses.{checked_sum}
+use Rattle.cfi_read_core.specs.ExpressionPlaces.{expression_of}
 use Rattle.cfi_read_core.specs.ReadFunctions.{Readings}
 use Rattle.cfi_parts.specs.Instructions.{Instruction}
 use Rattle.cfi_object.specs.RegisterNames.{register_text}
 use Rattle.cfi_object.specs.declared.register_names.RegisterNames.{RegisterNames}
 use Rattle.cfi_programs.specs.Lines.{address_text}
 use Rattle.cfi_programs.specs.ReadingTexts.{refusal_text}
-use Rattle.cfi_programs.specs.RowLines.{expression_text}
+use Rattle.cfi_programs.specs.Wordings.{Wording}
 use Rattle.cfi_programs.specs.declared.style.Format.TheVariants.{Text as AsText}
 
 -- A register among the operands.
@@ -48,9 +49,6 @@ abbrev pub dest_and_src : Register → Register → List RegisterOperand
 dest_and_src dest src =
     labelled (codes " dest_register=") dest ∷ labelled (codes " src_register=") src ∷ []
 
-abbrev pub expression_operand : UnwindExpression ℕ → List ℕ
-expression_operand expression = codes " expression=" ++ expression_text expression
-
 -- offsets in units of the data alignment factor are not multiplied by it
 abbrev pub factored_operand : ℕ → List ℕ
 factored_operand offset = codes " factored_offset=" ++ decimal offset
@@ -74,7 +72,7 @@ shown (variant.DefCfaOffset offset) =
 shown (variant.DefCfaOffsetSf factored) =
     shown_as (codes "DW_CFA_def_cfa_offset_sf") [] (signed_factored_operand factored)
 shown (variant.DefCfaExpression expression) =
-    shown_as (codes "DW_CFA_def_cfa_expression") [] (expression_operand expression)
+    shown_as (codes "DW_CFA_def_cfa_expression") [] []
 shown (variant.Undefined register) = shown_as (codes "DW_CFA_undefined") (of register) []
 shown (variant.SameValue register) = shown_as (codes "DW_CFA_same_value") (of register) []
 shown (variant.Offset register factored) =
@@ -89,9 +87,9 @@ shown (variant.ValOffsetSf register factored) =
     shown_as (codes "DW_CFA_val_offset_sf") (of register) (signed_factored_operand factored)
 shown (variant.Register dest src) = shown_as (codes "DW_CFA_register") (dest_and_src dest src) []
 shown (variant.Expression register expression) =
-    shown_as (codes "DW_CFA_expression") (of register) (expression_operand expression)
+    shown_as (codes "DW_CFA_expression") (of register) []
 shown (variant.ValExpression register expression) =
-    shown_as (codes "DW_CFA_val_expression") (of register) (expression_operand expression)
+    shown_as (codes "DW_CFA_val_expression") (of register) []
 shown (variant.Restore register) = shown_as (codes "DW_CFA_restore") (of register) []
 shown variant.RememberState = shown_as (codes "DW_CFA_remember_state") [] []
 shown variant.RestoreState = shown_as (codes "DW_CFA_restore_state") [] []
@@ -138,22 +136,34 @@ registers_text names [] = []
 registers_text names (operand ∷ operands) =
     operand.label ++ register_text names operand.register ++ registers_text names operands
 
-abbrev pub instruction_line : RegisterNames → Option ℕ → Instruction → List ℕ
-instruction_line names at instruction =
+-- what comes before an expression
+abbrev pub instruction_head : RegisterNames → Instruction → List ℕ
+instruction_head names instruction =
     let words = shown instruction in
     codes "  " ++ words.name ++ registers_text names words.registers ++ words.value
-    ++ target_text (target at instruction) ++ 10 ∷ []
+
+-- the operand that is an expression
+abbrev pub expression_operand : Wording → Option (UnwindExpression ℕ) → List ℕ
+expression_operand wording None = []
+expression_operand wording (Some e) = codes " expression=" ++ wording.words e
+
+abbrev pub instruction_line : Wording → Option ℕ → Instruction → List ℕ
+instruction_line wording at instruction =
+    instruction_head wording.names instruction
+    ++ (expression_operand wording (expression_of instruction)
+    ++ (target_text (target at instruction) ++ 10 ∷ []))
 
 -- each behind the address to which it moves
 abbrev pub instruction_lines :
-    RegisterNames → ℕ → ℕ → Option ℕ → List Instruction → List ℕ
-instruction_lines names factor size at [] = []
-instruction_lines names factor size at (instruction ∷ instructions) =
+    Wording → ℕ → ℕ → Option ℕ → List Instruction → List ℕ
+instruction_lines wording factor size at [] = []
+instruction_lines wording factor size at (instruction ∷ instructions) =
     let next = moved factor size at instruction in
-    instruction_line names next instruction
-    ++ instruction_lines names factor size next instructions
+    instruction_line wording next instruction
+    ++ instruction_lines wording factor size next instructions
 
 unfoldable pub instructions_text :
-    RegisterNames → ℕ → ℕ → Option ℕ → Readings Instruction → List ℕ
-instructions_text names factor size at readings =
-    instruction_lines names factor size at readings.values ++ refusal_text AsText readings.refusal
+    Wording → ℕ → ℕ → Option ℕ → Readings Instruction → List ℕ
+instructions_text wording factor size at readings =
+    instruction_lines wording factor size at readings.values
+    ++ refusal_text AsText readings.refusal

@@ -14,7 +14,7 @@ use Rattle.cfi_programs.specs.declared.style.Style.{Style}
 use Rattle.cfi_programs.specs.declared.dump.printed.AskedRows.{AskedRows}
 use Rattle.cfi_programs.specs.declared.dump.printed.Printed.{Printed}
 use Rattle.cfi_programs.specs.declared.dump.printed.Printed.TheVariants as printing
-use Rattle.cfi_programs.specs.DumpRowTexts.{entry_rows_text}
+use Rattle.cfi_programs.specs.DumpRowTexts.{entry_rows_text, given_addresses}
 use Rattle.cfi_programs.specs.DumpSectionTexts.{entry_text}
 use Rattle.cfi_programs.specs.ReadingTexts.{readings_text}
 
@@ -33,7 +33,8 @@ abbrev pub printed_entry : RegisterNames → Printed → Section → Entry → L
 printed_entry names (printing.Entries functions) section entry =
     entry_text names (name_in functions.now) section entry
 printed_entry names (printing.Rows asked) section entry =
-    entry_rows_text (style_of names asked) (name_in asked.functions.now) asked.address section entry
+    entry_rows_text (style_of names asked) (name_in asked.functions.now)
+    (given_addresses asked.addresses) section entry
 
 abbrev pub printed_text : RegisterNames → Printed → Section → List ℕ
 printed_text names what section =

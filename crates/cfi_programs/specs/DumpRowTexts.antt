@@ -1,10 +1,13 @@
--- What is printed of the rows of a section: for each FDE, or each that contains an address, a line
--- with its addresses and the name of the function that begins there, and then its rows.
---     fde_rows_text style function address section reading      of an FDE that was read, or the
+-- What is printed of the rows of a section: for each FDE, or each that contains one of some
+-- addresses, a line with its addresses and the name of the function that begins there, and then its
+-- rows.
+--     fde_rows_text style function addresses section reading      of an FDE that was read, or the
 --         refusal in its place
---     entry_rows_text style function address section entry      of an entry: nothing for a CIE
+--     entry_rows_text style function addresses section entry      of an entry: nothing for a CIE
 use Rattle.std.specs.Prelude.{ℕ, Bool, true, Option, Some, None, List, [], ◌∷◌, ◌++◌, Result, Ok}
-use Rattle.std.specs.Prelude.{Err, codes, if◌then◌else◌}
+use Rattle.std.specs.Prelude.{Err, codes, option_map, if◌then◌else◌}
+use Rattle.std.specs.Borrow.{Bor}
+use Rattle.std.specs.List.{list_any}
 use Rattle.cfi_read_core.specs.declared.error.Error.{Error}
 use Rattle.cfi_entry.specs.Entries.{Entry, CieEntry, FdeEntry}
 use Rattle.cfi_entry.specs.Fdes.{Fde, covers, end_of}
@@ -13,6 +16,7 @@ use Rattle.cfi_unwind.specs.Scan.{read_fde}
 use Rattle.cfi_programs.specs.Lines.{address_text, refusal_in}
 use Rattle.cfi_programs.specs.FunctionLines.{function_text}
 use Rattle.cfi_programs.specs.JsonLines.{json_addresses, json_function}
+use Rattle.cfi_programs.specs.Wordings.{of_section}
 use Rattle.cfi_programs.specs.DumpSectionTexts.{fde_rows, lines}
 use Rattle.cfi_programs.specs.declared.style.Format.{Format}
 use Rattle.cfi_programs.specs.declared.style.Format.TheVariants.{Text as AsText, Json}
@@ -39,21 +43,31 @@ abbrev pub addresses_line : Format → (ℕ → Option (List ℕ)) → Fde → L
 addresses_line format function fde =
     addresses_in format fde.initial (end_of fde) ++ function_in format (function fde.initial)
 
--- an FDE that contains the address; any, where there is none
-abbrev pub is_asked_for : Option ℕ → Fde → Bool
+-- the addresses that the code is given
+abbrev pub given_addresses : Option (Bor (List ℕ)) → Option (List ℕ)
+given_addresses addresses = option_map (λ given. given.now) addresses
+
+-- an FDE that contains one of the addresses
+abbrev pub contains_any : List ℕ → Fde → Bool
+contains_any addresses fde = list_any (covers fde) addresses
+
+-- any, where none are given
+abbrev pub is_asked_for : Option (List ℕ) → Fde → Bool
 is_asked_for None fde = true
-is_asked_for (Some address) fde = covers fde address
+is_asked_for (Some addresses) fde = contains_any addresses fde
 
--- an FDE that can't be read may be the one of the address
+-- an FDE that can't be read may be one of an address
 abbrev pub fde_rows_text :
-    Style → (ℕ → Option (List ℕ)) → Option ℕ → Section → Result Fde Error → List ℕ
-fde_rows_text style function address section (Ok fde) =
-    if is_asked_for address fde
-    then addresses_line style.format function fde ++ lines style (fde_rows section fde)
+    Style → (ℕ → Option (List ℕ)) → Option (List ℕ) → Section → Result Fde Error → List ℕ
+fde_rows_text style function addresses section (Ok fde) =
+    if is_asked_for addresses fde
+    then addresses_line style.format function fde
+    ++ lines (of_section style section) (fde_rows section fde)
     else []
-fde_rows_text style function address section (Err error) = (refusal_in style.format error).text
+fde_rows_text style function addresses section (Err error) = (refusal_in style.format error).text
 
-abbrev pub entry_rows_text : Style → (ℕ → Option (List ℕ)) → Option ℕ → Section → Entry → List ℕ
-entry_rows_text style function address section (CieEntry cie) = []
-entry_rows_text style function address section (FdeEntry partial) =
-    fde_rows_text style function address section (read_fde section partial)
+abbrev pub entry_rows_text :
+    Style → (ℕ → Option (List ℕ)) → Option (List ℕ) → Section → Entry → List ℕ
+entry_rows_text style function addresses section (CieEntry cie) = []
+entry_rows_text style function addresses section (FdeEntry partial) =
+    fde_rows_text style function addresses section (read_fde section partial)

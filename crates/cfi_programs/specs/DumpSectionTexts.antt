@@ -1,6 +1,6 @@
 -- What is printed of a section.
 --     fde_rows section fde      the rows of an FDE, and the refusals among them, in order
---     lines style answers      a line for each
+--     lines wording answers      a line for each
 --     entry_text names function section entry      an entry and its instructions, and after those
 --         of an FDE its rows; with the names of functions, by their addresses
 use Rattle.std.specs.Prelude.{ℕ, Option, Some, None, List, [], ◌∷◌, ◌++◌, Result, Ok, Err}
@@ -18,10 +18,10 @@ use Rattle.cfi_unwind.specs.Scan.{read_fde}
 use Rattle.cfi_entry.specs.Sections.{Section}
 use Rattle.cfi_object.specs.declared.register_names.RegisterNames.{RegisterNames}
 use Rattle.cfi_programs.specs.Lines.{refusal_line}
-use Rattle.cfi_programs.specs.AnswerLines.{answer_line, text_style}
+use Rattle.cfi_programs.specs.AnswerLines.{answer_line}
 use Rattle.cfi_programs.specs.DumpEntryLines.{cie_line, fde_line, partial_fde_line}
 use Rattle.cfi_programs.specs.DumpInstructionLines.{instructions_text}
-use Rattle.cfi_programs.specs.declared.style.Style.{Style}
+use Rattle.cfi_programs.specs.Wordings.{Wording, of_section, text_style}
 
 -- ---- the rows of an FDE
 
@@ -38,9 +38,9 @@ fde_rows section fde =
     (λ error. Err error ∷ [])
     (cie_refusal (setting_of_fde fde) (cie_instructions section fde.cie))
 
-abbrev pub lines : Style → List (Result (Row ℕ) Error) → List ℕ
-lines style [] = []
-lines style (answer ∷ answers) = (answer_line style answer).text ++ lines style answers
+abbrev pub lines : Wording → List (Result (Row ℕ) Error) → List ℕ
+lines wording [] = []
+lines wording (answer ∷ answers) = (answer_line wording answer).text ++ lines wording answers
 
 -- ---- an entry
 
@@ -48,14 +48,14 @@ lines style (answer ∷ answers) = (answer_line style answer).text ++ lines styl
 abbrev pub cie_text : RegisterNames → Section → Cie → List ℕ
 cie_text names section cie =
     cie_line names cie
-    ++ instructions_text names cie.code_alignment_factor cie.address_size None
-    (cie_instructions section cie)
+    ++ instructions_text (of_section (text_style names) section) cie.code_alignment_factor
+    cie.address_size None (cie_instructions section cie)
 
 -- the instructions of an FDE, from its first address on
 abbrev pub fde_instructions_text : RegisterNames → Section → Fde → List ℕ
 fde_instructions_text names section fde =
-    instructions_text names fde.cie.code_alignment_factor fde.cie.address_size (Some fde.initial)
-    (fde_instructions section fde)
+    instructions_text (of_section (text_style names) section) fde.cie.code_alignment_factor
+    fde.cie.address_size (Some fde.initial) (fde_instructions section fde)
 
 -- an FDE, its instructions and its rows; or what was read of it, and the error of the rest
 abbrev pub fde_text :
@@ -63,7 +63,7 @@ abbrev pub fde_text :
 fde_text names function section partial (Ok fde) =
     fde_line (function fde.initial) fde
     ++ (fde_instructions_text names section fde
-    ++ lines (text_style names) (fde_rows section fde))
+    ++ lines (of_section (text_style names) section) (fde_rows section fde))
 fde_text names function section partial (Err error) =
     partial_fde_line partial.prefix.offset partial.prefix.length ++ (refusal_line error).text
 

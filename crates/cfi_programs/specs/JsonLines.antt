@@ -1,22 +1,25 @@
 -- Lines of JSON, an object each (RFC 8259).
 --     json_number n      a number
 --     escaped text      the characters of a string
---     json_row names row      a row
---     json_members names row      its members, and the brace after them
+--     json_row wording row      a row
+--     json_members wording row      its members, and the brace after them
 --     json_addresses start end, json_function name      an FDE
 --     json_section name      the name of a section
 use Rattle.std.specs.Prelude.{ℕ, ◌/◌, ◌%◌, ◌^◌, Bool, true, false, ◌==◌, List, [], ◌∷◌, ◌++◌}
 use Rattle.std.specs.Prelude.{Option, Some, None, map, flat_map, nat_lt, codes, if◌then◌else◌}
 use Rattle.std.specs.FinMap.{get}
 use Rattle.std.specs.Fmt.{decimal, digit_glyph}
+use Rattle.cfi_read_core.specs.declared.instruction.UnwindExpression.{UnwindExpression}
+use Rattle.cfi_state.specs.declared.table.rules.CfaRule.{CfaRule}
+use Rattle.cfi_state.specs.declared.table.rules.CfaRule.TheVariants as cfas
 use Rattle.cfi_state.specs.declared.table.rules.RegisterRule.{RegisterRule}
 use Rattle.cfi_state.specs.Machine.{Parts}
 use Rattle.cfi_state.specs.Row.{Row}
 use Rattle.cfi_object.specs.RegisterNames.{register_text}
-use Rattle.cfi_object.specs.declared.register_names.RegisterNames.{RegisterNames}
 use Rattle.cfi_programs.specs.Lines.{address_text}
 use Rattle.cfi_programs.specs.FunctionLines.{shown}
-use Rattle.cfi_programs.specs.RowLines.{cfa_text, rule_text, rules_by}
+use Rattle.cfi_programs.specs.RowLines.{cfa_saying, expression_in, rule_saying, rules_by}
+use Rattle.cfi_programs.specs.Wordings.{Wording}
 
 -- ---- numbers and strings
 
@@ -38,15 +41,22 @@ escaped text = flat_map escape text
 
 -- ---- a row
 
--- a register and its rule
-abbrev pub json_member : RegisterNames → ℕ → RegisterRule ℕ → List ℕ
-json_member names register rule =
-    codes "\"" ++ register_text names register ++ codes "\":\"" ++ rule_text names rule
-    ++ codes "\""
+abbrev pub start_member : ℕ → List ℕ
+start_member start = codes "\"start\":\"" ++ address_text start ++ codes "\","
 
--- behind a comma (44)
-abbrev pub json_rule : RegisterNames → ℕ → RegisterRule ℕ → List ℕ
-json_rule names register rule = 44 ∷ json_member names register rule
+abbrev pub end_member : ℕ → List ℕ
+end_member end = codes "\"end\":\"" ++ address_text end ++ codes "\","
+
+module _ (wording : Wording) where
+  -- a register and its rule
+  abbrev pub json_member : ℕ → RegisterRule ℕ → List ℕ
+  json_member register rule =
+      codes "\"" ++ register_text wording.names register ++ codes "\":\""
+      ++ (rule_saying wording.words wording.names rule ++ codes "\"")
+
+  -- behind a comma (44)
+  abbrev pub json_rule : ℕ → RegisterRule ℕ → List ℕ
+  json_rule register rule = 44 ∷ json_member register rule
 
 -- members that begin with a comma each: no comma stands before the first of all
 abbrev pub separated : Bool → List ℕ → List ℕ
@@ -54,22 +64,64 @@ separated true [] = []
 separated true (comma ∷ members) = members
 separated false members = members
 
--- the rules of all registers, by rising number
-abbrev pub json_rules : RegisterNames → Parts ℕ → List ℕ
-json_rules names parts = separated true (rules_by (json_rule names) 65536 0 (get parts.rules))
+-- the bytes of rules' expressions, if there are any, are an object behind that of the rules, which
+-- ends before it
+abbrev pub rules_end : Bool → List ℕ → List ℕ
+rules_end true [] = codes "}"
+rules_end true (comma ∷ members) = codes "},\"rules_bytes\":{" ++ (members ++ codes "}")
+rules_end false members = members ++ codes "}"
 
--- what comes before the rules
-abbrev pub json_head : RegisterNames → Row ℕ → List ℕ
-json_head names row =
-    codes "\"start\":\"" ++ address_text row.start_address ++ codes "\",\"end\":\""
-    ++ address_text row.end_address ++ codes "\",\"cfa\":\"" ++ cfa_text names row.parts.cfa
-    ++ codes "\",\"args\":" ++ json_number row.parts.args_size ++ codes ",\"rules\":{"
+-- what comes before such a member
+abbrev pub opening : Bool → List ℕ
+opening true = codes "},\"rules_bytes\":{"
+opening false = codes ","
 
-abbrev pub json_members : RegisterNames → Row ℕ → List ℕ
-json_members names row = (json_head names row ++ json_rules names row.parts) ++ codes "}}"
+module _ (wording : Wording) where
+  -- the rules of all registers, by rising number
+  abbrev pub json_rules : Parts ℕ → List ℕ
+  json_rules parts = separated true (rules_by (json_rule wording) 65536 0 (get parts.rules))
 
-abbrev pub json_row : RegisterNames → Row ℕ → List ℕ
-json_row names row = codes "{" ++ json_members names row
+  -- a register and the bytes of its expression
+  abbrev pub bytes_member : ℕ → UnwindExpression ℕ → List ℕ
+  bytes_member register e =
+      codes "\"" ++ register_text wording.names register ++ codes "\":\""
+      ++ (wording.bytes e ++ codes "\"")
+
+  -- behind a comma, if there is one
+  abbrev pub bytes_at : ℕ → Option (UnwindExpression ℕ) → List ℕ
+  bytes_at register None = []
+  bytes_at register (Some e) = 44 ∷ bytes_member register e
+
+  abbrev pub bytes_of_rule : ℕ → RegisterRule ℕ → List ℕ
+  bytes_of_rule register rule = bytes_at register (expression_in rule)
+
+  abbrev pub json_bytes : Parts ℕ → List ℕ
+  json_bytes parts = rules_end true (rules_by bytes_of_rule 65536 0 (get parts.rules))
+
+  abbrev pub cfa_bytes : CfaRule ℕ → List ℕ
+  cfa_bytes (cfas.RegisterAndOffset register n) = []
+  cfa_bytes (cfas.Expression e) =
+      codes ",\"cfa_bytes\":\"" ++ (wording.bytes e ++ codes "\"")
+
+  -- behind the addresses
+  abbrev pub json_cfa : CfaRule ℕ → List ℕ
+  json_cfa cfa =
+      codes "\"cfa\":\"" ++ (cfa_saying wording.words wording.names cfa
+      ++ (codes "\"" ++ cfa_bytes cfa))
+
+  -- what comes before the rules
+  abbrev pub json_head : Row ℕ → List ℕ
+  json_head row =
+      (start_member row.start_address ++ end_member row.end_address)
+      ++ (json_cfa row.parts.cfa
+      ++ (codes ",\"args\":" ++ json_number row.parts.args_size ++ codes ",\"rules\":{"))
+
+  abbrev pub json_members : Row ℕ → List ℕ
+  json_members row =
+      json_head row ++ (json_rules row.parts ++ (json_bytes row.parts ++ codes "}"))
+
+  abbrev pub json_row : Row ℕ → List ℕ
+  json_row row = codes "{" ++ json_members row
 
 -- ---- an FDE
 

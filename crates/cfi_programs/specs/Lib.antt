@@ -3,6 +3,9 @@ pub mod SectionOfWords
 pub mod Input
 pub mod Lines
 pub mod RowLines
+pub mod Operations
+pub mod ExpressionWords
+pub mod Wordings
 pub mod FunctionLines
 pub mod JsonLines
 pub mod AnswerLines

@@ -6,12 +6,12 @@ use Rattle.cfi_state.specs.Row.{Row}
 use Rattle.cfi_object.specs.declared.register_names.RegisterNames.TheVariants.{Numbers}
 use Rattle.cfi_programs.specs.Input.{Bytes}
 use Rattle.cfi_programs.specs.Lines.{Line}
-use Rattle.cfi_programs.specs.AnswerLines.{answer_line, text_style}
+use Rattle.cfi_programs.specs.AnswerLines.{plain_line}
 use Rattle.cfi_programs.specs.Runs.{IsPlain}
 use Rattle.cfi_programs.specs.declared.rows.command_line.Request.{Request}
 use Rattle.cfi_programs.specs.RowsProgramOutput.{rows_tool}
 
-plain_answer : (answer : Result (Row ℕ) Error) → IsPlain (answer_line (text_style Numbers) answer)
+plain_answer : (answer : Result (Row ℕ) Error) → IsPlain (plain_line Numbers answer)
 plain_answer (Ok row) = record { beginning = refl; low = lit≤ tt }
 plain_answer (Err e) = record { beginning = refl; low = lit≤ tt }
 

@@ -11,7 +11,7 @@ use Rattle.cfi_programs.specs.RowsCommandLine.{request_of}
 use Rattle.cfi_programs.specs.Input.{Bytes, bytes_by}
 use Rattle.cfi_programs.specs.Runs.{Tool}
 use Rattle.cfi_programs.specs.SectionOfWords.{given_by}
-use Rattle.cfi_programs.specs.AnswerLines.{answer_line, text_style}
+use Rattle.cfi_programs.specs.AnswerLines.{plain_line}
 
 -- ---- the room for an unwind
 
@@ -49,7 +49,7 @@ rows_in room_for = record {
   IsLine =
       λ request bytes printed.
       (answer : Result (Row ℕ) Error) × IsAnswer (room_for request) request bytes answer
-      × (printed ≡ answer_line (text_style Numbers) answer);
+      × (printed ≡ plain_line Numbers answer);
 }
 
 -- the program

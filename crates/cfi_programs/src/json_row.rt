@@ -1,120 +1,336 @@
 //! The line of a row in JSON.
-ghost use Rattle.std.specs.Prelude.{◌≡◌, ◌≤◌, ◌++◌, [], ◌∷◌, OnOk};
-ghost use Rattle.cfi_programs.specs.JsonLines.{json_head, json_member, json_members, json_row};
-ghost use Rattle.cfi_programs.specs.JsonLines.{json_rule, json_rules, separated};
-ghost use Rattle.cfi_programs.specs.WriterOutput.{Writes, WritesBehind};
+ghost use Rattle.std.specs.Prelude.{◌≡◌, ◌≤◌, ◌++◌, [], ◌∷◌, codes};
+ghost use Rattle.std.specs.FinMap as map;
+ghost use Rattle.cfi_programs.specs.JsonLines.{bytes_member, cfa_bytes, json_bytes, json_cfa};
+ghost use Rattle.cfi_programs.specs.JsonLines.{json_head, json_member, json_members, json_number};
+ghost use Rattle.cfi_programs.specs.JsonLines.{end_member, json_row, json_rule, json_rules};
+ghost use Rattle.cfi_programs.specs.JsonLines.{opening, separated, start_member};
+ghost use Rattle.cfi_programs.specs.RowLines.{expression_at};
+ghost use Rattle.cfi_object.specs.RegisterNames.{register_text};
+ghost use Rattle.cfi_programs.specs.ExpressionWords.{hexadecimal_of};
+ghost use Rattle.cfi_programs.specs.Wordings.{worded};
+ghost use Rattle.cfi_programs.specs.WriterOutput.{Writes};
 
+use crate::expression_words::write_bytes_of;
 use crate::json::push_number;
-use crate::lines::write_text;
-use crate::row_line::{HasRules, make_room, push_cfa, push_register, push_rule};
-use crate::text::{Text, push, push_address};
+use crate::lines::{Address, write_part, write_text};
+use crate::row_line::{HasRules, expression_in};
+use crate::row_words::{write_cfa, write_rule};
+use crate::style::Style;
+use crate::text::{Text, push};
 use cfi_object::register_names::RegisterNames;
-use gimli_cfi::{ArrayLike, Register, RegisterRule, UnwindTableRow};
+use gimli_cfi::{
+    _UnwindSectionPrivate, ArrayLike, CfaRule, Reader, Register, RegisterRule, UnwindExpression,
+    UnwindSection, UnwindTableRow,
+};
+use std::io;
 use std::io::Write;
-use std::{fmt, io};
 
-/// Writes the row as an object on a line.
-pub(crate) fn write_json_row<W: Write, A: ArrayLike<Item = (Register, RegisterRule<usize>)>>(
-    output: &mut W,
-    names: RegisterNames,
-    row: &UnwindTableRow<usize, A>,
-) -> io::Result<()>
-    ensures { Writes (W.contents output.old) (W.contents output.new) result
-        (json_row names row.now ++ 10 ∷ []) }
+/// Writes the row from the section as an object on a line.
+pub(crate) fn write_json_row<
+    R: Reader<Offset = usize>,
+    S: UnwindSection<R>,
+    W: Write,
+    A: ArrayLike<Item = (Register, RegisterRule<usize>)>,
+>(output: &mut W, style: Style, section: &S, row: &UnwindTableRow<usize, A>) -> io::Result<()>
+    ensures { let from = S.view section.now in
+        let wording = worded style from.address_size from.position in
+        Writes (W.contents output.old) (W.contents output.new) result
+        (json_row wording row.now ++ 10 ∷ []) }
 {
     write_text(output, b"{")?;
-    write_json_members(output, names, row)
+    write_json_members(output, style, section, row)
 }
 
-/// Writes the members of the row's object, its registers in ascending order, and the end of the
-/// line.
-pub(crate) fn write_json_members<W: Write, A: ArrayLike<Item = (Register, RegisterRule<usize>)>>(
-    output: &mut W,
-    names: RegisterNames,
-    row: &UnwindTableRow<usize, A>,
-) -> io::Result<()>
+/// Writes the members of the object of the row from the section, its registers in ascending order,
+/// and the end of the line.
+pub(crate) fn write_json_members<
+    R: Reader<Offset = usize>,
+    S: UnwindSection<R>,
+    W: Write,
+    A: ArrayLike<Item = (Register, RegisterRule<usize>)>,
+>(output: &mut W, style: Style, section: &S, row: &UnwindTableRow<usize, A>) -> io::Result<()>
+    ensures { let from = S.view section.now in
+        let wording = worded style from.address_size from.position in
+        Writes (W.contents output.old) (W.contents output.new) result
+        (json_members wording row.now ++ 10 ∷ []) }
+{
+    write_head(output, style, section, row)?;
+    write_members(output, style, section, row)?;
+    write_bytes(output, style, section, row)?;
+    write_text(output, b"}\n")
+}
+
+/// Writes what comes before the rules: the addresses, the CFA and the argument size.
+fn write_head<
+    R: Reader<Offset = usize>,
+    S: UnwindSection<R>,
+    W: Write,
+    A: ArrayLike<Item = (Register, RegisterRule<usize>)>,
+>(output: &mut W, style: Style, section: &S, row: &UnwindTableRow<usize, A>) -> io::Result<()>
+    ensures { let from = S.view section.now in
+        let wording = worded style from.address_size from.position in
+        Writes (W.contents output.old) (W.contents output.new) result
+        (json_head wording row.now) }
+{
+    write_addresses(output, row.start_address(), row.end_address())?;
+    write_json_cfa(output, style, section, *row.cfa())?;
+    write_args_size(output, row.saved_args_size())
+}
+
+/// Writes the addresses.
+fn write_addresses<W: Write>(output: &mut W, start: u64, end: u64) -> io::Result<()>
     ensures { Writes (W.contents output.old) (W.contents output.new) result
-        (json_members names row.now ++ 10 ∷ []) }
+        (start_member start ++ end_member end) }
+{
+    write_start(output, start)?;
+    write_end(output, end)
+}
+
+/// Writes the first address.
+fn write_start<W: Write>(output: &mut W, start: u64) -> io::Result<()>
+    ensures { Writes (W.contents output.old) (W.contents output.new) result (start_member start) }
+{
+    let start = Address(start);
+    write_part(output, format_args!("\"start\":\"{start}\","))
+}
+
+/// Writes the first address after the last.
+fn write_end<W: Write>(output: &mut W, end: u64) -> io::Result<()>
+    ensures { Writes (W.contents output.old) (W.contents output.new) result (end_member end) }
+{
+    let end = Address(end);
+    write_part(output, format_args!("\"end\":\"{end}\","))
+}
+
+/// Writes the rule of the canonical frame address, and the bytes of its expression.
+fn write_json_cfa<R: Reader<Offset = usize>, S: UnwindSection<R>, W: Write>(
+    output: &mut W,
+    style: Style,
+    section: &S,
+    cfa: CfaRule<usize>,
+) -> io::Result<()>
+    ensures { let from = S.view section.now in
+        let wording = worded style from.address_size from.position in
+        Writes (W.contents output.old) (W.contents output.new) result (json_cfa wording cfa) }
+{
+    write_text(output, b"\"cfa\":\"")?;
+    write_cfa(output, style.names, section, cfa)?;
+    write_text(output, b"\"")?;
+    write_cfa_bytes(output, style, section, cfa)
+}
+
+/// Writes the bytes of the expression of the canonical frame address, if it has one.
+fn write_cfa_bytes<R: Reader<Offset = usize>, S: UnwindSection<R>, W: Write>(
+    output: &mut W,
+    style: Style,
+    section: &S,
+    cfa: CfaRule<usize>,
+) -> io::Result<()>
+    ensures { let from = S.view section.now in
+        let wording = worded style from.address_size from.position in
+        Writes (W.contents output.old) (W.contents output.new) result (cfa_bytes wording cfa) }
+{
+    match cfa {
+        CfaRule::RegisterAndOffset { .. } => Ok(()),
+        CfaRule::Expression(expression) => write_bytes_of_cfa(output, section, expression),
+    }
+}
+
+/// Writes the bytes of the expression of the canonical frame address.
+fn write_bytes_of_cfa<R: Reader<Offset = usize>, S: UnwindSection<R>, W: Write>(
+    output: &mut W,
+    section: &S,
+    expression: UnwindExpression<usize>,
+) -> io::Result<()>
+    ensures { let from = (S.view section.now).position in
+        Writes (W.contents output.old) (W.contents output.new) result
+        (codes ",\"cfa_bytes\":\"" ++ (hexadecimal_of from expression ++ codes "\"")) }
+{
+    write_text(output, b",\"cfa_bytes\":\"")?;
+    write_bytes_of(output, section, expression)?;
+    write_text(output, b"\"")
+}
+
+/// Writes the argument size, and what comes before the rules.
+fn write_args_size<W: Write>(output: &mut W, args_size: u64) -> io::Result<()>
+    ensures { Writes (W.contents output.old) (W.contents output.new) result
+        (codes ",\"args\":" ++ json_number args_size ++ codes ",\"rules\":{") }
 {
     let mut text = Text::new();
-    push_head(&mut text, names, row)?;
-    write_members(output, &mut text, names, row)?;
-    push(&mut text, b"}}\n")?;
+    push(&mut text, b",\"args\":")?;
+    push_number(&mut text, args_size)?;
+    push(&mut text, b",\"rules\":{")?;
     write_text(output, text.as_slice())
 }
 
-/// Appends what comes before the rules: the addresses, the CFA and the argument size.
-fn push_head<A: ArrayLike<Item = (Register, RegisterRule<usize>)>>(
-    text: &mut Text,
-    names: RegisterNames,
-    row: &UnwindTableRow<usize, A>,
-) -> fmt::Result
-    ensures { OnOk result (text.new.items ≡ text.old.items ++ json_head names row.now) }
-{
-    push(text, b"\"start\":\"")?;
-    push_address(text, row.start_address())?;
-    push(text, b"\",\"end\":\"")?;
-    push_address(text, row.end_address())?;
-    push(text, b"\",\"cfa\":\"")?;
-    push_cfa(text, names, *row.cfa())?;
-    push(text, b"\",\"args\":")?;
-    push_number(text, row.saved_args_size())?;
-    push(text, b",\"rules\":{")
-}
-
-/// Appends the rules, each looked up by its number. Writes the text where it is long.
-fn write_members<W: Write, H: HasRules>(
+/// Writes the rules, each looked up by its number.
+fn write_members<R: Reader<Offset = usize>, S: UnwindSection<R>, W: Write, H: HasRules>(
     output: &mut W,
-    text: &mut Text,
-    names: RegisterNames,
+    style: Style,
+    section: &S,
     row: &H,
 ) -> io::Result<()>
-    ensures { let rules = json_rules names (H.parts row.now) in
-        WritesBehind text.old.items text.new.items
-        (W.contents output.old) (W.contents output.new) result rules }
+    ensures { let from = S.view section.now in
+        let wording = worded style from.address_size from.position in
+        Writes (W.contents output.old) (W.contents output.new) result
+        (json_rules wording (H.parts row.now)) }
 {
     let end = row.end();
     let mut is_first = true;
     for number in 0..end {
         let register = Register(number as u16);
         if let Some(rule) = row.rule(register) {
-            make_room(output, text)?;
-            push_separated(text, names, is_first, register, rule)?;
+            write_separated(output, style, section, is_first, register, rule)?;
             is_first = false;
         }
     }
     Ok(())
 }
 
-/// Appends a register and its rule, after a comma unless it is the first.
-fn push_separated(
-    text: &mut Text,
-    names: RegisterNames,
+/// Writes a register and its rule, after a comma unless it is the first.
+fn write_separated<R: Reader<Offset = usize>, S: UnwindSection<R>, W: Write>(
+    output: &mut W,
+    style: Style,
+    section: &S,
     is_first: bool,
     register: Register,
     rule: RegisterRule<usize>,
-) -> fmt::Result
-    ensures { OnOk result (text.new.items
-        ≡ text.old.items ++ separated is_first (json_rule names register.0 rule)) }
+) -> io::Result<()>
+    ensures { let from = S.view section.now in
+        let wording = worded style from.address_size from.position in
+        Writes (W.contents output.old) (W.contents output.new) result
+        (separated is_first (json_rule wording register.0 rule)) }
 {
-    if !is_first {
-        push(text, b",")?;
+    if is_first {
+        write_member(output, style, section, register, rule)
+    } else {
+        write_behind_comma(output, style, section, register, rule)
     }
-    push_member(text, names, register, rule)
 }
 
-/// Appends a register and its rule.
-fn push_member(
-    text: &mut Text,
-    names: RegisterNames,
+/// Writes a register and its rule, after a comma.
+fn write_behind_comma<R: Reader<Offset = usize>, S: UnwindSection<R>, W: Write>(
+    output: &mut W,
+    style: Style,
+    section: &S,
     register: Register,
     rule: RegisterRule<usize>,
-) -> fmt::Result
-    ensures { OnOk result (text.new.items ≡ text.old.items ++ json_member names register.0 rule) }
+) -> io::Result<()>
+    ensures { let from = S.view section.now in
+        let wording = worded style from.address_size from.position in
+        Writes (W.contents output.old) (W.contents output.new) result
+        (json_rule wording register.0 rule) }
 {
-    push(text, b"\"")?;
-    push_register(text, names, register)?;
-    push(text, b"\":\"")?;
-    push_rule(text, names, rule)?;
-    push(text, b"\"")
+    write_text(output, b",")?;
+    write_member(output, style, section, register, rule)
+}
+
+/// Writes a register and its rule.
+fn write_member<R: Reader<Offset = usize>, S: UnwindSection<R>, W: Write>(
+    output: &mut W,
+    style: Style,
+    section: &S,
+    register: Register,
+    rule: RegisterRule<usize>,
+) -> io::Result<()>
+    ensures { let from = S.view section.now in
+        let wording = worded style from.address_size from.position in
+        Writes (W.contents output.old) (W.contents output.new) result
+        (json_member wording register.0 rule) }
+{
+    write_name(output, style.names, register)?;
+    write_rule(output, style.names, section, rule)?;
+    write_text(output, b"\"")
+}
+
+/// Writes a register as the name of a member, and the quotation mark of its value.
+fn write_name<W: Write>(output: &mut W, names: RegisterNames, register: Register) -> io::Result<()>
+    ensures { Writes (W.contents output.old) (W.contents output.new) result
+        (codes "\"" ++ register_text names register.0 ++ codes "\":\"") }
+{
+    let name = names.name(register.0);
+    write_part(output, format_args!("\"{name}\":\""))
+}
+
+/// Writes the end of the rules, and behind them the bytes of their expressions, if there are any.
+fn write_bytes<R: Reader<Offset = usize>, S: UnwindSection<R>, W: Write, H: HasRules>(
+    output: &mut W,
+    style: Style,
+    section: &S,
+    row: &H,
+) -> io::Result<()>
+    ensures { let from = S.view section.now in
+        let wording = worded style from.address_size from.position in
+        Writes (W.contents output.old) (W.contents output.new) result
+        (json_bytes wording (H.parts row.now)) }
+{
+    let end = row.end();
+    let mut is_first = true;
+    for number in 0..end {
+        let register = Register(number as u16);
+        if let Some(expression) = expression_at(row, register) {
+            write_bytes_member(output, style, section, is_first, register, expression)?;
+            is_first = false;
+        }
+    }
+    write_text(output, b"}")
+}
+
+/// Returns the expression of the register's rule, if it has one.
+fn expression_at<H: HasRules>(row: &H, register: Register) -> Option<UnwindExpression<usize>>
+    ensures { result ≡ expression_at (map.get (H.parts row.now).rules register.0) }
+{
+    match row.rule(register) {
+        Some(rule) => expression_in(rule),
+        None => None,
+    }
+}
+
+/// Writes a register and the bytes of its expression, after a comma; after the end of the rules if
+/// it is the first.
+fn write_bytes_member<R: Reader<Offset = usize>, S: UnwindSection<R>, W: Write>(
+    output: &mut W,
+    style: Style,
+    section: &S,
+    is_first: bool,
+    register: Register,
+    expression: UnwindExpression<usize>,
+) -> io::Result<()>
+    ensures { let from = S.view section.now in
+        let wording = worded style from.address_size from.position in
+        Writes (W.contents output.old) (W.contents output.new) result
+        (opening is_first ++ bytes_member wording register.0 expression) }
+{
+    write_opening(output, is_first)?;
+    write_bytes_of_member(output, style, section, register, expression)
+}
+
+/// Writes what comes before the bytes of an expression.
+fn write_opening<W: Write>(output: &mut W, is_first: bool) -> io::Result<()>
+    ensures { Writes (W.contents output.old) (W.contents output.new) result (opening is_first) }
+{
+    if is_first {
+        write_text(output, b"},\"rules_bytes\":{")
+    } else {
+        write_text(output, b",")
+    }
+}
+
+/// Writes a register and the bytes of its expression.
+fn write_bytes_of_member<R: Reader<Offset = usize>, S: UnwindSection<R>, W: Write>(
+    output: &mut W,
+    style: Style,
+    section: &S,
+    register: Register,
+    expression: UnwindExpression<usize>,
+) -> io::Result<()>
+    ensures { let from = S.view section.now in
+        let wording = worded style from.address_size from.position in
+        Writes (W.contents output.old) (W.contents output.new) result
+        (bytes_member wording register.0 expression) }
+{
+    write_name(output, style.names, register)?;
+    write_bytes_of(output, section, expression)?;
+    write_text(output, b"\"")
 }

@@ -6,9 +6,9 @@ ghost use Rattle.cfi_read_core.specs.ReaderCalls.{map_ok};
 ghost use Rattle.cfi_state.specs.RegisterRuleIters.{rules_left};
 ghost use Rattle.cfi_state.specs.RulePairs.{IsRising, rules_of};
 ghost use Rattle.cfi_object.specs.declared.register_names.RegisterNames.{RegisterNames};
-ghost use Rattle.cfi_programs.specs.AnswerLines.{answer_line, text_style};
+ghost use Rattle.cfi_programs.specs.AnswerLines.{plain_line};
 ghost use Rattle.cfi_programs.specs.KeptRules.{AreKept, kept_rules, kept_text};
-ghost use Rattle.cfi_programs.specs.RowLines.{ruled, rules_by};
+ghost use Rattle.cfi_programs.specs.RowLines.{IsPlain, ruled, rules_by};
 
 use crate::row_line::{is_rising, push_next, push_ruled};
 use crate::text::Text;
@@ -201,7 +201,9 @@ impl KeptRows {
         answer: Result<&UnwindTableRow<usize, A>, Error>,
     ) -> Result<bool, fmt::Error>
         ensures pushed { IfOk result (λ pushed. pushed ≡ true → text.new.items ≡ text.old.items
-            ++ (answer_line (text_style names) (map_ok (λ row. row.now) answer.entry)).text) }
+            ++ (plain_line names (map_ok (λ row. row.now) answer.entry)).text) }
+        ensures plain { IfOk result (λ pushed. pushed ≡ true →
+            IfOk answer.entry (λ row. IsPlain row.now)) }
         ensures left { IfOk result (λ pushed. pushed ≡ false → text.new.items ≡ text.old.items) }
     {
         if self.names != names {

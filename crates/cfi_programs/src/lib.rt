@@ -6,12 +6,15 @@
 
 pub mod check;
 pub mod dump;
+mod expression_words;
 pub mod input;
 pub mod json;
 mod json_row;
 mod kept_rules;
 pub mod lines;
+mod operations;
 pub mod row_line;
+pub mod row_words;
 pub mod rows;
 pub mod run;
 pub mod style;

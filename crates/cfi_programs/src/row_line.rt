@@ -1,4 +1,4 @@
-//! The line of a row.
+//! The line of a row in text, with the place of each expression in the section.
 ghost use Rattle.std.specs.Prelude.{◌≡◌, ◌≤◌, ◌+◌, ◌++◌, ℕ, [], ◌∷◌, None, OnOk, codes};
 ghost use Rattle.std.specs.Prelude.{◌<◌, IfOk, IfSome, false, true};
 ghost use Rattle.std.specs.FinMap as map;
@@ -11,16 +11,15 @@ ghost use Rattle.cfi_object.specs.RegisterNames.{register_text};
 ghost use Rattle.cfi_object.specs.declared.register_names.RegisterNames.TheVariants.{X86_64};
 ghost use Rattle.cfi_programs.specs.KeptRules.{AreKept, kept_rules};
 ghost use Rattle.cfi_programs.specs.WriterOutput.{Prints, Writes, WritesBehind};
-ghost use Rattle.cfi_programs.specs.AnswerLines.{answer_behind, answer_line, row_behind, row_in};
-ghost use Rattle.cfi_programs.specs.AnswerLines.{text_style};
+ghost use Rattle.cfi_programs.specs.AnswerLines.{plain_line};
+ghost use Rattle.cfi_programs.specs.KeptRules.{ArePlain};
+ghost use Rattle.cfi_programs.specs.RowLines.{IsPlain, expression_in, is_plain_cfa};
 ghost use Rattle.cfi_programs.specs.RowLines.{cfa_text, expression_text};
 ghost use Rattle.cfi_programs.specs.RowLines.{offset_text, parts_rules, row_head};
 ghost use Rattle.cfi_programs.specs.RowLines.{row_text, rule_text, ruled, rules_by};
 
-use crate::json_row::{write_json_members, write_json_row};
 use crate::kept_rules::KeptRules;
-use crate::lines::{write_reason_behind, write_refusal_in, write_text};
-use crate::style::{Format, Style};
+use crate::lines::{write_refusal, write_text};
 use crate::text::{Text, push, push_address, push_decimal, push_signed};
 use cfi_object::register_names::RegisterNames;
 use gimli_cfi::{
@@ -72,19 +71,6 @@ fn push_expression(text: &mut Text, expression: UnwindExpression<usize>) -> fmt:
     push_decimal(text, expression.offset as u64)?;
     push(text, b":")?;
     push_decimal(text, expression.length as u64)
-}
-
-/// Appends the rule of the canonical frame address.
-pub(crate) fn push_cfa(text: &mut Text, names: RegisterNames, cfa: CfaRule<usize>) -> fmt::Result
-    ensures { OnOk result (text.new.items ≡ text.old.items ++ cfa_text names cfa) }
-{
-    match cfa {
-        CfaRule::RegisterAndOffset { register, offset } => {
-            push_register(text, names, register)?;
-            push_offset(text, offset)
-        }
-        CfaRule::Expression(expression) => push_expression(text, expression),
-    }
 }
 
 /// Appends the rule of the canonical frame address and the argument size, each after its name.
@@ -313,61 +299,28 @@ fn push_any_register(text: &mut Text, names: RegisterNames, register: Register) 
     push(text, b"=")
 }
 
-/// Prints the line of an answer, and returns the status: 0 for a row, 1 for an error.
-pub fn write_answer<W: Write, A: ArrayLike<Item = (Register, RegisterRule<usize>)>>(
+/// Prints the line of an answer in text, and returns the status: 0 for a row, 1 for an error. An
+/// expression is printed as its place in the section.
+pub fn write_plain_answer<W: Write, A: ArrayLike<Item = (Register, RegisterRule<usize>)>>(
     output: &mut W,
-    style: Style,
+    names: RegisterNames,
     answer: Result<&UnwindTableRow<usize, A>, Error>,
 ) -> io::Result<u8>
-    ensures { Prints (answer_line style (map_ok (λ row. row.now) answer.entry))
+    ensures { Prints (plain_line names (map_ok (λ row. row.now) answer.entry))
         (W.contents output.old) (W.contents output.new) result }
 {
     match answer {
         Ok(row) => {
-            write_row_in(output, style, row)?;
+            write_row(output, names, row)?;
             Ok(0)
         }
-        Err(error) => write_refusal_in(output, style.format, error),
+        Err(error) => write_refusal(output, error),
     }
 }
 
-/// Prints the end of the line of an answer, behind what was asked for, and returns the status: 0
-/// for a row, 1 for an error. In JSON it is the end of an object that has begun.
-pub fn write_answer_behind<W: Write, A: ArrayLike<Item = (Register, RegisterRule<usize>)>>(
-    output: &mut W,
-    style: Style,
-    answer: Result<&UnwindTableRow<usize, A>, Error>,
-) -> io::Result<u8>
-    ensures { Prints (answer_behind style (map_ok (λ row. row.now) answer.entry))
-        (W.contents output.old) (W.contents output.new) result }
-{
-    match answer {
-        Ok(row) => {
-            write_row_behind(output, style, row)?;
-            Ok(0)
-        }
-        Err(error) => write_reason_behind(output, style.format, b"refused ", error.name()),
-    }
-}
-
-/// Writes the end of the line of a row, its registers in ascending order.
-fn write_row_behind<W: Write, A: ArrayLike<Item = (Register, RegisterRule<usize>)>>(
-    output: &mut W,
-    style: Style,
-    row: &UnwindTableRow<usize, A>,
-) -> io::Result<()>
-    ensures { Writes (W.contents output.old) (W.contents output.new) result
-        (row_behind style.format style.names row.now ++ 10 ∷ []) }
-{
-    match style.format {
-        Format::Text => write_row(output, style.names, row),
-        Format::Json => write_json_members(output, style.names, row),
-    }
-}
-
-/// Appends the line of text of an answer that comes after others of its table, if it is a row whose
-/// rules can be kept for the next one. Returns whether it is. Fails where there is no room for the
-/// line.
+/// Appends the line of text of an answer that comes after others of its table, if it is a row
+/// without expressions whose rules can be kept for the next one. Returns whether it is. Fails where
+/// there is no room for the line.
 #[inline]
 pub(crate) fn push_next<A: ArrayLike<Item = (Register, RegisterRule<usize>)>>(
     text: &mut Text,
@@ -378,17 +331,67 @@ pub(crate) fn push_next<A: ArrayLike<Item = (Register, RegisterRule<usize>)>>(
     requires { AreKept names kept.old }
     ensures kept { AreKept names kept.new }
     ensures pushed { IfOk result (λ pushed. pushed ≡ true → text.new.items ≡ text.old.items
-        ++ (answer_line (text_style names) (map_ok (λ row. row.now) answer.entry)).text) }
+        ++ (plain_line names (map_ok (λ row. row.now) answer.entry)).text) }
+    ensures plain { IfOk result (λ pushed. pushed ≡ true →
+        IfOk answer.entry (λ row. IsPlain row.now)) }
     ensures left { IfOk result (λ pushed. pushed ≡ false → text.new.items ≡ text.old.items) }
 {
     let Ok(row) = answer else {
         return Ok(false);
     };
+    if !is_plain(row) {
+        return Ok(false);
+    }
     if !kept.keep(names, row.registers()) {
         return Ok(false);
     }
     push_row(text, names, kept, row)?;
     Ok(true)
+}
+
+/// Returns whether no rule of the row is an expression.
+fn is_plain<A: ArrayLike<Item = (Register, RegisterRule<usize>)>>(
+    row: &UnwindTableRow<usize, A>,
+) -> bool
+    ensures { result ≡ true → IsPlain row.now }
+{
+    if !is_plain_cfa(*row.cfa()) {
+        return false;
+    }
+    are_plain(row.registers())
+}
+
+/// Returns whether the rule is no expression.
+fn is_plain_cfa(cfa: CfaRule<usize>) -> bool
+    ensures { result ≡ is_plain_cfa cfa }
+{
+    match cfa {
+        CfaRule::RegisterAndOffset { .. } => true,
+        CfaRule::Expression(_) => false,
+    }
+}
+
+/// Returns whether no rule is an expression.
+fn are_plain(rules: RegisterRuleIter<'_, usize>) -> bool
+    ensures { result ≡ true → ArePlain (rules_left rules.entry) }
+{
+    for (_, rule) in rules {
+        if let Some(_) = expression_in(*rule) {
+            return false;
+        }
+    }
+    true
+}
+
+/// Returns the expression of the rule, if it has one.
+pub(crate) fn expression_in(rule: RegisterRule<usize>) -> Option<UnwindExpression<usize>>
+    ensures { result ≡ expression_in rule }
+{
+    match rule {
+        RegisterRule::Expression(expression) => Some(expression),
+        RegisterRule::ValExpression(expression) => Some(expression),
+        _ => None,
+    }
 }
 
 /// Appends the line of text of a row whose rules are kept. Fails where there is no room for it.
@@ -408,23 +411,6 @@ fn push_row<A: ArrayLike<Item = (Register, RegisterRule<usize>)>>(
     push(text, b"\n")
 }
 
-/// Writes the text and then the line of text of an answer. There is no text left.
-pub(crate) fn write_apart<W: Write, A: ArrayLike<Item = (Register, RegisterRule<usize>)>>(
-    output: &mut W,
-    text: &mut Text,
-    names: RegisterNames,
-    answer: Result<&UnwindTableRow<usize, A>, Error>,
-) -> io::Result<()>
-    ensures written { Writes (W.contents output.old) (W.contents output.new) result (text.old.items
-        ++ (answer_line (text_style names) (map_ok (λ row. row.now) answer.entry)).text) }
-    ensures empty { OnOk result (text.new.items ≡ []) }
-{
-    write_out(output, text)?;
-    let format = Format::Text;
-    write_answer(output, Style { names, format }, answer)?;
-    Ok(())
-}
-
 /// Writes the text. There is none left.
 pub(crate) fn write_out<W: Write>(output: &mut W, text: &mut Text) -> io::Result<()>
     ensures written { Writes (W.contents output.old) (W.contents output.new) result text.old.items }
@@ -433,21 +419,6 @@ pub(crate) fn write_out<W: Write>(output: &mut W, text: &mut Text) -> io::Result
     write_text(output, text.as_slice())?;
     text.clear();
     Ok(())
-}
-
-/// Writes the line of a row, its registers in ascending order.
-fn write_row_in<W: Write, A: ArrayLike<Item = (Register, RegisterRule<usize>)>>(
-    output: &mut W,
-    style: Style,
-    row: &UnwindTableRow<usize, A>,
-) -> io::Result<()>
-    ensures { Writes (W.contents output.old) (W.contents output.new) result
-        (row_in style.format style.names row.now ++ 10 ∷ []) }
-{
-    match style.format {
-        Format::Text => write_row(output, style.names, row),
-        Format::Json => write_json_row(output, style.names, row),
-    }
 }
 
 /// Writes the row as a line of text.
@@ -565,7 +536,7 @@ impl<A: ArrayLike<Item = (Register, RegisterRule<usize>)>> HasRules for UnwindTa
 }
 
 /// Appends the rules, each looked up by its number. Writes the text where it is long.
-pub fn write_by_number<W: Write, H: HasRules>(
+pub(crate) fn write_by_number<W: Write, H: HasRules>(
     output: &mut W,
     text: &mut Text,
     names: RegisterNames,

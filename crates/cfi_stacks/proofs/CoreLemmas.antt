@@ -1,8 +1,8 @@
 -- What the files of a core have of its process, one mapping after the other.
-use Rattle.std.proofs.Common.{◌≡◌, ◌∙◌, ℕ, ◌+◌, ◌<◌, ◌≤◌, ◌&&◌, Bool, true, false, List, [], ◌∷◌, ◌++◌, Bor, Option, Some, None, length, get_or, drop, map, option_map, cond, refl, sym, ap, subst, add-one, append-nil, append_assoc}
+use Rattle.std.proofs.Common.{◌||◌, ◌≡◌, ◌∙◌, ℕ, ◌+◌, ◌<◌, ◌≤◌, ◌&&◌, Bool, true, false, List, [], ◌∷◌, ◌++◌, Bor, Option, Some, None, length, get_or, drop, map, option_map, cond, refl, sym, ap, add-one, append_assoc}
 use Rattle.std.proofs.Math.Seq.{drop-cons}
 use Rattle.std.proofs.lemmas.List.{drop_all, map-append}
-use Rattle.std.specs.List.{cons_option, filter_map, find, fold, list_all}
+use Rattle.std.specs.List.{cons_option, filter_map, find, fold, list_all, list_any}
 use Rattle.std.specs.Option.{option_and_then}
 use Rattle.std.specs.Str.{bytes_eq}
 use Rattle.cfi_processes.specs.declared.profile_files.OpenedFile.{OpenedFile}
@@ -52,6 +52,10 @@ module _ {X Y : Type 0} (view : X → Y) (list : List X) (i : ℕ) where
 pub all_mapped : {X Y : Type 0} (f : X → Y) (p : Y → Bool) (xs : List X) → list_all (λ x. p (f x)) xs ≡ list_all p (map f xs)
 all_mapped f p [] = refl
 all_mapped f p (x ∷ xs) = ap (λ (b : Bool). p (f x) && b) (all_mapped f p xs)
+
+pub any_mapped : {X Y : Type 0} (f : X → Y) (p : Y → Bool) (xs : List X) → list_any (λ x. p (f x)) xs ≡ list_any p (map f xs)
+any_mapped f p [] = refl
+any_mapped f p (x ∷ xs) = ap (λ (b : Bool). p (f x) || b) (any_mapped f p xs)
 
 -- ---- a file by its name
 

@@ -1,6 +1,8 @@
 -- The samples of the records of a profile, counted by their folded stacks.
-use Rattle.std.proofs.Common.{◌≡◌, ◌∙◌, ◌⊎◌, ℕ, ◌+◌, ◌<◌, ◌≤◌, ◌^◌, Bool, List, [], ◌∷◌, ◌++◌, Option, None, Result, Ok, Err, OnOk, IfErr, length, get_or, take, drop, map, codes, add-one, refl, sym, ap, subst, inl, inr, append_assoc, append-nil, arith, unwrap_or}
+use Rattle.std.proofs.Common.{◌≡◌, ◌∙◌, ◌⊎◌, ℕ, ◌+◌, ◌<◌, ◌≤◌, ◌^◌, Bool, List, [], ◌∷◌, ◌++◌, Option, Some, None, Result, Ok, Err, OnOk, IfErr, length, get_or, take, drop, map, codes, add-one, refl, sym, ap, subst, inl, inr, append_assoc, arith, unwrap_or, true, false, nat_eq}
+use Rattle.std.specs.Option.{option_eq}
 use Rattle.std.proofs.Math.Seq.{drop-cons}
+use Rattle.std.proofs.lemmas.List.{take-append-drop}
 use Rattle.std.specs.List.{flat_map}
 use Rattle.cfi_flame.specs.declared.folded.FoldedError.{FoldedError}
 use Rattle.cfi_flame.specs.declared.folded.FoldedError.TheVariants.{OutOfMemory, NotFolded, NoSamples, TooManySamples}
@@ -8,8 +10,9 @@ use Rattle.cfi_flame.specs.FoldedCounts.{AreCounted, CountsMore, IsNotAdded, cou
 use Rattle.cfi_flame.specs.FoldedStacks.{Stack}
 use Rattle.cfi_flame.proofs.CountLemmas.{counted_here}
 use Rattle.cfi_perf.specs.declared.error.PerfError.{PerfError}
-use Rattle.cfi_perf.specs.Events.{Event, Record, ForkEvent, LostEvent, MappingEvent, OtherEvent, ProgramEvent, SampleEvent}
+use Rattle.cfi_perf.specs.Events.{Record, SampleEvent}
 use Rattle.cfi_perf.specs.Samples.{Sample}
+use Rattle.cfi_programs.specs.declared.style.Format.TheVariants.{Text}
 use Rattle.cfi_programs.specs.Runs.{out_of_memory}
 use Rattle.cfi_programs.specs.WriterOutput.{PrintsSome}
 use Rattle.cfi_step.specs.declared.walk.StackFrame.{StackFrame}
@@ -17,9 +20,10 @@ use Rattle.cfi_processes.specs.declared.mappings.MappedCode.{MappedCode}
 use Rattle.cfi_processes.specs.declared.registers.SampleMachine.{SampleMachine}
 use Rattle.cfi_processes.specs.KnownFiles.{KnownFile}
 use Rattle.cfi_stacks.specs.FoldedTexts.{frame_name, names_text}
-use Rattle.cfi_stacks.specs.Foldings.{IsFollowed, IsNotFollowed}
-use Rattle.cfi_stacks.specs.ProfileOutputs.{AreFolded, AreSamples, IsFolded, IsFoldedText, IsSampleOf, IsUnfolded, Known, ended, in_kernel_of, known_after, nothing_known, weight}
-use Rattle.cfi_stacks.proofs.RunLemmas.{IsKnownAfter}
+use Rattle.cfi_stacks.specs.Foldings.{IsFollowed, IsNotFollowed, is_left_out, left_after}
+use Rattle.cfi_stacks.specs.Choices.{Choice}
+use Rattle.cfi_stacks.specs.ProfileOutputs.{AreFolded, AreOfAll, AreSamples, IsFolded, IsFoldedText, IsSampleOf, IsUnfolded, Known, KnownSample, ended, in_kernel_of, weight}
+use Rattle.cfi_stacks.proofs.ChosenLemmas.{GoesOn, IsKnownAfter, none_gone, one_more, one_passed, so_far, so_many}
 
 -- one more part of a text, and then the others
 pub then_more : {T E : Type 0} (r : Result T E) (text start next part more : List ℕ) → next ≡ start ++ part → OnOk r (text ≡ next ++ more) → OnOk r (text ≡ start ++ (part ++ more))
@@ -45,89 +49,75 @@ one_named files list frames k left d start line next more is inside h e g =
     g ∙ ap (λ (x : List ℕ). x ++ name) e ∙ append_assoc line (codes ";") name ∙ ap (λ (x : List ℕ). x ++ (codes ";" ++ name)) h2 ∙ append_assoc start names (codes ";" ++ name)
     ∙ ap (λ (rest : List StackFrame). start ++ names_text files list rest) (sym first)
 
-module _ (by_period : Bool) (machine : SampleMachine) (files : List KnownFile) where
-  -- a record that has a sample changes nothing
-  sample_before : (before : Known) (time : ℕ) (event : Event) (samples : List Stack) → IsSampleOf by_period machine files (known_after files event before) time event samples
-      → IsSampleOf by_period machine files before time event samples
-  sample_before before time (MappingEvent m) samples is = is
-  sample_before before time (ProgramEvent p) samples is = is
-  sample_before before time (ForkEvent f) samples is = is
-  sample_before before time (SampleEvent s) samples is = is
-  sample_before before time (LostEvent l) samples is = is
-  sample_before before time OtherEvent samples is = is
+module _ (by_period : Bool) (machine : SampleMachine) (files : List KnownFile) (choice : Choice) where
+  abbrev pub GoesOnWith : List Record → Option ℕ → Known → List Stack → Type 0
+  GoesOnWith = GoesOn files choice (IsSampleOf by_period machine files)
 
-  -- With the samples of any further records those of the first are those of all.
-  pub record GoesOn (first : List Record) (now : Known) (front : List Stack) : Type 0 where
-    pub goes_on : (rest : List Record) (samples : List Stack) → AreSamples by_period machine files now rest samples → AreSamples by_period machine files nothing_known (first ++ rest) (front ++ samples)
+  -- what was counted goes on
+  abbrev pub SoFar : List Record → Option ℕ → Known → List Stack → Type 0
+  SoFar first left now counts = (samples : List Stack) × GoesOnWith first left now samples × AreCounted samples counts
 
-  -- and they were counted
-  abbrev pub SoFar : List Record → Known → List Stack → Type 0
-  SoFar first now counts = (samples : List Stack) × GoesOn first now samples × AreCounted samples counts
+  pub none_so_far : (now : Known) (counts : List Stack) → ((pid : ℕ) → now.mapped pid ≡ []) → ((tid : ℕ) → now.names tid ≡ None) → AreCounted [] counts → SoFar [] choice.limit now counts
+  none_so_far now counts nothing nameless are = ([], none_gone files choice (IsSampleOf by_period machine files) now nothing nameless, are)
 
-  pub none_so_far : (now : Known) (counts : List Stack) → ((pid : ℕ) → now.mapped pid ≡ []) → ((tid : ℕ) → now.names tid ≡ None) → AreCounted [] counts → SoFar [] now counts
-  none_so_far now counts nothing nameless are = (
-    [],
-    record { goes_on = λ rest samples h. subst (λ (state : Known). AreSamples by_period machine files state rest samples) (λ i. record { mapped = λ pid. nothing pid i; names = λ tid. nameless tid i }) h },
-    are,
-  )
+  -- a record was passed by
+  pub one_left_out : (first all : List Record) (r : Record) (left : Option ℕ) (now : Known) (counts : List Stack) → all ≡ first ++ r ∷ [] → is_left_out choice now r.time r.event ≡ true → SoFar first left now counts → SoFar all left now counts
+  one_left_out first all r left now counts is_all out (samples, so, are) = (samples, one_passed files choice (IsSampleOf by_period machine files) first all r left now samples is_all out so, are)
 
-  one_more : (first : List Record) (r : Record) (before now : Known) (front samples : List Stack) → GoesOn first before front → IsKnownAfter files r.event before now
-      → IsSampleOf by_period machine files now r.time r.event samples → GoesOn (first ++ r ∷ []) now (front ++ samples)
-  one_more first r before now front samples so is_after is = record {
-    goes_on = λ rest others are.
-        let follows : now ≡ known_after files r.event before = λ i. record { mapped = λ pid. is_after.0 pid i; names = λ tid. is_after.1 tid i } in
-        let here : IsSampleOf by_period machine files before r.time r.event samples =
-        sample_before before r.time r.event samples (subst (λ (state : Known). IsSampleOf by_period machine files state r.time r.event samples) follows is) in
-        let later : AreSamples by_period machine files (known_after files r.event before) rest others = subst (λ (state : Known). AreSamples by_period machine files state rest others) follows are in
-        let all = so.goes_on (r ∷ rest) (samples ++ others) (samples, others, here, later, refl) in
-        subst (λ (whole : List Stack). AreSamples by_period machine files nothing_known ((first ++ r ∷ []) ++ rest) whole) (sym (append_assoc front samples others))
-        (subst (λ (records : List Record). AreSamples by_period machine files nothing_known records (front ++ (samples ++ others))) (sym (append_assoc first (r ∷ []) rest)) all);
-  }
-
-  pub one_so_far : (first all : List Record) (r : Record) (before now : Known) (old new : List Stack) → all ≡ first ++ r ∷ [] → SoFar first before old → IsKnownAfter files r.event before now
-      → IsFollowed by_period machine files now r.time r.event old new → SoFar all now new
-  one_so_far first all r before now old new is_all (front, so, are) is_after (samples, is, adds) = (
+  pub one_so_far : (first all : List Record) (r : Record) (left : Option ℕ) (before now : Known) (old new : List Stack) → all ≡ first ++ r ∷ [] → is_left_out choice before r.time r.event ≡ false → option_eq nat_eq left (Some 0) ≡ false → SoFar first left before old
+      → IsKnownAfter files r.event before now → IsFollowed by_period machine files now r.time r.event old new → SoFar all (left_after left r.event) now new
+  one_so_far first all r left before now old new is_all inside some (front, so, are) is_after (samples, is, adds) = (
     front ++ samples,
-    subst (λ (records : List Record). GoesOn records now (front ++ samples)) (sym is_all) (one_more first r before now front samples so is_after is),
+    one_more files choice (IsSampleOf by_period machine files) first all r left before now front samples is_all inside some so is_after is,
     adds front are,
   )
 
-  -- so far they are the samples of the first
-  of_first : (first : List Record) (now : Known) (front : List Stack) → GoesOn first now front → AreSamples by_period machine files nothing_known first front
-  of_first first now front so =
-      subst (λ (records : List Record). AreSamples by_period machine files nothing_known records front) (append-nil first)
-      (subst (λ (samples : List Stack). AreSamples by_period machine files nothing_known (first ++ []) samples) (append-nil front) (so.goes_on [] [] refl))
-
-  pub refused_so_far : (n : ℕ) (records : List Record) (r : Record) (before now : Known) (old : List Stack) (error : FoldedError) → take (n + 1) records ≡ take n records ++ r ∷ []
-      → SoFar (take n records) before old → IsKnownAfter files r.event before now → IsNotFollowed by_period machine files now r.time r.event old error → IsUnfolded by_period machine files records error
-  refused_so_far n records r before now old OutOfMemory is_next so is_after h = tt
-  refused_so_far n records r before now old (NotFolded number) is_next so is_after h = h
-  refused_so_far n records r before now old NoSamples is_next so is_after h = h
-  refused_so_far n records r before now old TooManySamples is_next (front, so, are) is_after (samples, is, many) = (
+  pub refused_so_far : (n : ℕ) (records : List Record) (r : Record) (left : Option ℕ) (before now : Known) (old : List Stack) (error : FoldedError) → take (n + 1) records ≡ take n records ++ r ∷ [] → is_left_out choice before r.time r.event ≡ false
+      → option_eq nat_eq left (Some 0) ≡ false → SoFar (take n records) left before old → IsKnownAfter files r.event before now → IsNotFollowed by_period machine files now r.time r.event old error → IsUnfolded by_period machine files choice records error
+  refused_so_far n records r left before now old OutOfMemory is_next inside some so is_after h = tt
+  refused_so_far n records r left before now old (NotFolded number) is_next inside some so is_after h = h
+  refused_so_far n records r left before now old NoSamples is_next inside some so is_after h = h
+  refused_so_far n records r left before now old TooManySamples is_next inside some (front, so, are) is_after (samples, is, many) = (
     n + 1,
     front ++ samples,
-    subst (λ (first : List Record). AreSamples by_period machine files nothing_known first (front ++ samples)) (sym is_next)
-        (of_first (take n records ++ r ∷ []) now (front ++ samples) (one_more (take n records) r before now front samples so is_after is)),
+    so_far files choice (IsSampleOf by_period machine files) (take (n + 1) records) (left_after left r.event) now (front ++ samples)
+        (one_more files choice (IsSampleOf by_period machine files) (take n records) (take (n + 1) records) r left before now front samples is_next inside some so is_after is),
     many front are,
   )
 
-  pub all_so_far : (first records : List Record) (now : Known) (counts : List Stack) → first ≡ records → SoFar first now counts → AreFolded by_period machine files records counts
-  all_so_far first records now counts all (samples, so, are) =
-      (samples, subst (λ (of : List Record). AreSamples by_period machine files nothing_known of samples) all (of_first first now samples so), are)
+  pub all_so_far : (first records : List Record) (left : Option ℕ) (now : Known) (counts : List Stack) → first ≡ records → SoFar first left now counts → AreFolded by_period machine files choice records counts
+  all_so_far first records left now counts all (samples, so, are) = (
+    samples,
+    subst (λ (of : List Record). AreSamples by_period machine files choice of samples) all (so_far files choice (IsSampleOf by_period machine files) first left now samples so),
+    are,
+  )
+
+  -- no more are counted
+  pub many_so_far : (n : ℕ) (records : List Record) (left : Option ℕ) (now : Known) (counts : List Stack) → option_eq nat_eq left (Some 0) ≡ true → SoFar (take n records) left now counts → AreFolded by_period machine files choice records counts
+  many_so_far n records left now counts full (samples, so, are) = (
+    samples,
+    subst (λ (of : List Record). AreSamples by_period machine files choice of samples) (take-append-drop n records)
+        (so_many files choice (IsSampleOf by_period machine files) (take n records) (drop n records) left now samples full so),
+    are,
+  )
 
   -- their lines were printed, or memory was refused
-  pub counts_printed : {E : Type 0} (records : List Record) (folded : List Stack) (error : Option PerfError) (old new : Option (List ℕ)) (r : Result ℕ E) → AreFolded by_period machine files records folded
-      → PrintsSome (λ line. (line ≡ ended (flat_map line_text folded) error) ⊎ (line ≡ out_of_memory)) old new r → PrintsSome (λ line. IsFolded by_period machine files records error line) old new r
+  pub counts_printed : {E : Type 0} (records : List Record) (folded : List Stack) (error : Option PerfError) (old new : Option (List ℕ)) (r : Result ℕ E) → AreFolded by_period machine files choice records folded
+      → PrintsSome (λ line. (line ≡ ended Text (flat_map line_text folded) error) ⊎ (line ≡ out_of_memory)) old new r → PrintsSome (λ line. IsFolded by_period machine files choice records error line) old new r
   counts_printed records folded error old new r are (printed, prints, inl e) = (printed, prints, inl (folded, are, e))
   counts_printed records folded error old new r are (printed, prints, inr e) = (printed, prints, inr (OutOfMemory, tt, e))
 
+module _ (by_period : Bool) (machine : SampleMachine) (files : List KnownFile) where
   -- ---- a sample
+
+  alone : (it : KnownSample) (stack : Stack) → IsSampleOf by_period machine files it (stack ∷ []) → AreOfAll (IsSampleOf by_period machine files) (it ∷ []) (stack ∷ [])
+  alone it stack is = (stack ∷ [], [], is, refl, refl)
 
   pub sample_added : {T E : Type 0} (known : Known) (time : ℕ) (s : Sample) (text : List ℕ) (count : ℕ) (old new : List Stack) (r : Result T E) → IsFoldedText machine files (in_kernel_of files known) (known.mapped s.pid) (known.names s.tid) s text
       → count ≡ weight by_period s → OnOk r (CountsMore text count old new) → OnOk r (IsFollowed by_period machine files known time (SampleEvent s) old new)
   sample_added known time s text count old new (Ok done) is counts more = (
     record { frames = text; count = count } ∷ [],
-    (text, is, ap (λ (n : ℕ). record { frames = text; count = n } ∷ []) counts),
+    alone (record { known = known; time = time; sample = s }) (record { frames = text; count = count }) (text, is, ap (λ (n : ℕ). record { frames = text; count = n } ∷ []) counts),
     more,
   )
   sample_added known time s text count old new (Err e) is counts more = tt
@@ -140,7 +130,7 @@ module _ (by_period : Bool) (machine : SampleMachine) (files : List KnownFile) w
   sample_refused known time s text count old (Err NoSamples) is counts h = h
   sample_refused known time s text count old (Err TooManySamples) is counts h = (
     record { frames = text; count = count } ∷ [],
-    (text, is, ap (λ (n : ℕ). record { frames = text; count = n } ∷ []) counts),
+    alone (record { known = known; time = time; sample = s }) (record { frames = text; count = count }) (text, is, ap (λ (n : ℕ). record { frames = text; count = n } ∷ []) counts),
     λ all are. (text, λ fits. h (sum_fits text all count old (are.sums text) fits)),
   )
     where

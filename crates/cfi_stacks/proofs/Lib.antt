@@ -1,8 +1,10 @@
 mod RoomLemmas
+mod ChosenLemmas
 mod RunLemmas
 mod FoldLemmas
 mod StackLemmas
 mod ChainLemmas
+mod ObjectLemmas
 mod ReadLemmas
 mod ThreadLemmas
 mod CoreLemmas

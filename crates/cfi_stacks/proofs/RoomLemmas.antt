@@ -1,5 +1,5 @@
 -- The rows that are kept for the files of a profile.
-use Rattle.std.proofs.Common.{◌≡◌, ◌∙◌, ◌++◌, ◌<◌, ℕ, true, List, Option, Some, length, get_or, take, drop, ap, sym, subst, true≢false}
+use Rattle.std.proofs.Common.{◌≡◌, ◌∙◌, ◌++◌, ℕ, true, List, Option, Some, length, get_or, take, drop, ap, sym, subst, true≢false}
 use Rattle.std.specs.List.{length_refill, refill, slice_get}
 use Rattle.std.proofs.Math.Seq.{take-append_seam}
 use Rattle.cfi_read_core.specs.declared.endianity.RunTimeEndian.{RunTimeEndian}

@@ -1,131 +1,116 @@
--- The stacks of the records of a profile, one after the other.
-use Rattle.std.proofs.Common.{◌≡◌, ◌∙◌, ℕ, ◌+◌, ◌<◌, ◌≤◌, Bool, List, [], ◌∷◌, ◌++◌, Option, Some, None, Result, Ok, Err, IfOk, length, get_or, take, map, refl, sym, ap, subst, inl, inr, append_assoc, append-nil, add-one}
+-- The stacks of the chosen samples of a profile, one after the other.
+use Rattle.std.proofs.Common.{◌≡◌, ◌∙◌, ℕ, ◌+◌, ◌<◌, ◌≤◌, List, [], ◌∷◌, ◌++◌, Option, Some, None, Result, Ok, Err, IfOk, length, get_or, take, drop, map, refl, sym, ap, subst, inl, inr, append_assoc, append-nil, add-one, true, false, nat_eq}
+use Rattle.std.specs.Option.{option_eq}
 use Rattle.std.proofs.Math.Seq.{take-suc}
-use Rattle.std.proofs.lemmas.List.{get_or-map, length-map, take_all}
+use Rattle.std.proofs.lemmas.List.{get_or-map, length-map, take-append-drop, take_all}
 use Rattle.std.specs.Io.KnownBytes.{Appends}
 use Rattle.std.specs.Result.{IsErr}
 use Rattle.cfi_perf.specs.declared.error.PerfError.{PerfError}
 use Rattle.cfi_perf.specs.declared.record.Record.{Record as RecordOfCode}
-use Rattle.cfi_perf.specs.Events.{Event, Record, record_view, ForkEvent, LostEvent, MappingEvent, OtherEvent, ProgramEvent, SampleEvent}
-use Rattle.cfi_programs.specs.Runs.{out_of_memory}
+use Rattle.cfi_perf.specs.Events.{Record, SampleEvent, record_view}
+use Rattle.cfi_perf.specs.Samples.{Sample}
+use Rattle.cfi_programs.specs.declared.style.Format.{Format}
 use Rattle.cfi_programs.specs.WriterOutput.{IsBeginning, Prints, PrintsSome}
 use Rattle.cfi_programs.proofs.WrittenLemmas.{appends_then, beginning_then, none_yet, writes_refused}
 use Rattle.cfi_programs.proofs.DumpSectionWritten.{last_written}
 use Rattle.cfi_processes.specs.declared.registers.SampleMachine.{SampleMachine}
 use Rattle.cfi_processes.specs.KnownFiles.{KnownFile}
-use Rattle.cfi_processes.specs.Replays.{after}
-use Rattle.cfi_processes.specs.ThreadNames.{names_after}
-use Rattle.cfi_stacks.specs.ProfileOutputs.{AreStacks, IsPrinted, IsTextOf, Known, ended, known_after, nothing_known}
-
--- what is known was known before, but for what the event says
-abbrev pub IsKnownAfter : List KnownFile → Event → Known → Known → Type 0
-IsKnownAfter files event before now =
-    ((pid : ℕ) → now.mapped pid ≡ after files event before.mapped pid) × ((tid : ℕ) → now.names tid ≡ names_after event before.names tid)
+use Rattle.cfi_stacks.specs.declared.listing.StackStyle.{StackStyle}
+use Rattle.cfi_stacks.specs.Choices.{Choice}
+use Rattle.cfi_stacks.specs.Foldings.{AreTexts, is_left_out, left_after}
+use Rattle.cfi_stacks.specs.ProfileOutputs.{AreOfAll, AreStacks, IsPrinted, IsTextOf, Known, KnownSample, ended, no_memory}
+use Rattle.cfi_stacks.proofs.ChosenLemmas.{GoesOn, IsKnownAfter, limited_none, none_gone, one_more, one_passed, so_far, so_many}
 
 -- a text, and the error that ended the records behind it
-pub behind : (front : List ℕ) (error : Option PerfError) → record { text = front ++ (ended [] error).text; status = (ended [] error).status } ≡ ended front error
-behind front None = ap (λ (text : List ℕ). record { text = text; status = 0 }) (append-nil front)
-behind front (Some e) = refl
+pub behind : (format : Format) (front : List ℕ) (error : Option PerfError) → record { text = front ++ (ended format [] error).text; status = (ended format [] error).status } ≡ ended format front error
+behind format front None = ap (λ (text : List ℕ). record { text = text; status = 0 }) (append-nil front)
+behind format front (Some e) = refl
 
 -- no status is returned with an error
 pub no_status_is : {E : Type 0} (r : Result ℕ E) (n : ℕ) → IsErr r → IfOk r (λ status. status ≡ n)
 no_status_is (Ok m) n err = cc
 no_status_is (Err e) n err = tt
 
-module _ (raw : Bool) (machine : SampleMachine) (files : List KnownFile) where
-  -- a record that has a text changes nothing
-  text_before : (before : Known) (time : ℕ) (event : Event) (text : List ℕ) → IsTextOf raw machine files (known_after files event before) time event text → IsTextOf raw machine files before time event text
-  text_before before time (MappingEvent m) text is = is
-  text_before before time (ProgramEvent p) text is = is
-  text_before before time (ForkEvent f) text is = is
-  text_before before time (SampleEvent s) text is = is
-  text_before before time (LostEvent l) text is = is
-  text_before before time OtherEvent text is = is
+module _ (style : StackStyle) (machine : SampleMachine) (files : List KnownFile) (choice : Choice) where
+  abbrev pub GoesOnWith : List Record → Option ℕ → Known → List ℕ → Type 0
+  GoesOnWith = GoesOn files choice (IsTextOf style machine files)
 
-  -- With the texts of any further records the text of the first is that of all.
-  pub record GoesOn (first : List Record) (now : Known) (front : List ℕ) : Type 0 where
-    pub goes_on : (rest : List Record) (text : List ℕ) → AreStacks raw machine files now rest text → AreStacks raw machine files nothing_known (first ++ rest) (front ++ text)
+  -- what was written goes on
+  abbrev pub Followed : List Record → Option ℕ → Known → Option (List ℕ) → Option (List ℕ) → Type 0
+  Followed first left now old new = (front : List ℕ) × Appends old new front × GoesOnWith first left now front
 
-  -- and it was written
-  abbrev pub Followed : List Record → Known → Option (List ℕ) → Option (List ℕ) → Type 0
-  Followed first now old new = (front : List ℕ) × Appends old new front × GoesOn first now front
+  pub none_followed : (now : Known) (old : Option (List ℕ)) → ((pid : ℕ) → now.mapped pid ≡ []) → ((tid : ℕ) → now.names tid ≡ None) → Followed [] choice.limit now old old
+  none_followed now old nothing nameless = ([], none_yet old, none_gone files choice (IsTextOf style machine files) now nothing nameless)
 
-  pub none_followed : (now : Known) (old : Option (List ℕ)) → ((pid : ℕ) → now.mapped pid ≡ []) → ((tid : ℕ) → now.names tid ≡ None) → Followed [] now old old
-  none_followed now old nothing nameless = (
-    [],
-    none_yet old,
-    record { goes_on = λ rest text are. subst (λ (state : Known). AreStacks raw machine files state rest text) (λ i. record { mapped = λ pid. nothing pid i; names = λ tid. nameless tid i }) are },
-  )
+  -- a record was passed by
+  pub one_left_out : (first all : List Record) (r : Record) (left : Option ℕ) (now : Known) (old new : Option (List ℕ)) → all ≡ first ++ r ∷ [] → is_left_out choice now r.time r.event ≡ true
+      → Followed first left now old new → Followed all left now old new
+  one_left_out first all r left now old new is_all out (front, given, so) = (front, given, one_passed files choice (IsTextOf style machine files) first all r left now front is_all out so)
 
-  one_more : (first : List Record) (r : Record) (before now : Known) (front text : List ℕ) → GoesOn first before front → IsKnownAfter files r.event before now
-      → IsTextOf raw machine files now r.time r.event text → GoesOn (first ++ r ∷ []) now (front ++ text)
-  one_more first r before now front text so is_after is = record {
-    goes_on = λ rest others are.
-        let follows : now ≡ known_after files r.event before = λ i. record { mapped = λ pid. is_after.0 pid i; names = λ tid. is_after.1 tid i } in
-        let here : IsTextOf raw machine files before r.time r.event text =
-        text_before before r.time r.event text (subst (λ (state : Known). IsTextOf raw machine files state r.time r.event text) follows is) in
-        let later : AreStacks raw machine files (known_after files r.event before) rest others = subst (λ (state : Known). AreStacks raw machine files state rest others) follows are in
-        let all = so.goes_on (r ∷ rest) (text ++ others) (text, others, here, later, refl) in
-        subst (λ (whole : List ℕ). AreStacks raw machine files nothing_known ((first ++ r ∷ []) ++ rest) whole) (sym (append_assoc front text others))
-        (subst (λ (records : List Record). AreStacks raw machine files nothing_known records (front ++ (text ++ others))) (sym (append_assoc first (r ∷ []) rest)) all);
-  }
-
-  pub one_followed : (first all : List Record) (r : Record) (before now : Known) (old mid new : Option (List ℕ)) (text : List ℕ) → all ≡ first ++ r ∷ [] → Followed first before old mid
-      → IsKnownAfter files r.event before now → IsTextOf raw machine files now r.time r.event text → Appends mid new text → Followed all now old new
-  one_followed first all r before now old mid new text is_all (front, given, so) is_after is more = (
+  pub one_followed : (first all : List Record) (r : Record) (left : Option ℕ) (before now : Known) (old mid new : Option (List ℕ)) (text : List ℕ) → all ≡ first ++ r ∷ [] → is_left_out choice before r.time r.event ≡ false → option_eq nat_eq left (Some 0) ≡ false
+      → Followed first left before old mid → IsKnownAfter files r.event before now → AreTexts style machine files now r.time r.event text → Appends mid new text → Followed all (left_after left r.event) now old new
+  one_followed first all r left before now old mid new text is_all inside some (front, given, so) is_after is more = (
     front ++ text,
     appends_then old mid new front text given more,
-    subst (λ (records : List Record). GoesOn records now (front ++ text)) (sym is_all) (one_more first r before now front text so is_after is),
+    one_more files choice (IsTextOf style machine files) first all r left before now front text is_all inside some so is_after is,
   )
 
-  -- so far they are the texts of the first
-  so_far : (first : List Record) (now : Known) (front : List ℕ) → GoesOn first now front → AreStacks raw machine files nothing_known first front
-  so_far first now front so =
-      subst (λ (records : List Record). AreStacks raw machine files nothing_known records front) (append-nil first)
-      (subst (λ (text : List ℕ). AreStacks raw machine files nothing_known (first ++ []) text) (append-nil front) (so.goes_on [] [] refl))
-
-  -- memory was refused behind the first n records
-  cut : (n : ℕ) (records : List Record) (text : List ℕ) (error : Option PerfError) → AreStacks raw machine files nothing_known (take n records) text
-      → IsPrinted raw machine files records error (record { text = text ++ out_of_memory.text; status = 1 })
-  cut n records text error are = inr (n, text, are, refl)
-
-  pub refused : {E : Type 0} (n : ℕ) (records : List Record) (now : Known) (old mid new : Option (List ℕ)) (error : Option PerfError) (r : Result ℕ E) → Followed (take n records) now old mid
-      → Prints out_of_memory mid new r → PrintsSome (λ line. IsPrinted raw machine files records error line) old new r
-  refused n records now old mid new error r (front, given, so) (written, status) = (
-    record { text = front ++ out_of_memory.text; status = 1 },
-    (last_written old mid new r front out_of_memory.text given written, status),
-    cut n records front error (so_far (take n records) now front so),
+  pub refused : {E : Type 0} (n : ℕ) (records : List Record) (left : Option ℕ) (now : Known) (old mid new : Option (List ℕ)) (error : Option PerfError) (r : Result ℕ E) → Followed (take n records) left now old mid
+      → Prints (no_memory style.format) mid new r → PrintsSome (λ line. IsPrinted style machine files choice records error line) old new r
+  refused n records left now old mid new error r (front, given, so) (written, status) = (
+    record { text = front ++ (no_memory style.format).text; status = 1 },
+    (last_written old mid new r front (no_memory style.format).text given written, status),
+    inr (n, front, so_far files choice (IsTextOf style machine files) (take n records) left now front so, refl),
   )
 
-  no_status : {E : Type 0} (r : Result ℕ E) → IsErr r → IfOk r (λ status. status ≡ 1)
-  no_status (Ok n) err = cc
-  no_status (Err e) err = tt
+  -- or before all of them
+  pub before_all : (records : List Record) (error : Option PerfError) → IsPrinted style machine files choice records error (no_memory style.format)
+  before_all records error = inr (0, [], subst (λ (samples : List KnownSample). AreOfAll (IsTextOf style machine files) samples []) (sym (limited_none choice.limit)) refl, refl)
 
   -- the text of the next record was begun
-  pub broken : {E : Type 0} (n : ℕ) (records : List Record) (r : Record) (before now : Known) (old mid new : Option (List ℕ)) (error : Option PerfError) (result : Result ℕ E) (text : List ℕ) → IsErr result
-      → take (n + 1) records ≡ take n records ++ r ∷ [] → Followed (take n records) before old mid → IsKnownAfter files r.event before now
-      → IsTextOf raw machine files now r.time r.event text → ((begun : List ℕ) × Appends mid new begun × IsBeginning begun text) → PrintsSome (λ line. IsPrinted raw machine files records error line) old new result
-  broken n records r before now old mid new error result text err is_next (front, given, so) is_after is begun =
-      let whole : List ℕ = (front ++ text) ++ out_of_memory.text in
-      let are = subst (λ (first : List Record). AreStacks raw machine files nothing_known first (front ++ text)) (sym is_next)
-      (so_far (take n records ++ r ∷ []) now (front ++ text) (one_more (take n records) r before now front text so is_after is)) in (
+  pub broken : {E : Type 0} (n : ℕ) (records : List Record) (r : Record) (left : Option ℕ) (before now : Known) (old mid new : Option (List ℕ)) (error : Option PerfError) (result : Result ℕ E) (text : List ℕ) → IsErr result
+      → take (n + 1) records ≡ take n records ++ r ∷ [] → is_left_out choice before r.time r.event ≡ false → option_eq nat_eq left (Some 0) ≡ false → Followed (take n records) left before old mid → IsKnownAfter files r.event before now
+      → AreTexts style machine files now r.time r.event text → ((begun : List ℕ) × Appends mid new begun × IsBeginning begun text) → PrintsSome (λ line. IsPrinted style machine files choice records error line) old new result
+  broken n records r left before now old mid new error result text err is_next inside some (front, given, so) is_after is begun =
+      let end : List ℕ = (no_memory style.format).text in
+      let whole : List ℕ = (front ++ text) ++ end in
+      let are = so_far files choice (IsTextOf style machine files) (take (n + 1) records) (left_after left r.event) now (front ++ text)
+      (one_more files choice (IsTextOf style machine files) (take n records) (take (n + 1) records) r left before now front text is_next inside some so is_after is) in (
         record { text = whole; status = 1 },
         (
           writes_refused old new result whole err
-              (beginning_then old mid new text out_of_memory.text whole (record { front = front; given = given; whole = sym (append_assoc front text out_of_memory.text) }) begun),
-          no_status result err,
+              (beginning_then old mid new text end whole (record { front = front; given = given; whole = sym (append_assoc front text end) }) begun),
+          no_status_is result 1 err,
         ),
-        cut (n + 1) records (front ++ text) error are,
+        inr (n + 1, front ++ text, are, refl),
       )
 
-  -- all were followed
-  pub printed : {E : Type 0} (first records : List Record) (now : Known) (old mid new : Option (List ℕ)) (error : Option PerfError) (r : Result ℕ E) → first ≡ records → Followed first now old mid
-      → Prints (ended [] error) mid new r → PrintsSome (λ line. IsPrinted raw machine files records error line) old new r
-  printed first records now old mid new error r all (front, given, so) (written, status) = (
-    record { text = front ++ (ended [] error).text; status = (ended [] error).status },
-    (last_written old mid new r front (ended [] error).text given written, status),
-    inl (front, subst (λ (records : List Record). AreStacks raw machine files nothing_known records front) all (so_far first now front so), behind front error),
+  -- all that are printed were
+  ended_with : {E : Type 0} (records : List Record) (old mid new : Option (List ℕ)) (error : Option PerfError) (r : Result ℕ E) (front : List ℕ) → Appends old mid front → AreStacks style machine files choice records front
+      → Prints (ended style.format [] error) mid new r → PrintsSome (λ line. IsPrinted style machine files choice records error line) old new r
+  ended_with records old mid new error r front given are (written, status) = (
+    record { text = front ++ (ended style.format [] error).text; status = (ended style.format [] error).status },
+    (last_written old mid new r front (ended style.format [] error).text given written, status),
+    inl (front, are, behind style.format front error),
   )
+
+  pub printed : {E : Type 0} (first records : List Record) (left : Option ℕ) (now : Known) (old mid new : Option (List ℕ)) (error : Option PerfError) (r : Result ℕ E) → first ≡ records → Followed first left now old mid
+      → Prints (ended style.format [] error) mid new r → PrintsSome (λ line. IsPrinted style machine files choice records error line) old new r
+  printed first records left now old mid new error r all (front, given, so) prints =
+      ended_with records old mid new error r front given
+      (subst (λ (of : List Record). AreStacks style machine files choice of front) all (so_far files choice (IsTextOf style machine files) first left now front so)) prints
+
+  -- no more may be printed
+  pub printed_many : {E : Type 0} (n : ℕ) (records : List Record) (left : Option ℕ) (now : Known) (old mid new : Option (List ℕ)) (error : Option PerfError) (r : Result ℕ E) → option_eq nat_eq left (Some 0) ≡ true → Followed (take n records) left now old mid
+      → Prints (ended style.format [] error) mid new r → PrintsSome (λ line. IsPrinted style machine files choice records error line) old new r
+  printed_many n records left now old mid new error r full (front, given, so) prints =
+      ended_with records old mid new error r front given
+      (subst (λ (of : List Record). AreStacks style machine files choice of front) (take-append-drop n records) (so_many files choice (IsTextOf style machine files) (take n records) (drop n records) left now front full so)) prints
+
+-- the text of a sample alone
+pub text_alone : (style : StackStyle) (machine : SampleMachine) (files : List KnownFile) (known : Known) (time : ℕ) (s : Sample) (text : List ℕ) → IsTextOf style machine files (record { known = known; time = time; sample = s }) text
+    → AreTexts style machine files known time (SampleEvent s) text
+text_alone style machine files known time s text is = (text, [], is, refl, sym (append-nil text))
 
 -- one more record of the code
 pub next_record : (list : List RecordOfCode) (i : ℕ) (r : RecordOfCode) → r ≡ get_or list i r → i < length list → take (i + 1) (map record_view list) ≡ take i (map record_view list) ++ record_view r ∷ []

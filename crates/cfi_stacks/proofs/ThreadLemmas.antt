@@ -1,5 +1,5 @@
 -- The frames of a thread, and the texts of threads one after the other.
-use Rattle.std.proofs.Common.{◌≡◌, ◌∙◌, ◌+◌, ◌<◌, ◌≤◌, ℕ, Bool, List, [], ◌∷◌, ◌++◌, Option, Some, None, Result, Ok, Err, IfOk, length, get_or, take, map, refl, sym, ap, subst, inl, inr, append_assoc, append-nil, add-one}
+use Rattle.std.proofs.Common.{◌≡◌, ◌∙◌, ◌+◌, ◌<◌, ◌≤◌, ℕ, Bool, List, [], ◌∷◌, ◌++◌, Option, Some, None, Result, Ok, Err, IfOk, length, get_or, take, map, refl, sym, ap, subst, inl, inr, append_assoc, append-nil, add-one, cond, true, false}
 use Rattle.std.proofs.Math.Seq.{take-suc}
 use Rattle.std.proofs.lemmas.List.{get_or-map, length-map, take_all}
 use Rattle.std.specs.Io.KnownBytes.{Appends}
@@ -14,11 +14,12 @@ use Rattle.cfi_processes.specs.declared.registers.SampleMachine.{SampleMachine}
 use Rattle.cfi_processes.specs.KnownFiles.{KnownFile}
 use Rattle.cfi_processes.specs.Registers.{pc_number}
 use Rattle.cfi_processes.specs.SampleStacks.{IsWalkOver, Room}
-use Rattle.cfi_programs.specs.Runs.{out_of_memory}
 use Rattle.cfi_programs.specs.WriterOutput.{IsBeginning, Prints, PrintsSome}
 use Rattle.cfi_programs.proofs.WrittenLemmas.{appends_then, beginning_then, none_yet, writes_refused}
 use Rattle.cfi_programs.proofs.DumpSectionWritten.{last_written}
-use Rattle.cfi_stacks.specs.CoreOutputs.{AreOfThreads, IsPrinted, IsThreadText, ended, mappings_of}
+use Rattle.cfi_stacks.specs.CoreOutputs.{AreOfThreads, AreThreadTexts, IsPrinted, IsThreadText, asked_for, ended, is_asked_for, mappings_of}
+use Rattle.cfi_stacks.specs.ProfileOutputs.{no_memory}
+use Rattle.cfi_stacks.specs.declared.listing.ThreadListing.{ThreadListing}
 use Rattle.cfi_stacks.specs.ThreadStacks.{IsUnwound, IsUnwoundFrom, thread_registers}
 
 module _ {R T : Type 0} (position : R → Position) (number : T → ℕ) (rule_limit stack_limit : Option ℕ) (copies_free : Bool) (modules : List (LoadedModule R)) (machine : SampleMachine) (memory : ℕ → ℕ → Option ℕ)
@@ -37,12 +38,12 @@ no_status : {E : Type 0} (r : Result ℕ E) → IsErr r → IfOk r (λ status. s
 no_status (Ok n) err = cc
 no_status (Err e) err = tt
 
-module _ (raw : Bool) (files : List KnownFile) (memory : ℕ → ℕ → Option ℕ) (core : Core) where
+module _ (listing : ThreadListing) (files : List KnownFile) (memory : ℕ → ℕ → Option ℕ) (core : Core) where
   abbrev IsText : CoreThread → List ℕ → Type 0
-  IsText = IsThreadText raw core.machine files (mappings_of files core.segments core.mapped) memory core.name
+  IsText = IsThreadText listing core.machine files (mappings_of files core.segments core.mapped) memory core.name
 
   abbrev AreTexts : List CoreThread → List ℕ → Type 0
-  AreTexts = AreOfThreads raw files memory core
+  AreTexts = AreOfThreads listing files memory core
 
   -- With the texts of any further threads the text of the first is that of all.
   pub record GoesOn (first : List CoreThread) (front : List ℕ) : Type 0 where
@@ -55,19 +56,34 @@ module _ (raw : Bool) (files : List KnownFile) (memory : ℕ → ℕ → Option 
   pub none_printed : (old : Option (List ℕ)) → Printed [] old old
   none_printed old = ([], none_yet old, record { goes_on = λ rest text are. are })
 
-  one_more : (first : List CoreThread) (t : CoreThread) (front text : List ℕ) → GoesOn first front → IsText t text → GoesOn (first ++ t ∷ []) (front ++ text)
-  one_more first t front text so is = record {
+  -- a thread that isn't asked for
+  pub one_passed : (first all : List CoreThread) (t : CoreThread) (old new : Option (List ℕ)) → all ≡ first ++ t ∷ [] → is_asked_for listing t ≡ false → Printed first old new → Printed all old new
+  one_passed first all t old new is_all out (front, given, so) = (
+    front,
+    given,
+    subst (λ (threads : List CoreThread). GoesOn threads front) (sym is_all) (record {
+      goes_on = λ rest others are.
+          subst (λ (threads : List CoreThread). AreTexts threads (front ++ others)) (sym (append_assoc first (t ∷ []) rest))
+          (so.goes_on (t ∷ rest) others
+          (subst (λ (b : Bool). AreThreadTexts listing core.machine files (mappings_of files core.segments core.mapped) memory core.name (cond b (t ∷ asked_for listing rest) (asked_for listing rest)) others) (sym out) are));
+    }),
+  )
+
+  one_more : (first : List CoreThread) (t : CoreThread) (front text : List ℕ) → is_asked_for listing t ≡ true → GoesOn first front → IsText t text → GoesOn (first ++ t ∷ []) (front ++ text)
+  one_more first t front text asked so is = record {
     goes_on = λ rest others are.
-        let all = so.goes_on (t ∷ rest) (text ++ others) (text, others, is, are, refl) in
+        let more : AreTexts (t ∷ rest) (text ++ others) =
+        subst (λ (b : Bool). AreThreadTexts listing core.machine files (mappings_of files core.segments core.mapped) memory core.name (cond b (t ∷ asked_for listing rest) (asked_for listing rest)) (text ++ others)) (sym asked)
+        (text, others, is, are, refl) in
         subst (λ (whole : List ℕ). AreTexts ((first ++ t ∷ []) ++ rest) whole) (sym (append_assoc front text others))
-        (subst (λ (threads : List CoreThread). AreTexts threads (front ++ (text ++ others))) (sym (append_assoc first (t ∷ []) rest)) all);
+        (subst (λ (threads : List CoreThread). AreTexts threads (front ++ (text ++ others))) (sym (append_assoc first (t ∷ []) rest)) (so.goes_on (t ∷ rest) (text ++ others) more));
   }
 
-  pub one_printed : (first all : List CoreThread) (t : CoreThread) (old mid new : Option (List ℕ)) (text : List ℕ) → all ≡ first ++ t ∷ [] → Printed first old mid → IsText t text → Appends mid new text → Printed all old new
-  one_printed first all t old mid new text is_all (front, given, so) is more = (
+  pub one_printed : (first all : List CoreThread) (t : CoreThread) (old mid new : Option (List ℕ)) (text : List ℕ) → all ≡ first ++ t ∷ [] → is_asked_for listing t ≡ true → Printed first old mid → IsText t text → Appends mid new text → Printed all old new
+  one_printed first all t old mid new text is_all asked (front, given, so) is more = (
     front ++ text,
     appends_then old mid new front text given more,
-    subst (λ (threads : List CoreThread). GoesOn threads (front ++ text)) (sym is_all) (one_more first t front text so is),
+    subst (λ (threads : List CoreThread). GoesOn threads (front ++ text)) (sym is_all) (one_more first t front text asked so is),
   )
 
   -- so far they are the texts of the first
@@ -78,34 +94,34 @@ module _ (raw : Bool) (files : List KnownFile) (memory : ℕ → ℕ → Option 
 
   -- the text of the next thread was begun
   pub broken : {E : Type 0} (n : ℕ) (t : CoreThread) (old mid new : Option (List ℕ)) (result : Result ℕ E) (text : List ℕ) → IsErr result
-      → take (n + 1) core.threads ≡ take n core.threads ++ t ∷ [] → Printed (take n core.threads) old mid
-      → IsText t text → ((begun : List ℕ) × Appends mid new begun × IsBeginning begun text) → PrintsSome (λ line. IsPrinted raw files memory core line) old new result
-  broken n t old mid new result text err is_next (front, given, so) is begun =
-      let whole : List ℕ = (front ++ text) ++ out_of_memory.text in
+      → take (n + 1) core.threads ≡ take n core.threads ++ t ∷ [] → is_asked_for listing t ≡ true → Printed (take n core.threads) old mid
+      → IsText t text → ((begun : List ℕ) × Appends mid new begun × IsBeginning begun text) → PrintsSome (λ line. IsPrinted listing files memory core line) old new result
+  broken n t old mid new result text err is_next asked (front, given, so) is begun =
+      let whole : List ℕ = (front ++ text) ++ (no_memory listing.format).text in
       let are = subst (λ (first : List CoreThread). AreTexts first (front ++ text)) (sym is_next)
-      (so_far (take n core.threads ++ t ∷ []) (front ++ text) (one_more (take n core.threads) t front text so is)) in (
+      (so_far (take n core.threads ++ t ∷ []) (front ++ text) (one_more (take n core.threads) t front text asked so is)) in (
         record { text = whole; status = 1 },
         (
           writes_refused old new result whole err
-              (beginning_then old mid new text out_of_memory.text whole (record { front = front; given = given; whole = sym (append_assoc front text out_of_memory.text) }) begun),
+              (beginning_then old mid new text (no_memory listing.format).text whole (record { front = front; given = given; whole = sym (append_assoc front text (no_memory listing.format).text) }) begun),
           no_status result err,
         ),
         inr (n + 1, front ++ text, are, refl),
       )
 
   -- all were printed
-  behind : (front : List ℕ) → record { text = front ++ (ended [] core.error).text; status = (ended [] core.error).status } ≡ ended front core.error
+  behind : (front : List ℕ) → record { text = front ++ (ended listing.format [] core.error).text; status = (ended listing.format [] core.error).status } ≡ ended listing.format front core.error
   behind front = by core.error
     where
-      by : (error : Option CoreError) → record { text = front ++ (ended [] error).text; status = (ended [] error).status } ≡ ended front error
+      by : (error : Option CoreError) → record { text = front ++ (ended listing.format [] error).text; status = (ended listing.format [] error).status } ≡ ended listing.format front error
       by None = ap (λ (text : List ℕ). record { text = text; status = 0 }) (append-nil front)
       by (Some e) = refl
 
   pub printed : {E : Type 0} (first : List CoreThread) (old mid new : Option (List ℕ)) (r : Result ℕ E) → first ≡ core.threads → Printed first old mid
-      → Prints (ended [] core.error) mid new r → PrintsSome (λ line. IsPrinted raw files memory core line) old new r
+      → Prints (ended listing.format [] core.error) mid new r → PrintsSome (λ line. IsPrinted listing files memory core line) old new r
   printed first old mid new r all (front, given, so) (written, status) = (
-    record { text = front ++ (ended [] core.error).text; status = (ended [] core.error).status },
-    (last_written old mid new r front (ended [] core.error).text given written, status),
+    record { text = front ++ (ended listing.format [] core.error).text; status = (ended listing.format [] core.error).status },
+    (last_written old mid new r front (ended listing.format [] core.error).text given written, status),
     inl (front, subst (λ (threads : List CoreThread). AreTexts threads front) all (so_far first front so), behind front),
   )
 

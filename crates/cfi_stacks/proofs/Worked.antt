@@ -1,16 +1,20 @@
 -- Lines of stacks, worked out from the definitions alone: those before the frames of samples as perf script prints them.
 use Rattle.std.proofs.Common.{◌≡◌, ℕ, List, [], ◌∷◌, ◌++◌, Option, Some, None, codes, map, refl, false, true}
+use Rattle.std.specs.Prelude.{nat_le}
 use Rattle.std.specs.Fmt.{digits}
+use Rattle.std.specs.List.{filter}
 use Rattle.cfi_perf.specs.Samples.{Sample}
 use Rattle.cfi_read_core.specs.declared.error.Error.TheVariants.{NoUnwindInfoForAddress}
 use Rattle.cfi_expression.specs.declared.error.FrameError.TheVariants.{NoRow}
 use Rattle.cfi_step.specs.declared.walk.End.TheVariants.{Failed}
 use Rattle.cfi_processes.specs.declared.mappings.MappedCode.{MappedCode}
 use Rattle.cfi_processes.specs.KnownFiles.{KnownFile, kernel_site}
+use Rattle.cfi_stacks.specs.Choices.{chooses, everything, limited}
 use Rattle.cfi_stacks.specs.FoldedTexts.{chain_names}
 use Rattle.cfi_stacks.specs.ProfileOutputs.{chain_text}
 use Rattle.cfi_stacks.specs.Reasons.{reason_line, reason_of}
 use Rattle.cfi_stacks.specs.Signals.{signal_name}
+use Rattle.cfi_stacks.specs.StackObjects.{listed, sample_frame, sample_head}
 use Rattle.cfi_stacks.specs.StackTexts.{core_frame_line, head_line, thread_line, thread_text, time_text}
 
 abbrev of_thread : ℕ → Option ℕ → ℕ → List ℕ → Sample
@@ -48,7 +52,7 @@ late = refl
 -- ---- frames of the kernel, as perf script --kallsyms=/dev/null prints them of crates/cfi/data/chains.perf, and of a copy with another address
 
 abbrev kernel_file : KnownFile
-kernel_file = record { name = codes "[kernel.kallsyms]_text"; build_id = None; functions = None; code = None }
+kernel_file = record { name = codes "[kernel.kallsyms]_text"; build_id = None; functions = None; code = None; kernel = None; process = None; code_map = None }
 
 abbrev kernel_code : MappedCode
 kernel_code = record { start = 0xffffffff81000000; end = 0xffffffff82000000; offset = 0xffffffff81000000; object = Some 0 }
@@ -89,3 +93,28 @@ without_signal = refl
 a_frame : core_frame_line true 0x7ff0000000c6 (record { place = 0xc6; function = None; file = Some (codes "[vdso]") }) ≡ codes "\t    7ff0000000c6\t              c6 ([vdso])" ++ 10 ∷ []
 unfolding digits
 a_frame = refl
+
+-- ---- samples as objects of JSON
+
+with_quote : sample_head (Some (codes "a\"b")) 1000001999 (of_thread 8 (Some 2) 3 (codes "cpu-clock"))
+    ≡ codes "{\"comm\":\"a\\\"b\",\"pid\":17261,\"tid\":8,\"cpu\":2,\"time\":\"1.000001999\",\"period\":3,\"event\":\"cpu-clock\",\"frames\":["
+unfolding digits
+with_quote = refl
+
+two_objects : listed ((codes "," ++ sample_frame false true (record { place = 0x12; function = None; file = None }))
+    ++ (codes "," ++ sample_frame false false (record { place = 0x34; function = Some (record { name = codes "f"; offset = 18 }); file = Some (codes "/a") })))
+    ≡ codes "{\"place\":\"0x12\",\"kernel\":true},{\"place\":\"0x34\",\"function\":\"f\",\"offset\":18,\"file\":\"/a\"}"
+unfolding digits
+two_objects = refl
+
+-- ---- chosen samples
+
+by_its_number : chooses (record everything { comm = Some (codes ":8"); tid = Some 8; from = Some 5; until = Some 5 }) None 5 (of_thread 8 None 1 []) ≡ true
+unfolding digits
+by_its_number = refl
+
+too_late : chooses (record everything { until = Some 4 }) None 5 (of_thread 8 None 1 []) ≡ false
+too_late = refl
+
+first_two : limited (Some 2) (filter (λ n. nat_le 2 n) (1 ∷ 2 ∷ 3 ∷ 4 ∷ [])) ≡ 2 ∷ 3 ∷ []
+first_two = refl

@@ -4,23 +4,25 @@
 --     with_vdso core opened      the files that were opened, and the vdso as the core has it
 --     mappings_of files segments mapped      what is mapped as code, with the files' numbers
 --     AreWindows opened mapped windows      what the files have of the memory, by its addresses
---     IsThreadText raw machine files list memory thread text      the text of a thread's stack
---     IsPrinted raw files memory core line      those of all threads, and then the error that ended
---         the notes
---     IsOutput raw may_open remaining bytes line      the output of a core file of these bytes,
+--     IsThreadText listing machine files list memory thread text      the text of a thread's stack,
+--         or its object of JSON
+--     asked_for listing threads      the threads that are printed
+--     IsPrinted listing files memory core line      their texts, and then the error that ended the
+--         notes
+--     IsOutput listing may_open remaining bytes line      the output of a core file of these bytes,
 --         whose files may be opened so
 use Rattle.std.specs.Prelude.{◌≡◌, ◌⊎◌, ℕ, ◌-◌, ◌==◌, ◌||◌, ◌&&◌, Bool, true, false, List, []}
 use Rattle.std.specs.Prelude.{◌∷◌, ◌++◌}
 use Rattle.std.specs.Prelude.{Option, Some, None, Result, Ok, Err, codes, drop, find, fold, map}
 use Rattle.std.specs.Prelude.{not, position, take, if◌then◌else◌}
-use Rattle.std.specs.List.{filter_map, flat_map, list_all}
-use Rattle.std.specs.Option.{option_and_then, option_map}
+use Rattle.std.specs.List.{filter, filter_map, flat_map, list_all, list_any}
+use Rattle.std.specs.Option.{is_none, is_some, option_and_then, option_map, option_map_or}
 use Rattle.std.specs.Str.{bytes_eq}
 use Rattle.cfi_read_core.specs.declared.endianity.RunTimeEndian.{RunTimeEndian}
 use Rattle.cfi_read_core.specs.ByteOrder.{is_big}
 use Rattle.cfi_read_core.specs.SliceReaders.{EndianSlice, slice_position}
-use Rattle.cfi_programs.specs.Lines.{Line, line, wrong_input}
-use Rattle.cfi_programs.specs.Runs.{out_of_memory}
+use Rattle.cfi_programs.specs.declared.style.Format.{Format}
+use Rattle.cfi_programs.specs.Lines.{Line, reason_line as why_line, refused_line}
 use Rattle.cfi_step.specs.declared.module.LoadedModule.{LoadedModule}
 use Rattle.cfi_step.specs.declared.walk.StackFrame.{StackFrame}
 use Rattle.cfi_step.specs.declared.walk.Walk.{Walk}
@@ -44,7 +46,10 @@ use Rattle.cfi_cores.specs.CoreThreads.{CoreThread}
 use Rattle.cfi_cores.specs.ErrorNames.{name_of_core}
 use Rattle.cfi_cores.specs.MappedFiles.{CoreMapping}
 use Rattle.cfi_cores.specs.Vdso.{vdso_name}
+use Rattle.cfi_stacks.specs.declared.listing.ThreadListing.{ThreadListing}
+use Rattle.cfi_stacks.specs.ProfileOutputs.{no_memory, reason_for, wrong_input_in}
 use Rattle.cfi_stacks.specs.Reasons.{reason_line, reason_of, reason_without}
+use Rattle.cfi_stacks.specs.StackObjects.{core_object, in_format, listed, object_end, thread_head}
 use Rattle.cfi_stacks.specs.StackTexts.{core_frame_line, thread_line}
 use Rattle.cfi_stacks.specs.ThreadStacks.{IsUnwound}
 
@@ -75,8 +80,42 @@ thread_text raw files list name thread result room =
     thread_line thread.tid thread.signal name
     ++ (core_walk_text raw files list result room ++ 10 ∷ [])
 
-module _ (raw : Bool) (machine : SampleMachine) (files : List KnownFile) (list : List MappedCode)
-    (memory : ℕ → ℕ → Option ℕ) (name : Option (List ℕ)) where
+-- ---- a thread as an object of JSON
+
+-- behind a comma each
+abbrev pub core_objects : Bool → List KnownFile → List MappedCode → List StackFrame → List ℕ
+core_objects raw files list frames =
+    flat_map
+    (λ frame.
+    let address = row_address frame.pc frame.is_interrupted in
+    codes "," ++ core_object raw address (site_of files list address))
+    frames
+
+abbrev pub core_walk_objects :
+    Bool → List KnownFile → List MappedCode → Result Walk NoFrames → List StackFrame → List ℕ
+core_walk_objects raw files list (Ok walk) room =
+    core_objects raw files list (take walk.count room)
+core_walk_objects raw files list (Err why) room = []
+
+abbrev pub thread_object :
+    Bool → List KnownFile → List MappedCode → Option (List ℕ) → CoreThread →
+    Result Walk NoFrames → List StackFrame → List ℕ
+thread_object raw files list name thread result room =
+    thread_head thread.tid thread.signal name
+    ++ (listed (core_walk_objects raw files list result room) ++ object_end (reason_for result))
+
+-- ---- a thread in either form
+
+abbrev pub thread_in :
+    ThreadListing → List KnownFile → List MappedCode → Option (List ℕ) → CoreThread →
+    Result Walk NoFrames → List StackFrame → List ℕ
+thread_in listing files list name thread result room =
+    in_format listing.format
+    (thread_text listing.raw files list name thread result room)
+    (thread_object listing.raw files list name thread result room)
+
+module _ (listing : ThreadListing) (machine : SampleMachine) (files : List KnownFile)
+    (list : List MappedCode) (memory : ℕ → ℕ → Option ℕ) (name : Option (List ℕ)) where
   -- by the modules that are mapped, in a room for 4096 frames and a storage of 192 rules and 4 rows
   abbrev pub IsThreadText : CoreThread → List ℕ → Type 0
   IsThreadText thread text =
@@ -85,7 +124,7 @@ module _ (raw : Bool) (machine : SampleMachine) (files : List KnownFile) (list :
       × (map module_view modules ≡ modules_in files list) × HasRoom old.frames
       × IsUnwound (slice_position is_big) (λ n. n) (Some 192) (Some 4) true modules machine memory
       thread old result new
-      × (text ≡ thread_text raw files list name thread result new.frames)
+      × (text ≡ thread_in listing files list name thread result new.frames)
 
   abbrev pub AreThreadTexts : List CoreThread → List ℕ → Type 0
   AreThreadTexts [] text = text ≡ []
@@ -107,7 +146,12 @@ is_file_of_code segments m = is_code segments m && not (bytes_eq m.name vdso_nam
 abbrev pub code_file : List CoreSegment → List CoreMapping → CoreMapping → Option Wanted
 code_file segments mapped m =
     if is_file_of_code segments m
-    then Some (record { name = m.name; build_id = build_of segments mapped m.name }) else None
+    then Some (record {
+      name = m.name;
+      build_id = build_of segments mapped m.name;
+      process = None;
+    })
+    else None
 
 -- each once, in the order of the mappings
 abbrev pub code_files : List CoreSegment → List CoreMapping → List Wanted
@@ -142,6 +186,8 @@ vdso_file core =
       build_id = build_of core.segments core.mapped vdso_name;
       bytes = Some image;
       debug = None;
+      process = None;
+      map_name = None;
     }) (image_of core.segments core.mapped vdso_name)
 
 abbrev pub and_file : List Opened → Option Opened → List Opened
@@ -171,28 +217,48 @@ file_window opened m = option_map (part_of m) (bytes_named opened m.name)
 abbrev pub AreWindows : List Opened → List CoreMapping → List CoreSegment → Type 0
 AreWindows opened mapped windows = AreSorted (filter_map (file_window opened) mapped) windows
 
--- ---- all threads
+-- ---- the threads that are printed
 
-abbrev pub core_refusal : CoreError → Line
-core_refusal error = line (codes "refused " ++ name_of_core error) 1
+abbrev pub is_asked_for : ThreadListing → CoreThread → Bool
+is_asked_for listing thread = option_map_or (λ tid. thread.tid == tid) listing.thread true
+
+abbrev pub asked_for : ThreadListing → List CoreThread → List CoreThread
+asked_for listing threads = filter (is_asked_for listing) threads
+
+-- all notes were read, and none is of a thread that is printed
+abbrev pub lacks_any : ThreadListing → Core → Bool
+lacks_any listing core =
+    is_none core.error && not (list_any (is_asked_for listing) core.threads)
+
+abbrev pub lacks_thread : ThreadListing → Core → Bool
+lacks_thread listing core = is_some listing.thread && lacks_any listing core
+
+abbrev pub core_refusal : Format → CoreError → Line
+core_refusal format error = refused_line format (name_of_core error)
+
+abbrev pub no_thread : Format → Line
+no_thread format = why_line format (codes "no thread") 1
 
 -- behind the stacks
-abbrev pub ended : List ℕ → Option CoreError → Line
-ended text None = record { text = text; status = 0 }
-ended text (Some error) = record { text = text ++ (core_refusal error).text; status = 1 }
+abbrev pub ended : Format → List ℕ → Option CoreError → Line
+ended format text None = record { text = text; status = 0 }
+ended format text (Some error) =
+    record { text = text ++ (core_refusal format error).text; status = 1 }
 
-module _ (raw : Bool) (files : List KnownFile) (memory : ℕ → ℕ → Option ℕ) (core : Core) where
+module _ (listing : ThreadListing) (files : List KnownFile) (memory : ℕ → ℕ → Option ℕ)
+    (core : Core) where
   abbrev pub AreOfThreads : List CoreThread → List ℕ → Type 0
-  AreOfThreads =
-      AreThreadTexts raw core.machine files (mappings_of files core.segments core.mapped) memory
-      core.name
+  AreOfThreads threads =
+      AreThreadTexts listing core.machine files (mappings_of files core.segments core.mapped) memory
+      core.name (asked_for listing threads)
 
   -- or memory was refused behind the first of them
   abbrev pub IsPrinted : Line → Type 0
   IsPrinted printed =
-      ((text : List ℕ) × AreOfThreads core.threads text × (printed ≡ ended text core.error))
+      ((text : List ℕ) × AreOfThreads core.threads text
+      × (printed ≡ ended listing.format text core.error))
       ⊎ ((n : ℕ) × (text : List ℕ) × AreOfThreads (take n core.threads) text
-      × (printed ≡ record { text = text ++ out_of_memory.text; status = 1 }))
+      × (printed ≡ record { text = text ++ (no_memory listing.format).text; status = 1 }))
 
 -- ---- a core file
 
@@ -200,36 +266,43 @@ abbrev pub memory_of : Core → List CoreSegment → ℕ → ℕ → Option ℕ
 memory_of core windows = number_at (record { dumped = core.segments; mapped = windows })
 
 -- in the memory that the core and the files have
-abbrev pub IsOfFiles : Bool → Core → List Opened → List KnownFile → Line → Type 0
-IsOfFiles raw core opened files printed =
+abbrev pub IsOfFiles : ThreadListing → Core → List Opened → List KnownFile → Line → Type 0
+IsOfFiles listing core opened files printed =
     (windows : List CoreSegment) × AreWindows opened core.mapped windows
-    × IsPrinted raw files (memory_of core windows) core printed
+    × IsPrinted listing files (memory_of core windows) core printed
 
 -- by files that were opened
-abbrev pub IsOfOpened : Bool → Core → List Opened → Line → Type 0
-IsOfOpened raw core opened printed =
-    (files : List KnownFile) × AreFilesOf opened files × IsOfFiles raw core opened files printed
+abbrev pub IsOfOpened : ThreadListing → Core → List Opened → Line → Type 0
+IsOfOpened listing core opened printed =
+    (files : List KnownFile) × AreFilesOf opened files
+    × IsOfFiles listing core opened files printed
 
-module _ (raw : Bool) {Handle : Type 0} (may_open : FilePlace → Option Handle → Type 0)
-    (remaining : Handle → Option (List ℕ)) where
+module _ (listing : ThreadListing) {Handle : Type 0}
+    (may_open : FilePlace → Option Handle → Type 0) (remaining : Handle → Option (List ℕ)) where
   -- by these files and the vdso
   abbrev pub IsOfWanted : Core → List Wanted → Line → Type 0
   IsOfWanted core wanted printed =
       (opened : List Opened) × AreOpened may_open remaining wanted opened
-      × IsOfOpened raw core (with_vdso core opened) printed
+      × IsOfOpened listing core (with_vdso core opened) printed
+
+  -- where a thread is asked for that isn't there, that is all
+  abbrev pub IsOfLacking : Bool → Core → Line → Type 0
+  IsOfLacking true core printed = printed ≡ no_thread listing.format
+  IsOfLacking false core printed = IsOfWanted core (code_files core.segments core.mapped) printed
 
   abbrev pub IsOfCore : Core → Line → Type 0
-  IsOfCore core printed = IsOfWanted core (code_files core.segments core.mapped) printed
+  IsOfCore core printed = IsOfLacking (lacks_thread listing core) core printed
 
   abbrev pub IsOfRead : Result Core CoreError → Line → Type 0
-  IsOfRead (Err e) printed = printed ≡ core_refusal e
+  IsOfRead (Err e) printed = printed ≡ core_refusal listing.format e
   IsOfRead (Ok found) printed =
       (core : Core) × IsSortedCore found core × IsOfCore core printed
 
   -- or memory was refused before the first stack
   abbrev pub IsOutput : List ℕ → Line → Type 0
-  IsOutput bytes printed = IsOfRead (core_of bytes) printed ⊎ (printed ≡ out_of_memory)
+  IsOutput bytes printed =
+      IsOfRead (core_of bytes) printed ⊎ (printed ≡ no_memory listing.format)
 
   -- or the input can't be read
   abbrev pub IsOwed : List ℕ → Line → Type 0
-  IsOwed bytes printed = IsOutput bytes printed ⊎ (printed ≡ wrong_input)
+  IsOwed bytes printed = IsOutput bytes printed ⊎ (printed ≡ wrong_input_in listing.format)

@@ -2,6 +2,8 @@ pub mod Signals
 pub mod StackTexts
 pub mod FoldedTexts
 pub mod Reasons
+pub mod StackObjects
+pub mod Choices
 pub mod Rooms
 pub mod ProfileOutputs
 pub mod Foldings

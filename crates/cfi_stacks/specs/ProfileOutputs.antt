@@ -1,25 +1,26 @@
 -- Which output is right for a profile.
 --     stack_text raw files list frames      the lines of frames, where this is mapped
 --     chain_text raw site_at addresses      those of a call chain's addresses
---     IsStackText raw machine files in_kernel list name time s text      the text of a sample's
---         stack
---     AreStacks raw machine files before records text      the texts of the samples, in the order
---         of the records
+--     IsStackText style machine files in_kernel list name time s text      the text of a sample's
+--         stack, or its object of JSON
+--     chosen choice files records      the samples that are printed, in the order of the records
+--     AreStacks style machine files choice records text      the texts of these
 --     IsPrinted .. records error line      these, and then the error that ended the records; or a
 --         beginning of them, and that memory was refused
---     AreSamples by_period machine files before records samples      the samples by their folded
---         stacks, in the order of the records
+--     AreSamples by_period machine files choice records samples      the same samples by their
+--         folded stacks
 --     IsFolded .. records error line      their folded stacks, and then that error; or that memory
 --         was refused, or that a stack has too many
---     IsListed listing .. records error line      either of these
---     IsOutput listing may_open remaining bytes line      the output of a profile of these bytes,
---         whose files may be opened so
-use Rattle.std.specs.Prelude.{◌≡◌, ◌⊎◌, ◌<◌, ◌^◌, ℕ, ◌==◌, Bool, true, List, [], ◌∷◌, ◌++◌, Option}
-use Rattle.std.specs.Prelude.{Some, None, Result, Ok, Err, codes, map, take, unwrap_or}
+--     IsListed listing choice .. records error line      either of these
+--     IsOutput listing choice may_open remaining bytes line      the output of a profile of these
+--         bytes, whose files may be opened so
+use Rattle.std.specs.Prelude.{◌≡◌, ◌⊎◌, ◌<◌, ◌^◌, ℕ, ◌==◌, Bool, true, false, List, [], ◌∷◌, ◌++◌}
+use Rattle.std.specs.Prelude.{Option, Some, None, Result, Ok, Err, codes, map, take, unwrap_or}
 use Rattle.std.specs.Prelude.{if◌then◌else◌}
-use Rattle.std.specs.List.{flat_map}
+use Rattle.std.specs.List.{filter, flat_map}
 use Rattle.std.specs.List.Sorted.{IsSortedByKey, IsStableByKey}
 use Rattle.std.specs.Ordering.{nat_cmp}
+use Rattle.cfi_read_core.specs.declared.error.Error.TheVariants as errors
 use Rattle.cfi_read_core.specs.declared.endianity.RunTimeEndian.{RunTimeEndian}
 use Rattle.cfi_read_core.specs.ByteOrder.{is_big}
 use Rattle.cfi_read_core.specs.SliceReaders.{EndianSlice, slice_position}
@@ -30,7 +31,9 @@ use Rattle.cfi_perf.specs.Events.{Event, Record, SampleEvent, record_view}
 use Rattle.cfi_perf.specs.Profiles.{Profile, architecture, profile, profile_records}
 use Rattle.cfi_perf.specs.Records.{Records}
 use Rattle.cfi_perf.specs.Samples.{Sample, kernel_frames, user_frames}
-use Rattle.cfi_programs.specs.Lines.{Line, line, wrong_input}
+use Rattle.cfi_programs.specs.declared.style.Format.{Format}
+use Rattle.cfi_programs.specs.declared.style.Format.TheVariants as formats
+use Rattle.cfi_programs.specs.Lines.{Line, line, reason_line as why_line, refusal_in, refused_line}
 use Rattle.cfi_programs.specs.Runs.{out_of_memory}
 use Rattle.cfi_step.specs.declared.module.LoadedModule.{LoadedModule}
 use Rattle.cfi_step.specs.declared.walk.StackFrame.{StackFrame}
@@ -55,9 +58,12 @@ use Rattle.cfi_flame.specs.declared.folded.FoldedError.TheVariants.{NoSamples, T
 use Rattle.cfi_flame.specs.FoldedCounts.{AreCounted, counted, line_text}
 use Rattle.cfi_flame.specs.FoldedStacks.{Stack}
 use Rattle.cfi_stacks.specs.declared.listing.Listing.{Listing}
-use Rattle.cfi_stacks.specs.declared.listing.Listing.TheVariants.{Frames, Folded}
+use Rattle.cfi_stacks.specs.declared.listing.Listing.TheVariants.{Frames, Json, Folded}
+use Rattle.cfi_stacks.specs.declared.listing.StackStyle.{StackStyle}
+use Rattle.cfi_stacks.specs.Choices.{Choice, chooses, everything, limited}
 use Rattle.cfi_stacks.specs.FoldedTexts.{folded_text}
-use Rattle.cfi_stacks.specs.Reasons.{reason_line, reason_of, reason_without}
+use Rattle.cfi_stacks.specs.Reasons.{Reason, reason_line, reason_of, reason_without}
+use Rattle.cfi_stacks.specs.StackObjects.{in_format, listed, object_end, sample_frame, sample_head}
 use Rattle.cfi_stacks.specs.StackTexts.{head_line, site_line}
 
 -- ---- a sample
@@ -103,6 +109,68 @@ abbrev pub sample_text :
 sample_text raw in_kernel files list name time s result room =
     head_line name time s ++ (frames_text raw in_kernel files list s result room ++ 10 ∷ [])
 
+-- ---- a sample as an object of JSON
+
+-- behind a comma each
+abbrev pub chain_objects : Bool → Bool → (ℕ → Site) → List ℕ → List ℕ
+chain_objects raw is_kernel site_at addresses =
+    flat_map (λ a. codes "," ++ sample_frame raw is_kernel (site_at a)) addresses
+
+abbrev pub stack_objects : Bool → List KnownFile → List MappedCode → List StackFrame → List ℕ
+stack_objects raw files list frames =
+    flat_map
+    (λ frame.
+    let address = row_address frame.pc frame.is_interrupted in
+    codes "," ++ sample_frame raw false (site_of files list address))
+    frames
+
+abbrev pub walk_objects :
+    Bool → List KnownFile → List MappedCode → Result Walk NoFrames → List StackFrame → List ℕ
+walk_objects raw files list (Ok walk) room = stack_objects raw files list (take walk.count room)
+walk_objects raw files list (Err why) room = []
+
+abbrev pub user_objects :
+    Bool → List KnownFile → List MappedCode → Sample → Result Walk NoFrames → List StackFrame →
+    List ℕ
+user_objects raw files list s result room =
+    if s.copies_stack then walk_objects raw files list result room
+    else chain_objects raw false (site_of files list) (user_frames s)
+
+-- the kernel's, and those of user space
+abbrev pub all_objects :
+    Bool → (ℕ → Site) → List KnownFile → List MappedCode → Sample → Result Walk NoFrames →
+    List StackFrame → List ℕ
+all_objects raw in_kernel files list s result room =
+    chain_objects raw true in_kernel (kernel_frames s)
+    ++ user_objects raw files list s result room
+
+-- why the walk has no more frames, or none
+abbrev pub reason_for : Result Walk NoFrames → Option Reason
+reason_for (Ok walk) = reason_of walk.end
+reason_for (Err why) = Some (reason_without why)
+
+-- a call chain has no reason
+abbrev pub sample_reason : Sample → Result Walk NoFrames → Option Reason
+sample_reason s result = if s.copies_stack then reason_for result else None
+
+abbrev pub sample_object :
+    Bool → (ℕ → Site) → List KnownFile → List MappedCode → Option (List ℕ) → ℕ → Sample →
+    Result Walk NoFrames → List StackFrame → List ℕ
+sample_object raw in_kernel files list name time s result room =
+    sample_head name time s
+    ++ (listed (all_objects raw in_kernel files list s result room)
+    ++ object_end (sample_reason s result))
+
+-- ---- a sample in either form
+
+abbrev pub sample_in :
+    StackStyle → (ℕ → Site) → List KnownFile → List MappedCode → Option (List ℕ) → ℕ → Sample →
+    Result Walk NoFrames → List StackFrame → List ℕ
+sample_in style in_kernel files list name time s result room =
+    in_format style.format
+    (sample_text style.raw in_kernel files list name time s result room)
+    (sample_object style.raw in_kernel files list name time s result room)
+
 -- ---- what is known before a record
 
 -- What is mapped in each process, and the name of each thread.
@@ -128,14 +196,41 @@ in_kernel_of files known = kernel_site files (known.mapped 0xffffffff)
 abbrev pub nothing_known : Known
 nothing_known = record { mapped = λ pid. []; names = λ tid. None }
 
--- ---- what comes of the records, one behind the other
+-- ---- the samples that are printed
 
-module _ (files : List KnownFile) {A : Type 0} (IsOf : Known → ℕ → Event → List A → Type 0) where
-  abbrev pub AreOfAll : Known → List Record → List A → Type 0
-  AreOfAll before [] found = found ≡ []
-  AreOfAll before (r ∷ records) found =
-      (first : List A) × (others : List A) × IsOf before r.time r.event first
-      × AreOfAll (known_after files r.event before) records others × (found ≡ first ++ others)
+-- A sample, its time, and what is known before it.
+pub record KnownSample : Type 0 where
+  pub known : Known
+  pub time : ℕ
+  pub sample : Sample
+
+abbrev pub sample_at : Known → ℕ → Event → List KnownSample
+sample_at known time (SampleEvent s) = record { known = known; time = time; sample = s } ∷ []
+sample_at known time _ = []
+
+-- those of the records, each with what all records before it say
+abbrev pub samples_of : List KnownFile → Known → List Record → List KnownSample
+samples_of files before [] = []
+samples_of files before (r ∷ records) =
+    sample_at before r.time r.event ++ samples_of files (known_after files r.event before) records
+
+abbrev pub is_chosen : Choice → KnownSample → Bool
+is_chosen choice of = chooses choice (of.known.names of.sample.tid) of.time of.sample
+
+abbrev pub chosen_of : Choice → List KnownFile → Known → List Record → List KnownSample
+chosen_of choice files before records = filter (is_chosen choice) (samples_of files before records)
+
+-- the first of those that are chosen, where there is a limit
+abbrev pub chosen : Choice → List KnownFile → List Record → List KnownSample
+chosen choice files records = limited choice.limit (chosen_of choice files nothing_known records)
+
+-- what comes of them, one behind the other
+module _ {A : Type 0} (IsOf : KnownSample → List A → Type 0) where
+  abbrev pub AreOfAll : List KnownSample → List A → Type 0
+  AreOfAll [] found = found ≡ []
+  AreOfAll (of ∷ samples) found =
+      (first : List A) × (others : List A) × IsOf of first × AreOfAll samples others
+      × (found ≡ first ++ others)
 
 -- ---- the frames of a sample
 
@@ -154,19 +249,19 @@ IsOfFrames machine files list s text_of text =
 
 -- ---- the texts of samples
 
-module _ (raw : Bool) (machine : SampleMachine) (files : List KnownFile) where
+module _ (style : StackStyle) (machine : SampleMachine) (files : List KnownFile) where
   abbrev pub IsStackText :
       (ℕ → Site) → List MappedCode → Option (List ℕ) → ℕ → Sample → List ℕ → Type 0
   IsStackText in_kernel list name time s text =
-      IsOfFrames machine files list s (sample_text raw in_kernel files list name time s) text
+      IsOfFrames machine files list s (sample_in style in_kernel files list name time s) text
 
-  abbrev pub IsTextOf : Known → ℕ → Event → List ℕ → Type 0
-  IsTextOf before time (SampleEvent s) text =
-      IsStackText (in_kernel_of files before) (before.mapped s.pid) (before.names s.tid) time s text
-  IsTextOf before time _ text = text ≡ []
+  abbrev pub IsTextOf : KnownSample → List ℕ → Type 0
+  IsTextOf of text =
+      IsStackText (in_kernel_of files of.known) (of.known.mapped of.sample.pid)
+      (of.known.names of.sample.tid) of.time of.sample text
 
-  abbrev pub AreStacks : Known → List Record → List ℕ → Type 0
-  AreStacks before records text = AreOfAll files IsTextOf before records text
+  abbrev pub AreStacks : Choice → List Record → List ℕ → Type 0
+  AreStacks choice records text = AreOfAll IsTextOf (chosen choice files records) text
 
 -- ---- the samples by their folded stacks
 
@@ -181,34 +276,38 @@ IsFoldedText machine files in_kernel list name s text =
     IsOfFrames machine files list s (folded_text in_kernel files list name s) text
 
 module _ (by_period : Bool) (machine : SampleMachine) (files : List KnownFile) where
-  abbrev pub IsSampleOf : Known → ℕ → Event → List Stack → Type 0
-  IsSampleOf before time (SampleEvent s) samples =
+  abbrev pub IsSampleOf : KnownSample → List Stack → Type 0
+  IsSampleOf of samples =
       (text : List ℕ)
-      × IsFoldedText machine files (in_kernel_of files before) (before.mapped s.pid)
-      (before.names s.tid) s text
-      × (samples ≡ record { frames = text; count = weight by_period s } ∷ [])
-  IsSampleOf before time _ samples = samples ≡ []
+      × IsFoldedText machine files (in_kernel_of files of.known) (of.known.mapped of.sample.pid)
+      (of.known.names of.sample.tid) of.sample text
+      × (samples ≡ record { frames = text; count = weight by_period of.sample } ∷ [])
 
-  abbrev pub AreSamples : Known → List Record → List Stack → Type 0
-  AreSamples before records samples = AreOfAll files IsSampleOf before records samples
+  abbrev pub AreSamples : Choice → List Record → List Stack → Type 0
+  AreSamples choice records samples = AreOfAll IsSampleOf (chosen choice files records) samples
 
 -- ---- all samples
 
-abbrev pub perf_refusal : PerfError → Line
-perf_refusal error = line (codes "refused " ++ name_of_perf error) 1
+abbrev pub perf_refusal : Format → PerfError → Line
+perf_refusal format error = refused_line format (name_of_perf error)
+
+abbrev pub no_memory : Format → Line
+no_memory format = refusal_in format errors.OutOfMemory
 
 -- behind the stacks
-abbrev pub ended : List ℕ → Option PerfError → Line
-ended text None = record { text = text; status = 0 }
-ended text (Some error) = record { text = text ++ (perf_refusal error).text; status = 1 }
+abbrev pub ended : Format → List ℕ → Option PerfError → Line
+ended format text None = record { text = text; status = 0 }
+ended format text (Some error) =
+    record { text = text ++ (perf_refusal format error).text; status = 1 }
 
-abbrev pub IsPrinted :
-    Bool → SampleMachine → List KnownFile → List Record → Option PerfError → Line → Type 0
-IsPrinted raw machine files records error printed =
-    ((text : List ℕ) × AreStacks raw machine files nothing_known records text
-    × (printed ≡ ended text error))
-    ⊎ ((n : ℕ) × (text : List ℕ) × AreStacks raw machine files nothing_known (take n records) text
-    × (printed ≡ record { text = text ++ out_of_memory.text; status = 1 }))
+module _ (style : StackStyle) (machine : SampleMachine) (files : List KnownFile) (choice : Choice)
+  where
+    abbrev pub IsPrinted : List Record → Option PerfError → Line → Type 0
+    IsPrinted records error printed =
+        ((text : List ℕ) × AreStacks style machine files choice records text
+        × (printed ≡ ended style.format text error))
+        ⊎ ((n : ℕ) × (text : List ℕ) × AreStacks style machine files choice (take n records) text
+        × (printed ≡ record { text = text ++ (no_memory style.format).text; status = 1 }))
 
 -- ---- all samples, folded
 
@@ -216,47 +315,60 @@ IsPrinted raw machine files records error printed =
 abbrev pub HasTooMany : List Stack → Type 0
 HasTooMany samples = (frames : List ℕ) × ¬ (unwrap_or (counted frames samples) 0 < 2 ^ 64)
 
-module _ (by_period : Bool) (machine : SampleMachine) (files : List KnownFile) where
-  -- each different stack, with how many samples have it
-  abbrev pub AreFolded : List Record → List Stack → Type 0
-  AreFolded records folded =
-      (samples : List Stack) × AreSamples by_period machine files nothing_known records samples
-      × AreCounted samples folded
-
-  -- memory was refused, or a stack has too many samples of the first records
-  abbrev pub IsUnfolded : List Record → FoldedError → Type 0
-  IsUnfolded records OutOfMemory = Unit {0}
-  IsUnfolded records (NotFolded number) = ⊥
-  IsUnfolded records NoSamples = ⊥
-  IsUnfolded records TooManySamples =
-      (n : ℕ) × (samples : List Stack)
-      × AreSamples by_period machine files nothing_known (take n records) samples
-      × HasTooMany samples
-
 abbrev pub folded_refusal : FoldedError → Line
 folded_refusal TooManySamples = line (codes "refused TooManySamples") 1
 folded_refusal _ = out_of_memory
 
--- their lines, and then the error that ended the records; or why there are none
-abbrev pub IsFolded :
-    Bool → SampleMachine → List KnownFile → List Record → Option PerfError → Line → Type 0
-IsFolded by_period machine files records error printed =
-    ((folded : List Stack) × AreFolded by_period machine files records folded
-    × (printed ≡ ended (flat_map line_text folded) error))
-    ⊎ ((why : FoldedError) × IsUnfolded by_period machine files records why
-    × (printed ≡ folded_refusal why))
+module _ (by_period : Bool) (machine : SampleMachine) (files : List KnownFile) (choice : Choice)
+  where
+    -- each different stack, with how many samples have it
+    abbrev pub AreFolded : List Record → List Stack → Type 0
+    AreFolded records folded =
+        (samples : List Stack) × AreSamples by_period machine files choice records samples
+        × AreCounted samples folded
+
+    -- memory was refused, or a stack has too many samples of the first records
+    abbrev pub IsUnfolded : List Record → FoldedError → Type 0
+    IsUnfolded records OutOfMemory = Unit {0}
+    IsUnfolded records (NotFolded number) = ⊥
+    IsUnfolded records NoSamples = ⊥
+    IsUnfolded records TooManySamples =
+        (n : ℕ) × (samples : List Stack)
+        × AreSamples by_period machine files choice (take n records) samples × HasTooMany samples
+
+    -- their lines, and then the error that ended the records; or why there are none
+    abbrev pub IsFolded : List Record → Option PerfError → Line → Type 0
+    IsFolded records error printed =
+        ((folded : List Stack) × AreFolded records folded
+        × (printed ≡ ended formats.Text (flat_map line_text folded) error))
+        ⊎ ((why : FoldedError) × IsUnfolded records why × (printed ≡ folded_refusal why))
+
+-- ---- as they are listed
+
+-- what says why there is no more is an object of JSON where the stacks are
+abbrev pub format_of : Listing → Format
+format_of (Json raw) = formats.Json
+format_of _ = formats.Text
 
 abbrev pub IsListed :
-    Listing → SampleMachine → List KnownFile → List Record → Option PerfError → Line → Type 0
-IsListed (Frames raw) machine files records error printed =
-    IsPrinted raw machine files records error printed
-IsListed (Folded by_period) machine files records error printed =
-    IsFolded by_period machine files records error printed
+    Listing → Choice → SampleMachine → List KnownFile → List Record → Option PerfError → Line →
+    Type 0
+IsListed (Frames raw) choice machine files records error printed =
+    IsPrinted (record { raw = raw; format = formats.Text }) machine files choice records error
+    printed
+IsListed (Json raw) choice machine files records error printed =
+    IsPrinted (record { raw = raw; format = formats.Json }) machine files choice records error
+    printed
+IsListed (Folded by_period) choice machine files records error printed =
+    IsFolded by_period machine files choice records error printed
 
 -- ---- a profile
 
-abbrev pub unknown_machine : Line
-unknown_machine = line (codes "unknown machine") 1
+abbrev pub unknown_machine : Format → Line
+unknown_machine format = why_line format (codes "unknown machine") 1
+
+abbrev pub wrong_input_in : Format → Line
+wrong_input_in format = why_line format (codes "wrong input") 2
 
 -- the records by their times, those of one time in the order of the profile
 pub record AreInTimeOrder (records sorted : List Record) : Type 0 where
@@ -273,19 +385,19 @@ IsSortedOf found sorted error = AreInTimeOrder found.records sorted × (error �
 
 -- by files that were opened
 abbrev pub IsOfOpened :
-    Listing → SampleMachine → List Opened → List Record → Option PerfError → Line → Type 0
-IsOfOpened listing machine opened sorted error printed =
+    Listing → Choice → SampleMachine → List Opened → List Record → Option PerfError → Line → Type 0
+IsOfOpened listing choice machine opened sorted error printed =
     (files : List KnownFile) × AreFilesOf opened files
-    × IsListed listing machine files sorted error printed
+    × IsListed listing choice machine files sorted error printed
 
-module _ (listing : Listing) {Handle : Type 0} (may_open : FilePlace → Option Handle → Type 0)
-    (remaining : Handle → Option (List ℕ)) where
+module _ (listing : Listing) (choice : Choice) {Handle : Type 0}
+    (may_open : FilePlace → Option Handle → Type 0) (remaining : Handle → Option (List ℕ)) where
   -- by these files
   abbrev pub IsOfWanted :
       SampleMachine → List Wanted → List Record → Option PerfError → Line → Type 0
   IsOfWanted machine wanted sorted error printed =
       (opened : List Opened) × AreOpened may_open remaining wanted opened
-      × IsOfOpened listing machine opened sorted error printed
+      × IsOfOpened listing choice machine opened sorted error printed
 
   abbrev pub IsOfSorted : SampleMachine → List Record → Option PerfError → Line → Type 0
   IsOfSorted machine sorted error printed =
@@ -296,19 +408,19 @@ module _ (listing : Listing) {Handle : Type 0} (may_open : FilePlace → Option 
   IsOfRecords machine found printed =
       ((sorted : List Record) × AreInTimeOrder found.records sorted
       × IsOfSorted machine sorted found.error printed)
-      ⊎ (printed ≡ out_of_memory)
+      ⊎ (printed ≡ no_memory (format_of listing))
 
   abbrev pub IsOfMachine : Option SampleMachine → Records → Line → Type 0
-  IsOfMachine None found printed = printed ≡ unknown_machine
+  IsOfMachine None found printed = printed ≡ unknown_machine (format_of listing)
   IsOfMachine (Some machine) found printed = IsOfRecords machine found printed
 
   abbrev pub IsOfArchitecture : Result (Option (List ℕ)) PerfError → Records → Line → Type 0
-  IsOfArchitecture (Err e) found printed = printed ≡ perf_refusal e
-  IsOfArchitecture (Ok None) found printed = printed ≡ unknown_machine
+  IsOfArchitecture (Err e) found printed = printed ≡ perf_refusal (format_of listing) e
+  IsOfArchitecture (Ok None) found printed = printed ≡ unknown_machine (format_of listing)
   IsOfArchitecture (Ok (Some name)) found printed = IsOfMachine (machine_named name) found printed
 
   abbrev pub IsOfProfile : Result Profile PerfError → Line → Type 0
-  IsOfProfile (Err e) printed = printed ≡ perf_refusal e
+  IsOfProfile (Err e) printed = printed ≡ perf_refusal (format_of listing) e
   IsOfProfile (Ok p) printed = IsOfArchitecture (architecture p) (profile_records p) printed
 
   abbrev pub IsOutput : List ℕ → Line → Type 0
@@ -317,10 +429,11 @@ module _ (listing : Listing) {Handle : Type 0} (may_open : FilePlace → Option 
   -- or there was no memory, or the input can't be read
   abbrev pub IsListingOwed : List ℕ → Line → Type 0
   IsListingOwed bytes printed =
-      IsOutput bytes printed ⊎ ((printed ≡ out_of_memory) ⊎ (printed ≡ wrong_input))
+      IsOutput bytes printed
+      ⊎ ((printed ≡ no_memory (format_of listing)) ⊎ (printed ≡ wrong_input_in (format_of listing)))
 
--- where the stacks are listed one after the other
+-- where the stacks of all samples are listed one after the other
 module _ (raw : Bool) {Handle : Type 0} (may_open : FilePlace → Option Handle → Type 0)
     (remaining : Handle → Option (List ℕ)) where
   abbrev pub IsOwed : List ℕ → Line → Type 0
-  IsOwed bytes printed = IsListingOwed (Frames raw) may_open remaining bytes printed
+  IsOwed bytes printed = IsListingOwed (Frames raw) everything may_open remaining bytes printed

@@ -66,6 +66,7 @@ fn code_file<'run>(
         Some(WantedFile {
             name: mapping.name,
             build_id: build_of(segments, mapped, mapping.name),
+            process: None,
         })
     } else {
         None
@@ -120,6 +121,8 @@ fn vdso_file<'run>(alloc: Global, core: &Core<'run>) -> Result<Option<OpenedFile
         build_id: build_of(segments, mapped, name),
         bytes: Some(image.to_vec(alloc)?),
         debug: None,
+        process: None,
+        map_name: None,
     }))
 }
 

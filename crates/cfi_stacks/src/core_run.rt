@@ -1,7 +1,9 @@
 //! The stacks of a core file that a reader gives.
 ghost use Rattle.std.specs.Prelude.{◌≡◌, ◌⊎◌, ℕ, [], List, map, option_map};
+ghost use Rattle.std.specs.List.{list_any};
 ghost use Rattle.cfi_cores.specs.CoreSegments.{AreInOrder, segment_view};
 ghost use Rattle.cfi_cores.specs.CoreFiles.{core_view};
+ghost use Rattle.cfi_cores.specs.CoreThreads.{thread_view};
 ghost use Rattle.cfi_object.specs.FileParts.{AreLeft};
 ghost use Rattle.cfi_processes.specs.FileModules.{AreOfFiles};
 ghost use Rattle.cfi_processes.specs.KnownFiles.{known_view, modules_in};
@@ -10,183 +12,237 @@ ghost use Rattle.cfi_processes.specs.OpenedFiles.{opened_view};
 ghost use Rattle.cfi_processes.specs.SampleStacks.{HasRoom};
 ghost use Rattle.cfi_processes.specs.ThreadNames.{bytes_of};
 ghost use Rattle.cfi_processes.specs.Wanted.{wanted_view};
-ghost use Rattle.cfi_programs.specs.Runs.{out_of_memory};
 ghost use Rattle.cfi_programs.specs.WriterOutput.{Prints, PrintsSome};
 ghost use Rattle.cfi_stacks.specs.CoreOutputs.{IsOfCore, IsOfFiles, IsOfOpened, IsOfWanted};
 ghost use Rattle.cfi_stacks.specs.CoreOutputs.{IsOutput, IsOwed, IsPrinted, core_refusal, ended};
-ghost use Rattle.cfi_stacks.specs.CoreOutputs.{mappings_of, memory_of, with_vdso};
+ghost use Rattle.cfi_stacks.specs.CoreOutputs.{is_asked_for, lacks_any, lacks_thread, mappings_of};
+ghost use Rattle.cfi_stacks.specs.CoreOutputs.{memory_of};
+ghost use Rattle.cfi_stacks.specs.CoreOutputs.{with_vdso};
+ghost use Rattle.cfi_stacks.specs.ProfileOutputs.{no_memory};
 ghost use Rattle.cfi_stacks.specs.Rooms.{KeepsNoRows};
 
 use crate::core_files::{CoreCode, code_files, core_code, push_vdso};
 use crate::core_text::print_thread;
+use crate::listing::ThreadListing;
 use crate::sample_text::Room;
-use cfi_cores::{Core, CoreError, CoreMemory, read_core};
-use cfi_object::input::{InputError, read_all};
+use cfi_cores::{Core, CoreError, CoreMemory, CoreThread, read_core};
+use cfi_object::input::{FileInput, InputError};
+use cfi_object::parts::read_whole;
 use cfi_processes::Name;
 use cfi_processes::process_code::ProcessCode;
 use cfi_processes::profile_files::{OpenedFile, Opener, ProfileFile, profile_files, read_files};
 use cfi_processes::wanted::WantedFile;
-use cfi_programs::lines::{write_part, write_refusal, write_wrong_input};
+use cfi_programs::lines::{write_reason, write_refusal_in, write_refused_name};
+use cfi_programs::style::Format;
 use gimli_cfi::Error;
 use std::alloc::Global;
 use std::io;
-use std::io::{Read, Write};
+use std::io::Write;
 
-/// Reads the core file to its end, and prints the stack of each thread, in the order of its notes.
+/// Reads the core file whole, and prints the stack of each thread, in the order of its notes, or
+/// only that of the thread that the listing names.
 ///
 /// For each there is a line with the thread, the signal that it got and the name of the process, a
 /// line for each frame, where there is a reason for which the last frame isn't the outermost one a
 /// line with it, and an empty line. The line of a frame has its address in the process, its place
 /// in a file, the function and the file; if it is `raw`, it has no function, and none is looked up.
+/// With `Format::Json` there is a line for each thread instead, an object with the same, and what
+/// is printed below in place of stacks is the member `error` of one (`write_reason`).
 /// The files of code are opened by the names that the core file has for them, and where it has the
 /// build of one, only a file of that build is taken (`cfi_processes::profile_files::read_files`);
 /// what it doesn't have of their memory is read in them. The vdso is read in the core file.
 ///
 /// Status 0: all threads are printed. Status 1: the core file, or the rest of its notes, can't be
-/// read, which prints `refused` and the name of the error; or memory is refused. Status 2: the
-/// input can't be read, which prints `wrong input`. Fails where the output can't be written: then a
-/// beginning has been written.
+/// read, which prints `refused` and the name of the error; no note is of the thread that is asked
+/// for, which prints `no thread`; or memory is refused. Status 2: the input can't be read, which
+/// prints `wrong input`. Fails where the output can't be written: then a beginning has been
+/// written.
 ///
 /// Allocates for the input, the files and what is mapped. Unwinding and printing don't allocate.
-pub fn print_core<O: Opener, R: Read, W: Write>(
+pub fn print_core<O: Opener, I: FileInput, W: Write>(
     alloc: Global,
-    raw: bool,
+    listing: ThreadListing,
     opener: &O,
-    input: &mut R,
+    input: &mut I,
     output: &mut W,
 ) -> io::Result<u8>
-    ensures { (bytes : List ℕ) × AreLeft (R.remaining input.old) bytes
-        × PrintsSome (λ line. IsOwed raw (O.may_open opener.now) O.File.remaining bytes line)
+    ensures { (bytes : List ℕ) × AreLeft (I.bytes input.old) bytes
+        × PrintsSome (λ line. IsOwed listing (O.may_open opener.now) O.File.remaining bytes line)
         (W.contents output.old) (W.contents output.new) result }
 {
-    match read_all(alloc, input) {
-        Ok(bytes) => print_bytes(alloc, raw, opener, bytes.as_slice(), output),
-        Err(InputError::OutOfMemory) => write_refusal(output, Error::OutOfMemory),
-        Err(_) => write_wrong_input(output),
+    match read_whole(alloc, input) {
+        Ok(bytes) => print_bytes(alloc, listing, opener, bytes.as_slice(), output),
+        Err(InputError::OutOfMemory) => write_refusal_in(
+            output,
+            listing.format,
+            Error::OutOfMemory,
+        ),
+        Err(_) => write_reason(output, listing.format, "wrong input", 2),
+    }
+}
+
+/// Whether a thread is asked for that no note is of, all of which were read.
+fn lacks_thread(listing: ThreadListing, core: &Core<'_>) -> bool
+    ensures { result ≡ lacks_thread listing (core_view core.now) }
+{
+    match listing.thread {
+        None => false,
+        Some(_) => lacks_any(listing, core),
+    }
+}
+
+/// Whether all notes were read, and none is of a thread that is printed.
+fn lacks_any(listing: ThreadListing, core: &Core<'_>) -> bool
+    ensures { result ≡ lacks_any listing (core_view core.now) }
+{
+    match core.error {
+        None => !has_asked_for(listing, core.threads.as_slice()),
+        Some(_) => false,
+    }
+}
+
+/// Whether one of the threads is printed.
+fn has_asked_for(listing: ThreadListing, threads: &[CoreThread<'_>]) -> bool
+    ensures { result ≡ list_any (is_asked_for listing) (map thread_view threads.now) }
+{
+    threads.iter().any(|thread| is_asked_for(listing, thread))
+}
+
+/// Whether a thread is one that is printed.
+fn is_asked_for(listing: ThreadListing, thread: &CoreThread<'_>) -> bool
+    ensures { result ≡ is_asked_for listing (thread_view thread.now) }
+{
+    match listing.thread {
+        None => true,
+        Some(tid) => u64::from(thread.tid) == tid,
     }
 }
 
 /// Prints the stacks of the core file that these bytes are.
 fn print_bytes<O: Opener, W: Write>(
     alloc: Global,
-    raw: bool,
+    listing: ThreadListing,
     opener: &O,
     bytes: &[u8],
     output: &mut W,
 ) -> io::Result<u8>
-    ensures { PrintsSome (λ line. IsOutput raw (O.may_open opener.now) O.File.remaining
+    ensures { PrintsSome (λ line. IsOutput listing (O.may_open opener.now) O.File.remaining
         bytes.now line)
         (W.contents output.old) (W.contents output.new) result }
 {
     match read_core(alloc, bytes) {
-        Ok(core) => print_read(alloc, raw, opener, &core, output),
-        Err(error) => write_core_refusal(output, error),
+        Ok(core) => print_read(alloc, listing, opener, &core, output),
+        Err(error) => write_core_refusal(output, listing.format, error),
     }
 }
 
 /// Opens the files of a core, and prints the stacks of its threads.
 fn print_read<O: Opener, W: Write>(
     alloc: Global,
-    raw: bool,
+    listing: ThreadListing,
     opener: &O,
     core: &Core<'_>,
     output: &mut W,
 ) -> io::Result<u8>
     requires { AreInOrder core.now.segments.items }
-    ensures { PrintsSome (λ line. IsOfCore raw (O.may_open opener.now) O.File.remaining
-        (core_view core.now) line ⊎ (line ≡ out_of_memory))
+    ensures { PrintsSome (λ line. IsOfCore listing (O.may_open opener.now) O.File.remaining
+        (core_view core.now) line ⊎ (line ≡ no_memory listing.format))
         (W.contents output.old) (W.contents output.new) result }
 {
+    if lacks_thread(listing, core) {
+        return write_reason(output, listing.format, "no thread", 1);
+    }
     match code_files(alloc, core.segments.as_slice(), core.mapped.as_slice()) {
-        Ok(wanted) => print_wanted(alloc, raw, opener, core, wanted.as_slice(), output),
-        Err(_) => write_refusal(output, Error::OutOfMemory),
+        Ok(wanted) => print_wanted(alloc, listing, opener, core, wanted.as_slice(), output),
+        Err(_) => write_refusal_in(output, listing.format, Error::OutOfMemory),
     }
 }
 
 /// Opens these files, and prints the stacks of the threads.
 fn print_wanted<'run, O: Opener, W: Write>(
     alloc: Global,
-    raw: bool,
+    listing: ThreadListing,
     opener: &O,
     core: &Core<'run>,
     wanted: &[WantedFile<'run>],
     output: &mut W,
 ) -> io::Result<u8>
     requires { AreInOrder core.now.segments.items }
-    ensures { PrintsSome (λ line. IsOfWanted raw (O.may_open opener.now) O.File.remaining
-        (core_view core.now) (map wanted_view wanted.now) line ⊎ (line ≡ out_of_memory))
+    ensures { PrintsSome (λ line. IsOfWanted listing (O.may_open opener.now) O.File.remaining
+        (core_view core.now) (map wanted_view wanted.now) line ⊎ (line ≡ no_memory listing.format))
         (W.contents output.old) (W.contents output.new) result }
 {
     match read_files(alloc, opener, wanted) {
-        Ok(opened) => print_with_vdso(alloc, raw, core, opened, output),
-        Err(_) => write_refusal(output, Error::OutOfMemory),
+        Ok(opened) => print_with_vdso(alloc, listing, core, opened, output),
+        Err(_) => write_refusal_in(output, listing.format, Error::OutOfMemory),
     }
 }
 
 /// Prints the stacks of the threads, by files that were opened and the vdso.
 fn print_with_vdso<'run, W: Write>(
     alloc: Global,
-    raw: bool,
+    listing: ThreadListing,
     core: &Core<'run>,
     opened: Vec<OpenedFile<'run>>,
     output: &mut W,
 ) -> io::Result<u8>
     requires { AreInOrder core.now.segments.items }
-    ensures { PrintsSome (λ line. IsOfOpened raw (core_view core.now)
+    ensures { PrintsSome (λ line. IsOfOpened listing (core_view core.now)
         (with_vdso (core_view core.now) (map opened_view opened.entry.items)) line
-        ⊎ (line ≡ out_of_memory))
+        ⊎ (line ≡ no_memory listing.format))
         (W.contents output.old) (W.contents output.new) result }
 {
     let mut opened = opened;
     match push_vdso(alloc, core, &mut opened) {
-        Ok(()) => print_opened(alloc, raw, core, opened.as_slice(), output),
-        Err(_) => write_refusal(output, Error::OutOfMemory),
+        Ok(()) => print_opened(alloc, listing, core, opened.as_slice(), output),
+        Err(_) => write_refusal_in(output, listing.format, Error::OutOfMemory),
     }
 }
 
 /// Prints the stacks of the threads, by files that were opened.
 fn print_opened<W: Write>(
     alloc: Global,
-    raw: bool,
+    listing: ThreadListing,
     core: &Core<'_>,
     opened: &[OpenedFile<'_>],
     output: &mut W,
 ) -> io::Result<u8>
     requires { AreInOrder core.now.segments.items }
-    ensures { PrintsSome (λ line. IsOfOpened raw (core_view core.now)
-        (map opened_view opened.now) line ⊎ (line ≡ out_of_memory))
+    ensures { PrintsSome (λ line. IsOfOpened listing (core_view core.now)
+        (map opened_view opened.now) line ⊎ (line ≡ no_memory listing.format))
         (W.contents output.old) (W.contents output.new) result }
 {
     match profile_files(alloc, opened) {
-        Ok(files) => print_by_files(alloc, raw, core, opened, files.as_slice(), output),
-        Err(_) => write_refusal(output, Error::OutOfMemory),
+        Ok(files) => print_by_files(alloc, listing, core, opened, files.as_slice(), output),
+        Err(_) => write_refusal_in(output, listing.format, Error::OutOfMemory),
     }
 }
 
 /// Prints the stacks of the threads, by the files, which were opened so.
 fn print_by_files<W: Write>(
     alloc: Global,
-    raw: bool,
+    listing: ThreadListing,
     core: &Core<'_>,
     opened: &[OpenedFile<'_>],
     files: &[ProfileFile<'_>],
     output: &mut W,
 ) -> io::Result<u8>
     requires { AreInOrder core.now.segments.items }
-    ensures { PrintsSome (λ line. IsOfFiles raw (core_view core.now) (map opened_view opened.now)
-        (map known_view files.now) line ⊎ (line ≡ out_of_memory))
+    ensures { PrintsSome (λ line. IsOfFiles listing (core_view core.now)
+        (map opened_view opened.now) (map known_view files.now) line
+        ⊎ (line ≡ no_memory listing.format))
         (W.contents output.old) (W.contents output.new) result }
 {
     match core_code(alloc, core, opened, files) {
-        Ok(code) => print_code(alloc, raw, core, files, &code, output),
-        Err(_) => write_refusal(output, Error::OutOfMemory),
+        Ok(code) => print_code(alloc, listing, core, files, &code, output),
+        Err(_) => write_refusal_in(output, listing.format, Error::OutOfMemory),
     }
 }
 
 /// Prints the stacks of the threads, by the code of the process.
 fn print_code<W: Write>(
     alloc: Global,
-    raw: bool,
+    listing: ThreadListing,
     core: &Core<'_>,
     files: &[ProfileFile<'_>],
     code: &CoreCode<'_, '_>,
@@ -199,20 +255,20 @@ fn print_code<W: Write>(
     requires files { AreOfFiles files.now code.now.modules.items }
     requires dumped { AreInOrder core.now.segments.items }
     requires windows { AreInOrder code.now.windows.items }
-    ensures { PrintsSome (λ line. IsPrinted raw (map known_view files.now)
+    ensures { PrintsSome (λ line. IsPrinted listing (map known_view files.now)
         (memory_of (core_view core.now) (map segment_view code.now.windows.items))
         (core_view core.now) line)
         (W.contents output.old) (W.contents output.new) result }
 {
     match Room::new(alloc) {
-        Ok(room) => print_threads(raw, core, files, code, room, output),
-        Err(_) => write_refusal(output, Error::OutOfMemory),
+        Ok(room) => print_threads(listing, core, files, code, room, output),
+        Err(_) => write_refusal_in(output, listing.format, Error::OutOfMemory),
     }
 }
 
 /// Prints the stacks of the threads in this room, and then the error that ended the notes.
 fn print_threads<W: Write>(
-    raw: bool,
+    listing: ThreadListing,
     core: &Core<'_>,
     files: &[ProfileFile<'_>],
     code: &CoreCode<'_, '_>,
@@ -228,7 +284,7 @@ fn print_threads<W: Write>(
     requires windows { AreInOrder code.now.windows.items }
     requires rows { KeepsNoRows room }
     requires frames { HasRoom room.frames.items }
-    ensures { PrintsSome (λ line. IsPrinted raw (map known_view files.now)
+    ensures { PrintsSome (λ line. IsPrinted listing (map known_view files.now)
         (memory_of (core_view core.now) (map segment_view code.now.windows.items))
         (core_view core.now) line)
         (W.contents output.old) (W.contents output.new) result }
@@ -242,8 +298,11 @@ fn print_threads<W: Write>(
     let name = shown_name(core.name);
     let threads = core.threads.as_slice();
     for thread in threads {
+        if !is_asked_for(listing, thread) {
+            continue;
+        }
         print_thread(
-            raw,
+            listing,
             core.machine,
             &process,
             code.modules.as_slice(),
@@ -254,7 +313,7 @@ fn print_threads<W: Write>(
             output,
         )?;
     }
-    write_end(output, core.error)
+    write_end(output, listing.format, core.error)
 }
 
 /// The name of the process, if it is known, to be printed.
@@ -268,20 +327,20 @@ fn shown_name(name: Option<&[u8]>) -> Option<Name<'_>>
 }
 
 /// Prints the error that ended the notes, if there is one, and returns the status.
-fn write_end<W: Write>(output: &mut W, error: Option<CoreError>) -> io::Result<u8>
-    ensures { Prints (ended [] error) (W.contents output.old) (W.contents output.new) result }
+fn write_end<W: Write>(output: &mut W, format: Format, error: Option<CoreError>) -> io::Result<u8>
+    ensures { Prints (ended format [] error)
+        (W.contents output.old) (W.contents output.new) result }
 {
     match error {
         None => Ok(0),
-        Some(error) => write_core_refusal(output, error),
+        Some(error) => write_core_refusal(output, format, error),
     }
 }
 
-/// Prints `refused` and the name of the error, and returns the status 1.
-fn write_core_refusal<W: Write>(output: &mut W, error: CoreError) -> io::Result<u8>
-    ensures { Prints (core_refusal error) (W.contents output.old) (W.contents output.new) result }
+/// Prints the name of the error, and returns the status 1.
+fn write_core_refusal<W: Write>(output: &mut W, format: Format, error: CoreError) -> io::Result<u8>
+    ensures { Prints (core_refusal format error)
+        (W.contents output.old) (W.contents output.new) result }
 {
-    let name = error.name();
-    write_part(output, format_args!("refused {name}\n"))?;
-    Ok(1)
+    write_refused_name(output, format, error.name())
 }

@@ -9,12 +9,14 @@ ghost use Rattle.cfi_processes.specs.KnownFiles.{known_view, modules_in};
 ghost use Rattle.cfi_processes.specs.Mappings.{AreInOrder};
 ghost use Rattle.cfi_processes.specs.Modules.{module_view};
 ghost use Rattle.cfi_processes.specs.ThreadNames.{bytes_of};
-ghost use Rattle.cfi_stacks.specs.CoreOutputs.{IsThreadText, thread_text};
+ghost use Rattle.cfi_stacks.specs.CoreOutputs.{IsThreadText, thread_in, thread_text};
 ghost use Rattle.cfi_stacks.specs.Rooms.{IsRoomFor};
 ghost use Rattle.cfi_stacks.specs.StackTexts.{process_text, signal_name_text, signal_text};
 ghost use Rattle.cfi_stacks.specs.StackTexts.{thread_line, thread_start};
 
 use crate::core_frames::print_core_walk;
+use crate::core_object::write_thread_object;
+use crate::listing::ThreadListing;
 use crate::names::write_known_name;
 use crate::sample_text::{REGISTERS, Room};
 use crate::signals::signal_name;
@@ -26,6 +28,7 @@ use cfi_processes::process_code::{FileModule, ProcessCode};
 use cfi_processes::registers::SampleMachine;
 use cfi_processes::sample_stack::NoFrames;
 use cfi_programs::lines::write_text;
+use cfi_programs::style::Format;
 use cfi_programs::text::{Text, push, push_decimal};
 use cfi_step::{Modules, StackFrame, Walk};
 use std::io::Write;
@@ -35,11 +38,12 @@ use std::{fmt, io};
 /// process, a line for each frame, the reason why there are no more if the last one isn't the
 /// outermost, and an empty line.
 ///
-/// If it is `raw`, the lines have no functions. The modules are those of what is mapped, and the
+/// By the listing it is an object of JSON in a line instead (`core_object`), and has no functions.
+/// The modules are those of what is mapped, and the
 /// rows that the room keeps are those of the files. There is room for 4096 frames. Does not
 /// allocate.
 pub fn print_thread<W: Write>(
-    raw: bool,
+    listing: ThreadListing,
     machine: SampleMachine,
     code: &ProcessCode<'_, '_, '_>,
     modules: &[FileModule<'_, '_>],
@@ -56,7 +60,7 @@ pub fn print_thread<W: Write>(
     requires cached { IsRoomFor code.now.files.now room.old }
     ensures printed { (text : List ℕ)
         × Writes (W.contents output.old) (W.contents output.new) result text
-        × IsThreadText raw machine (map known_view code.now.files.now) code.now.mappings.now
+        × IsThreadText listing machine (map known_view code.now.files.now) code.now.mappings.now
         (number_at (memory_view memory.now)) (bytes_of name.entry) (thread_view thread.now) text }
     ensures cached { IsRoomFor code.now.files.now room.new }
 {
@@ -79,7 +83,7 @@ pub fn print_thread<W: Write>(
         frames,
     );
     print_found(
-        raw,
+        listing,
         code,
         name,
         thread,
@@ -92,6 +96,30 @@ pub fn print_thread<W: Write>(
 
 /// Prints what was found of a thread's stack.
 fn print_found<W: Write>(
+    listing: ThreadListing,
+    code: &ProcessCode<'_, '_, '_>,
+    name: Option<Name<'_>>,
+    thread: &CoreThread<'_>,
+    found: Result<Walk, NoFrames>,
+    frames: &[StackFrame],
+    room: &mut LineRoom,
+    output: &mut W,
+) -> io::Result<()>
+    requires order { AreInOrder 0 code.now.mappings.now }
+    requires count { IfOk found (λ walk. walk.count ≤ length frames.now) }
+    ensures { Writes (W.contents output.old) (W.contents output.new) result
+        (thread_in listing (map known_view code.now.files.now) code.now.mappings.now
+        (bytes_of name.entry) (thread_view thread.now) found frames.now) }
+{
+    let raw = listing.raw;
+    match listing.format {
+        Format::Text => print_lines(raw, code, name, thread, found, frames, room, output),
+        Format::Json => write_thread_object(output, raw, code, name, thread, found, frames),
+    }
+}
+
+/// Prints what was found of a thread's stack as lines.
+fn print_lines<W: Write>(
     raw: bool,
     code: &ProcessCode<'_, '_, '_>,
     name: Option<Name<'_>>,

@@ -14,11 +14,14 @@ ghost use Rattle.cfi_processes.specs.Modules.{module_view};
 ghost use Rattle.cfi_processes.specs.Replays.{AreModulesFor, HasOwnModules, files_in, files_of};
 ghost use Rattle.cfi_processes.specs.SampleStacks.{HasRoom};
 ghost use Rattle.cfi_processes.specs.ThreadNames.{bytes_of};
+ghost use Rattle.cfi_programs.specs.declared.style.Format.TheVariants.{Text};
+ghost use Rattle.cfi_stacks.specs.Choices.{choice_view};
 ghost use Rattle.cfi_stacks.specs.Foldings.{IsFollowed, IsNotFollowed};
 ghost use Rattle.cfi_stacks.specs.ProfileOutputs.{AreFolded, IsFolded, IsFoldedText, IsUnfolded};
 ghost use Rattle.cfi_stacks.specs.ProfileOutputs.{ended, folded_refusal, known_in, weight};
 ghost use Rattle.cfi_stacks.specs.Rooms.{IsRoomFor, KeepsNoRows};
 
+use crate::choice::{Choice, is_left_out, left_after};
 use crate::folded_text::push_stack;
 use crate::run::write_end;
 use crate::sample_text::{REGISTERS, Room};
@@ -31,6 +34,7 @@ use cfi_processes::registers::SampleMachine;
 use cfi_processes::replay::Replay;
 use cfi_processes::sample_stack::unwind_sample;
 use cfi_programs::lines::{write_refusal, write_text};
+use cfi_programs::style::Format;
 use cfi_step::Modules;
 use gimli_cfi::Error;
 use std::alloc::{AllocError, Global};
@@ -42,6 +46,7 @@ use std::io::Write;
 pub(crate) fn print_folded<W: Write>(
     alloc: Global,
     by_period: bool,
+    choice: &Choice<'_>,
     machine: SampleMachine,
     files: &[ProfileFile<'_>],
     records: &[Record<'_>],
@@ -49,10 +54,10 @@ pub(crate) fn print_folded<W: Write>(
     output: &mut W,
 ) -> io::Result<u8>
     ensures { PrintsSome (λ line. IsFolded by_period machine (map known_view files.now)
-        (map record_view records.now) error line)
+        (choice_view choice.now) (map record_view records.now) error line)
         (W.contents output.old) (W.contents output.new) result }
 {
-    match fold_records(alloc, by_period, machine, files, records) {
+    match fold_records(alloc, by_period, choice, machine, files, records) {
         Ok(counts) => write_counts(alloc, &counts, error, output),
         Err(error) => write_folded_refusal(output, error),
     }
@@ -62,25 +67,29 @@ pub(crate) fn print_folded<W: Write>(
 fn fold_records(
     alloc: Global,
     by_period: bool,
+    choice: &Choice<'_>,
     machine: SampleMachine,
     files: &[ProfileFile<'_>],
     records: &[Record<'_>],
 ) -> Result<StackCounts, FoldedError>
     ensures folded { IfOk result (λ counts. AreFolded by_period machine
-        (map known_view files.now) (map record_view records.now) (counted_in counts)) }
+        (map known_view files.now) (choice_view choice.now) (map record_view records.now)
+        (counted_in counts)) }
     ensures refused { IfErr result (IsUnfolded by_period machine
-        (map known_view files.now) (map record_view records.now)) }
+        (map known_view files.now) (choice_view choice.now) (map record_view records.now)) }
 {
     match Room::new(alloc) {
-        Ok(room) => fold_in(alloc, by_period, room, machine, files, records),
+        Ok(room) => fold_in(alloc, by_period, choice, room, machine, files, records),
         Err(_) => Err(FoldedError::OutOfMemory),
     }
 }
 
-/// Counts the samples of the records in this room.
+/// Counts the samples of the records in this room. Neither a sample that isn't chosen nor one
+/// behind the limit is unwound.
 fn fold_in(
     alloc: Global,
     by_period: bool,
+    choice: &Choice<'_>,
     room: Room,
     machine: SampleMachine,
     files: &[ProfileFile<'_>],
@@ -89,15 +98,24 @@ fn fold_in(
     requires rows { KeepsNoRows room }
     requires frames { HasRoom room.frames.items }
     ensures folded { IfOk result (λ counts. AreFolded by_period machine
-        (map known_view files.now) (map record_view records.now) (counted_in counts)) }
+        (map known_view files.now) (choice_view choice.now) (map record_view records.now)
+        (counted_in counts)) }
     ensures refused { IfErr result (IsUnfolded by_period machine
-        (map known_view files.now) (map record_view records.now)) }
+        (map known_view files.now) (choice_view choice.now) (map record_view records.now)) }
 {
     let mut room = room;
     let mut replay = Replay::new(alloc, files);
     let mut line = Vec::new(alloc);
     let mut counts = StackCounts::new(alloc);
+    let mut left = choice.limit;
     for record in records {
+        if left == Some(0) {
+            return Ok(counts);
+        }
+        if is_left_out(choice, &replay, record) {
+            continue;
+        }
+        left = left_after(left, record);
         match replay.follow(record) {
             Ok(()) => fold_followed(
                 alloc,
@@ -218,7 +236,8 @@ fn write_counts<W: Write>(
     error: Option<PerfError>,
     output: &mut W,
 ) -> io::Result<u8>
-    ensures { PrintsSome (λ line. (line ≡ ended (flat_map line_text (counted_in counts.now)) error)
+    ensures { PrintsSome (λ line.
+        (line ≡ ended Text (flat_map line_text (counted_in counts.now)) error)
         ⊎ (line ≡ out_of_memory)) (W.contents output.old) (W.contents output.new) result }
 {
     let mut text = Vec::new(alloc);
@@ -230,10 +249,11 @@ fn write_counts<W: Write>(
 
 /// Prints the lines of folded stacks, and then the error that ended the records.
 fn write_folded<W: Write>(text: &[u8], error: Option<PerfError>, output: &mut W) -> io::Result<u8>
-    ensures { Prints (ended text.now error) (W.contents output.old) (W.contents output.new) result }
+    ensures { Prints (ended Text text.now error)
+        (W.contents output.old) (W.contents output.new) result }
 {
     write_text(output, text)?;
-    write_end(output, error)
+    write_end(output, Format::Text, error)
 }
 
 /// Prints why there are no folded stacks, and returns the status 1.

@@ -5,23 +5,30 @@
 //! `folding` counts the samples by their folded stacks, whose text `folded_text` makes. `core_run`
 //! prints the stacks of a core file, `core_text` that of a thread (`signals`, `core_frames`), whose
 //! frames `thread_stack` writes; `core_files` has what the files of a core say of its process.
+//! `choice` says which samples are printed. `sample_object` and `core_object` write stacks as
+//! objects of JSON (`object_lines`).
 #![tactic(auto)]
 
+pub mod choice;
 pub mod core_files;
 mod core_frames;
+mod core_object;
 pub mod core_run;
 mod core_text;
 mod folded_text;
 mod folding;
 pub mod listing;
 mod names;
+mod object_lines;
 pub mod reasons;
 pub mod run;
+mod sample_object;
 mod sample_text;
 pub mod signals;
 pub mod stack_lines;
 pub mod thread_stack;
 
+pub use choice::Choice;
 pub use core_run::print_core;
-pub use listing::Listing;
+pub use listing::{Listing, ThreadListing};
 pub use run::{list_profile, unwind_profile};

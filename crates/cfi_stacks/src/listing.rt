@@ -1,11 +1,49 @@
-//! How the stacks of a profile are printed.
+//! How stacks are printed.
+use cfi_programs::style::Format;
 
 /// How the stacks of a profile are printed.
 #[derive(Clone, Copy, Debug)]
 pub enum Listing {
     /// One after the other, with a line for each frame; without functions if true.
     Frames(bool),
+    /// One after the other, an object of JSON in a line for each; without functions if true.
+    Json(bool),
     /// Folded: a line for each different stack, with the number of its samples, or with the sum of
     /// their periods if true. A sample with the period 0 counts 1.
     Folded(bool),
+}
+
+/// How the stacks of a core file are printed, and of which threads.
+#[derive(Clone, Copy, Debug)]
+pub struct ThreadListing {
+    /// Whether functions are left out.
+    pub raw: bool,
+    /// A line for each frame, or an object of JSON in a line for each thread.
+    pub format: Format,
+    /// The number of the only thread that is printed (`pr_pid`); all are where it is `None`.
+    pub thread: Option<u64>,
+}
+
+/// How the stack of a sample is printed.
+#[derive(Clone, Copy, Debug)]
+pub struct StackStyle {
+    /// Whether functions are left out.
+    pub raw: bool,
+    /// A line for each frame, or an object of JSON in a line.
+    pub format: Format,
+}
+
+impl Listing {
+    ghost use Rattle.std.specs.Prelude.{◌≡◌};
+    ghost use Rattle.cfi_stacks.specs.ProfileOutputs.{format_of};
+
+    /// The form of the line that says why there are no more stacks.
+    pub(crate) fn format(self) -> Format
+        ensures { result ≡ format_of self }
+    {
+        match self {
+            Listing::Json(_) => Format::Json,
+            _ => Format::Text,
+        }
+    }
 }

@@ -62,7 +62,7 @@ fn write_shown<W: Write>(output: &mut W, name: &[u8]) -> io::Result<()>
 }
 
 /// What is written of a byte.
-fn shown(byte: u8) -> u8
+pub(crate) fn shown(byte: u8) -> u8
     ensures { result ≡ shown byte }
 {
     if is_printable(byte) { byte } else { b'?' }

@@ -4,7 +4,6 @@ ghost use Rattle.cfi_object.specs.FileParts.{AreLeft};
 ghost use Rattle.cfi_perf.specs.Events.{record_view};
 ghost use Rattle.cfi_perf.specs.Profiles.{profile_view};
 ghost use Rattle.cfi_perf.specs.Records.{records_left};
-ghost use Rattle.cfi_programs.specs.Runs.{out_of_memory};
 ghost use Rattle.cfi_programs.specs.WriterOutput.{Prints, Writes, PrintsSome};
 ghost use Rattle.cfi_processes.specs.KnownFiles.{known_view};
 ghost use Rattle.cfi_processes.specs.OpenedFiles.{opened_view};
@@ -15,14 +14,17 @@ ghost use Rattle.cfi_processes.specs.Wanted.{wanted_view};
 ghost use Rattle.cfi_stacks.specs.ProfileOutputs.{IsOfOpened, IsOfProfile, IsOfWanted};
 ghost use Rattle.cfi_stacks.specs.ProfileOutputs.{IsOfRecords, IsOfSorted};
 ghost use Rattle.cfi_stacks.specs.ProfileOutputs.{IsOutput, IsOwed, IsPrinted, IsSortedOf};
-ghost use Rattle.cfi_stacks.specs.ProfileOutputs.{IsListed, IsListingOwed, IsTextOf, ended};
-ghost use Rattle.cfi_stacks.specs.ProfileOutputs.{known_in};
+ghost use Rattle.cfi_stacks.specs.Choices.{choice_view};
+ghost use Rattle.cfi_stacks.specs.Foldings.{AreTexts};
+ghost use Rattle.cfi_stacks.specs.ProfileOutputs.{IsListed, IsListingOwed, ended, format_of};
+ghost use Rattle.cfi_stacks.specs.ProfileOutputs.{known_in, no_memory};
 ghost use Rattle.cfi_stacks.specs.ProfileOutputs.{perf_refusal};
 ghost use Rattle.cfi_stacks.specs.ProfileOutputs.{unknown_machine};
 ghost use Rattle.cfi_stacks.specs.Rooms.{IsRoomFor, KeepsNoRows};
 
+use crate::choice::{Choice, is_left_out, left_after};
 use crate::folding::print_folded;
-use crate::listing::Listing;
+use crate::listing::{Listing, StackStyle};
 use crate::sample_text::{Room, print_sample};
 use cfi_object::input::{InputError, read_all};
 use cfi_perf::{Event, PerfError, Profile, Record, Records, lacks_stacks, lost_in};
@@ -33,20 +35,24 @@ use cfi_processes::profile_files::{
 use cfi_processes::registers::SampleMachine;
 use cfi_processes::replay::Replay;
 use cfi_processes::wanted::WantedFile;
-use cfi_programs::lines::{write_part, write_refusal, write_text, write_wrong_input};
+use cfi_programs::lines::{write_reason, write_refusal_in, write_refused_name};
+use cfi_programs::style::Format;
 use gimli_cfi::Error;
 use std::alloc::{AllocError, Global};
 use std::io;
 use std::io::{Read, Write};
 
-/// Reads the profile to its end, and prints the stacks of its samples: one after the other, in the
-/// order of their times, or folded.
+/// Reads the profile to its end, and prints the stacks of the samples that are chosen: one after
+/// the other, in the order of their times, or folded. Other samples are neither unwound nor
+/// printed.
 ///
 /// For each sample there is a line with the thread, its name, the processor, the time, the period
 /// and the event, a line for each frame of the kernel and of user space, where there is a reason
 /// for which the last frame isn't the outermost one a line with it, and an empty line. The line of
 /// a frame has its place in a file, the function and the file; if the listing is raw, it has no
 /// function, and none is looked up.
+/// With `Listing::Json` there is a line for each sample instead, an object with the same, and what
+/// is printed below in place of stacks is the member `error` of one (`write_reason`).
 /// Folded stacks are counted (`Listing::Folded`), and their lines, the stack, a space and the
 /// number, are printed in the order of their bytes (`folded_text` says what names become).
 ///
@@ -70,19 +76,25 @@ use std::io::{Read, Write};
 pub fn list_profile<O: Opener, R: Read, W: Write>(
     alloc: Global,
     listing: Listing,
+    choice: &Choice<'_>,
     opener: &O,
     input: &mut R,
     output: &mut W,
 ) -> io::Result<u8>
     ensures { (bytes : List ℕ) × AreLeft (R.remaining input.old) bytes
-        × PrintsSome (λ line. IsListingOwed listing (O.may_open opener.now) O.File.remaining
+        × PrintsSome (λ line. IsListingOwed listing (choice_view choice.now)
+        (O.may_open opener.now) O.File.remaining
         bytes line)
         (W.contents output.old) (W.contents output.new) result }
 {
     match read_all(alloc, input) {
-        Ok(bytes) => print_bytes(alloc, listing, opener, bytes.as_slice(), output),
-        Err(InputError::OutOfMemory) => write_refusal(output, Error::OutOfMemory),
-        Err(_) => write_wrong_input(output),
+        Ok(bytes) => print_bytes(alloc, listing, choice, opener, bytes.as_slice(), output),
+        Err(InputError::OutOfMemory) => write_refusal_in(
+            output,
+            listing.format(),
+            Error::OutOfMemory,
+        ),
+        Err(_) => write_reason(output, listing.format(), "wrong input", 2),
     }
 }
 
@@ -99,24 +111,33 @@ pub fn unwind_profile<O: Opener, R: Read, W: Write>(
         × PrintsSome (λ line. IsOwed raw (O.may_open opener.now) O.File.remaining bytes line)
         (W.contents output.old) (W.contents output.new) result }
 {
-    list_profile(alloc, Listing::Frames(raw), opener, input, output)
+    list_profile(
+        alloc,
+        Listing::Frames(raw),
+        &Choice::all(),
+        opener,
+        input,
+        output,
+    )
 }
 
 /// Prints the stacks of the profile that these bytes are.
 fn print_bytes<O: Opener, W: Write>(
     alloc: Global,
     listing: Listing,
+    choice: &Choice<'_>,
     opener: &O,
     bytes: &[u8],
     output: &mut W,
 ) -> io::Result<u8>
-    ensures { PrintsSome (λ line. IsOutput listing (O.may_open opener.now) O.File.remaining
+    ensures { PrintsSome (λ line. IsOutput listing (choice_view choice.now)
+        (O.may_open opener.now) O.File.remaining
         bytes.now line)
         (W.contents output.old) (W.contents output.new) result }
 {
     match Profile::parse(bytes) {
-        Ok(profile) => print_profile(alloc, listing, opener, &profile, output),
-        Err(error) => write_perf_refusal(output, error),
+        Ok(profile) => print_profile(alloc, listing, choice, opener, &profile, output),
+        Err(error) => write_perf_refusal(output, listing.format(), error),
     }
 }
 
@@ -124,11 +145,13 @@ fn print_bytes<O: Opener, W: Write>(
 fn print_profile<O: Opener, W: Write>(
     alloc: Global,
     listing: Listing,
+    choice: &Choice<'_>,
     opener: &O,
     profile: &Profile<'_>,
     output: &mut W,
 ) -> io::Result<u8>
-    ensures { PrintsSome (λ line. IsOfProfile listing (O.may_open opener.now) O.File.remaining
+    ensures { PrintsSome (λ line. IsOfProfile listing (choice_view choice.now)
+        (O.may_open opener.now) O.File.remaining
         (Ok (profile_view profile.now)) line)
         (W.contents output.old) (W.contents output.new) result }
 {
@@ -137,15 +160,16 @@ fn print_profile<O: Opener, W: Write>(
             Some(machine) => print_records(
                 alloc,
                 listing,
+                choice,
                 opener,
                 machine,
                 profile.records(),
                 output,
             ),
-            None => write_unknown_machine(output),
+            None => write_unknown_machine(output, listing.format()),
         },
-        Ok(None) => write_unknown_machine(output),
-        Err(error) => write_perf_refusal(output, error),
+        Ok(None) => write_unknown_machine(output, listing.format()),
+        Err(error) => write_perf_refusal(output, listing.format(), error),
     }
 }
 
@@ -153,12 +177,14 @@ fn print_profile<O: Opener, W: Write>(
 fn print_records<O: Opener, W: Write>(
     alloc: Global,
     listing: Listing,
+    choice: &Choice<'_>,
     opener: &O,
     machine: SampleMachine,
     records: Records<'_>,
     output: &mut W,
 ) -> io::Result<u8>
-    ensures { PrintsSome (λ line. IsOfRecords listing (O.may_open opener.now) O.File.remaining
+    ensures { PrintsSome (λ line. IsOfRecords listing (choice_view choice.now)
+        (O.may_open opener.now) O.File.remaining
         machine (records_left records.entry) line)
         (W.contents output.old) (W.contents output.new) result }
 {
@@ -166,13 +192,14 @@ fn print_records<O: Opener, W: Write>(
         Ok(found) => print_sorted(
             alloc,
             listing,
+            choice,
             opener,
             machine,
             found.list.as_slice(),
             found.error,
             output,
         ),
-        Err(_) => write_refusal(output, Error::OutOfMemory),
+        Err(_) => write_refusal_in(output, listing.format(), Error::OutOfMemory),
     }
 }
 
@@ -226,20 +253,24 @@ fn read_records<'run>(
 fn print_sorted<O: Opener, W: Write>(
     alloc: Global,
     listing: Listing,
+    choice: &Choice<'_>,
     opener: &O,
     machine: SampleMachine,
     records: &[Record<'_>],
     error: Option<PerfError>,
     output: &mut W,
 ) -> io::Result<u8>
-    ensures { PrintsSome (λ line. IsOfSorted listing (O.may_open opener.now) O.File.remaining
-        machine (map record_view records.now) error line ⊎ (line ≡ out_of_memory))
+    ensures { PrintsSome (λ line. IsOfSorted listing (choice_view choice.now)
+        (O.may_open opener.now) O.File.remaining
+        machine (map record_view records.now) error line ⊎ (line ≡ no_memory (format_of listing)))
         (W.contents output.old) (W.contents output.new) result }
 {
     if lacks_stacks(records) {
         opener.tell_without_stacks();
     }
-    let printed = print_mapped(alloc, listing, opener, machine, records, error, output);
+    let printed = print_mapped(
+        alloc, listing, choice, opener, machine, records, error, output,
+    );
     let lost = lost_in(records);
     if lost.records != 0 || lost.samples != 0 {
         opener.tell_lost(lost.records, lost.samples);
@@ -251,14 +282,16 @@ fn print_sorted<O: Opener, W: Write>(
 fn print_mapped<O: Opener, W: Write>(
     alloc: Global,
     listing: Listing,
+    choice: &Choice<'_>,
     opener: &O,
     machine: SampleMachine,
     records: &[Record<'_>],
     error: Option<PerfError>,
     output: &mut W,
 ) -> io::Result<u8>
-    ensures { PrintsSome (λ line. IsOfSorted listing (O.may_open opener.now) O.File.remaining
-        machine (map record_view records.now) error line ⊎ (line ≡ out_of_memory))
+    ensures { PrintsSome (λ line. IsOfSorted listing (choice_view choice.now)
+        (O.may_open opener.now) O.File.remaining
+        machine (map record_view records.now) error line ⊎ (line ≡ no_memory (format_of listing)))
         (W.contents output.old) (W.contents output.new) result }
 {
     match mapped_files(alloc, records) {
@@ -266,6 +299,7 @@ fn print_mapped<O: Opener, W: Write>(
             print_wanted(
                 alloc,
                 listing,
+                choice,
                 opener,
                 machine,
                 wanted.as_slice(),
@@ -274,7 +308,7 @@ fn print_mapped<O: Opener, W: Write>(
                 output,
             )
         }
-        Err(_) => write_refusal(output, Error::OutOfMemory),
+        Err(_) => write_refusal_in(output, listing.format(), Error::OutOfMemory),
     }
 }
 
@@ -282,6 +316,7 @@ fn print_mapped<O: Opener, W: Write>(
 fn print_wanted<O: Opener, W: Write>(
     alloc: Global,
     listing: Listing,
+    choice: &Choice<'_>,
     opener: &O,
     machine: SampleMachine,
     wanted: &[WantedFile<'_>],
@@ -289,22 +324,24 @@ fn print_wanted<O: Opener, W: Write>(
     error: Option<PerfError>,
     output: &mut W,
 ) -> io::Result<u8>
-    ensures { PrintsSome (λ line. IsOfWanted listing (O.may_open opener.now) O.File.remaining
+    ensures { PrintsSome (λ line. IsOfWanted listing (choice_view choice.now)
+        (O.may_open opener.now) O.File.remaining
         machine (map wanted_view wanted.now) (map record_view records.now) error line
-        ⊎ (line ≡ out_of_memory))
+        ⊎ (line ≡ no_memory (format_of listing)))
         (W.contents output.old) (W.contents output.new) result }
 {
     match read_files(alloc, opener, wanted) {
         Ok(opened) => print_opened(
             alloc,
             listing,
+            choice,
             machine,
             opened.as_slice(),
             records,
             error,
             output,
         ),
-        Err(_) => write_refusal(output, Error::OutOfMemory),
+        Err(_) => write_refusal_in(output, listing.format(), Error::OutOfMemory),
     }
 }
 
@@ -312,27 +349,30 @@ fn print_wanted<O: Opener, W: Write>(
 fn print_opened<W: Write>(
     alloc: Global,
     listing: Listing,
+    choice: &Choice<'_>,
     machine: SampleMachine,
     opened: &[OpenedFile<'_>],
     records: &[Record<'_>],
     error: Option<PerfError>,
     output: &mut W,
 ) -> io::Result<u8>
-    ensures { PrintsSome (λ line. IsOfOpened listing machine (map opened_view opened.now)
-        (map record_view records.now) error line ⊎ (line ≡ out_of_memory))
+    ensures { PrintsSome (λ line. IsOfOpened listing (choice_view choice.now) machine
+        (map opened_view opened.now) (map record_view records.now) error line
+        ⊎ (line ≡ no_memory (format_of listing)))
         (W.contents output.old) (W.contents output.new) result }
 {
     match profile_files(alloc, opened) {
         Ok(files) => print_listing(
             alloc,
             listing,
+            choice,
             machine,
             files.as_slice(),
             records,
             error,
             output,
         ),
-        Err(_) => write_refusal(output, Error::OutOfMemory),
+        Err(_) => write_refusal_in(output, listing.format(), Error::OutOfMemory),
     }
 }
 
@@ -340,20 +380,27 @@ fn print_opened<W: Write>(
 fn print_listing<W: Write>(
     alloc: Global,
     listing: Listing,
+    choice: &Choice<'_>,
     machine: SampleMachine,
     files: &[ProfileFile<'_>],
     records: &[Record<'_>],
     error: Option<PerfError>,
     output: &mut W,
 ) -> io::Result<u8>
-    ensures { PrintsSome (λ line. IsListed listing machine (map known_view files.now)
-        (map record_view records.now) error line)
+    ensures { PrintsSome (λ line. IsListed listing (choice_view choice.now) machine
+        (map known_view files.now) (map record_view records.now) error line)
         (W.contents output.old) (W.contents output.new) result }
 {
+    let format = listing.format();
     match listing {
-        Listing::Frames(raw) => print_stacks(alloc, raw, machine, files, records, error, output),
+        Listing::Frames(raw) | Listing::Json(raw) => {
+            let style = StackStyle { raw, format };
+            print_stacks(alloc, style, choice, machine, files, records, error, output)
+        }
         Listing::Folded(by_period) => {
-            print_folded(alloc, by_period, machine, files, records, error, output)
+            print_folded(
+                alloc, by_period, choice, machine, files, records, error, output,
+            )
         }
     }
 }
@@ -361,27 +408,32 @@ fn print_listing<W: Write>(
 /// Prints the stacks of the records, by the files, and then the error that ended the records.
 fn print_stacks<W: Write>(
     alloc: Global,
-    raw: bool,
+    style: StackStyle,
+    choice: &Choice<'_>,
     machine: SampleMachine,
     files: &[ProfileFile<'_>],
     records: &[Record<'_>],
     error: Option<PerfError>,
     output: &mut W,
 ) -> io::Result<u8>
-    ensures { PrintsSome (λ line. IsPrinted raw machine (map known_view files.now)
-        (map record_view records.now) error line)
+    ensures { PrintsSome (λ line. IsPrinted style machine (map known_view files.now)
+        (choice_view choice.now) (map record_view records.now) error line)
         (W.contents output.old) (W.contents output.new) result }
 {
     match Room::new(alloc) {
-        Ok(room) => print_in(alloc, raw, room, machine, files, records, error, output),
-        Err(_) => write_refusal(output, Error::OutOfMemory),
+        Ok(room) => print_in(
+            alloc, style, choice, room, machine, files, records, error, output,
+        ),
+        Err(_) => write_refusal_in(output, style.format, Error::OutOfMemory),
     }
 }
 
 /// Prints the stacks of the records in this room, and then the error that ended the records.
+/// Neither a sample that isn't chosen nor one behind the limit is unwound.
 fn print_in<W: Write>(
     alloc: Global,
-    raw: bool,
+    style: StackStyle,
+    choice: &Choice<'_>,
     room: Room,
     machine: SampleMachine,
     files: &[ProfileFile<'_>],
@@ -391,24 +443,32 @@ fn print_in<W: Write>(
 ) -> io::Result<u8>
     requires rows { KeepsNoRows room }
     requires frames { HasRoom room.frames.items }
-    ensures { PrintsSome (λ line. IsPrinted raw machine (map known_view files.now)
-        (map record_view records.now) error line)
+    ensures { PrintsSome (λ line. IsPrinted style machine (map known_view files.now)
+        (choice_view choice.now) (map record_view records.now) error line)
         (W.contents output.old) (W.contents output.new) result }
 {
     let mut room = room;
     let mut replay = Replay::new(alloc, files);
+    let mut left = choice.limit;
     for record in records {
+        if left == Some(0) {
+            return write_end(output, style.format, error);
+        }
+        if is_left_out(choice, &replay, record) {
+            continue;
+        }
+        left = left_after(left, record);
         match replay.follow(record) {
-            Ok(()) => print_followed(raw, machine, &replay, record, &mut room, output)?,
-            Err(_) => return write_refusal(output, Error::OutOfMemory),
+            Ok(()) => print_followed(style, machine, &replay, record, &mut room, output)?,
+            Err(_) => return write_refusal_in(output, style.format, Error::OutOfMemory),
         }
     }
-    write_end(output, error)
+    write_end(output, style.format, error)
 }
 
 /// Prints the stack of a record that was followed last, if it is a sample.
 fn print_followed<W: Write>(
-    raw: bool,
+    style: StackStyle,
     machine: SampleMachine,
     replay: &Replay<'_, '_, '_>,
     item: &Record<'_>,
@@ -420,7 +480,7 @@ fn print_followed<W: Write>(
     requires cached { IsRoomFor (files_of replay.now) room.old }
     ensures printed { (text : List ℕ)
         × Writes (W.contents output.old) (W.contents output.new) result text
-        × IsTextOf raw machine (files_in replay.now) (known_in replay.now) item.now.time
+        × AreTexts style machine (files_in replay.now) (known_in replay.now) item.now.time
         (record_view item.now).event text }
     ensures cached { IsRoomFor (files_of replay.now) room.new }
 {
@@ -429,7 +489,7 @@ fn print_followed<W: Write>(
             let kernel = replay.code(KERNEL);
             let code = replay.code(sample.pid);
             print_sample(
-                raw,
+                style,
                 machine,
                 &kernel,
                 &code,
@@ -446,28 +506,32 @@ fn print_followed<W: Write>(
 }
 
 /// Prints the error that ended the records, if there is one, and returns the status.
-pub(crate) fn write_end<W: Write>(output: &mut W, error: Option<PerfError>) -> io::Result<u8>
-    ensures { Prints (ended [] error) (W.contents output.old) (W.contents output.new) result }
+pub(crate) fn write_end<W: Write>(
+    output: &mut W,
+    format: Format,
+    error: Option<PerfError>,
+) -> io::Result<u8>
+    ensures { Prints (ended format [] error)
+        (W.contents output.old) (W.contents output.new) result }
 {
     match error {
         None => Ok(0),
-        Some(error) => write_perf_refusal(output, error),
+        Some(error) => write_perf_refusal(output, format, error),
     }
 }
 
-/// Prints `refused` and the name of the error, and returns the status 1.
-fn write_perf_refusal<W: Write>(output: &mut W, error: PerfError) -> io::Result<u8>
-    ensures { Prints (perf_refusal error) (W.contents output.old) (W.contents output.new) result }
+/// Prints the name of the error, and returns the status 1.
+fn write_perf_refusal<W: Write>(output: &mut W, format: Format, error: PerfError) -> io::Result<u8>
+    ensures { Prints (perf_refusal format error)
+        (W.contents output.old) (W.contents output.new) result }
 {
-    let name = error.name();
-    write_part(output, format_args!("refused {name}\n"))?;
-    Ok(1)
+    write_refused_name(output, format, error.name())
 }
 
 /// Prints that the registers of the profile's machine aren't known, and returns the status 1.
-fn write_unknown_machine<W: Write>(output: &mut W) -> io::Result<u8>
-    ensures { Prints unknown_machine (W.contents output.old) (W.contents output.new) result }
+fn write_unknown_machine<W: Write>(output: &mut W, format: Format) -> io::Result<u8>
+    ensures { Prints (unknown_machine format)
+        (W.contents output.old) (W.contents output.new) result }
 {
-    write_text(output, b"unknown machine\n")?;
-    Ok(1)
+    write_reason(output, format, "unknown machine", 1)
 }

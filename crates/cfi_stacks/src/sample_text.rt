@@ -11,11 +11,14 @@ ghost use Rattle.cfi_processes.specs.Mappings.{AreInOrder};
 ghost use Rattle.cfi_processes.specs.Modules.{module_view};
 ghost use Rattle.cfi_processes.specs.ThreadNames.{bytes_of};
 ghost use Rattle.cfi_stacks.specs.ProfileOutputs.{IsStackText, chain_text, frames_text};
-ghost use Rattle.cfi_stacks.specs.ProfileOutputs.{sample_text, stack_text, user_text, walk_text};
+ghost use Rattle.cfi_stacks.specs.ProfileOutputs.{sample_in, sample_text, stack_text, user_text};
+ghost use Rattle.cfi_stacks.specs.ProfileOutputs.{walk_text};
 ghost use Rattle.cfi_stacks.specs.Rooms.{IsRoomFor};
 ghost use Rattle.cfi_stacks.specs.StackTexts.{site_line};
 
+use crate::listing::StackStyle;
 use crate::reasons::{reason_of, reason_without, write_reason};
+use crate::sample_object::write_sample_object;
 use crate::stack_lines::{LineRoom, write_head, write_site_line};
 use cfi_perf::{Addresses, Sample};
 use cfi_processes::Name;
@@ -23,6 +26,7 @@ use cfi_processes::process_code::{FileModule, ProcessCode};
 use cfi_processes::registers::SampleMachine;
 use cfi_processes::sample_stack::{NoFrames, unwind_sample};
 use cfi_programs::lines::write_text;
+use cfi_programs::style::Format;
 use cfi_step::{CachedRow, Modules, StackFrame, Walk, row_address};
 use gimli_cfi::{Error, UnwindContext};
 use std::alloc::{AllocError, Global};
@@ -99,13 +103,14 @@ fn empty_rows(alloc: Global) -> Result<Vec<CachedRow>, AllocError>
 /// the kernel and of user space, the reason why there are no more if the last one isn't the
 /// outermost, and an empty line.
 ///
-/// If it is `raw`, the lines have no functions. `kernel` is what is mapped as code of the kernel
+/// By the style it is an object of JSON in a line instead (`sample_object`), and has no functions.
+/// `kernel` is what is mapped as code of the kernel
 /// (`KERNEL`). The frames of user space are those of the call chain where the sample's event copies
 /// no stacks. The modules are those of what is mapped. The rows
 /// that the room keeps are those of the files, in whichever process they were found. There is room
 /// for `FRAMES` frames. Does not allocate.
 pub fn print_sample<W: Write>(
-    raw: bool,
+    style: StackStyle,
     machine: SampleMachine,
     kernel: &ProcessCode<'_, '_, '_>,
     code: &ProcessCode<'_, '_, '_>,
@@ -124,7 +129,7 @@ pub fn print_sample<W: Write>(
     requires cached { IsRoomFor code.now.files.now room.old }
     ensures printed { (text : List ℕ)
         × Writes (W.contents output.old) (W.contents output.new) result text
-        × IsStackText raw machine (map known_view code.now.files.now)
+        × IsStackText style machine (map known_view code.now.files.now)
         (kernel_site (map known_view kernel.now.files.now) kernel.now.mappings.now)
         code.now.mappings.now (bytes_of name.entry) time (sample_view sample.now) text }
     ensures cached { IsRoomFor code.now.files.now room.new }
@@ -147,7 +152,7 @@ pub fn print_sample<W: Write>(
         frames,
     );
     print_found(
-        raw,
+        style,
         kernel,
         code,
         name,
@@ -162,6 +167,39 @@ pub fn print_sample<W: Write>(
 
 /// Prints what was found of a sample's stack.
 fn print_found<W: Write>(
+    style: StackStyle,
+    kernel: &ProcessCode<'_, '_, '_>,
+    code: &ProcessCode<'_, '_, '_>,
+    name: Option<Name<'_>>,
+    time: u64,
+    sample: &Sample<'_>,
+    found: Result<Walk, NoFrames>,
+    frames: &[StackFrame],
+    room: &mut LineRoom,
+    output: &mut W,
+) -> io::Result<()>
+    requires kernel { AreInOrder 0 kernel.now.mappings.now }
+    requires order { AreInOrder 0 code.now.mappings.now }
+    requires count { IfOk found (λ walk. walk.count ≤ length frames.now) }
+    ensures { Writes (W.contents output.old) (W.contents output.new) result
+        (sample_in style
+        (kernel_site (map known_view kernel.now.files.now) kernel.now.mappings.now)
+        (map known_view code.now.files.now) code.now.mappings.now
+        (bytes_of name.entry) time (sample_view sample.now) found frames.now) }
+{
+    let raw = style.raw;
+    match style.format {
+        Format::Text => print_lines(
+            raw, kernel, code, name, time, sample, found, frames, room, output,
+        ),
+        Format::Json => write_sample_object(
+            output, raw, kernel, code, name, time, sample, found, frames,
+        ),
+    }
+}
+
+/// Prints what was found of a sample's stack as lines.
+fn print_lines<W: Write>(
     raw: bool,
     kernel: &ProcessCode<'_, '_, '_>,
     code: &ProcessCode<'_, '_, '_>,

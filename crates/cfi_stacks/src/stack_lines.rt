@@ -173,7 +173,7 @@ fn write_thread_name<W: Write>(output: &mut W, tid: u32, name: Option<Name<'_>>)
 }
 
 /// Writes what stands in place of a name that isn't known.
-fn write_without_name<W: Write>(output: &mut W, tid: u32) -> io::Result<()>
+pub(crate) fn write_without_name<W: Write>(output: &mut W, tid: u32) -> io::Result<()>
     ensures { Writes (W.contents output.old) (W.contents output.new) result
         (name_text tid None) }
 {
@@ -302,7 +302,7 @@ fn push_seconds(text: &mut Text, time: u64) -> fmt::Result
 
 /// Appends a text behind as much of the fill as makes it as long. Fails where there is no room.
 #[inline(always)]
-fn push_filled(text: &mut Text, fill: &[u8], shown: &[u8]) -> fmt::Result
+pub(crate) fn push_filled(text: &mut Text, fill: &[u8], shown: &[u8]) -> fmt::Result
     ensures { OnOk result (text.new.items ≡ text.old.items ++ filled fill.now shown.now) }
 {
     push(text, &fill[..fill.len().saturating_sub(shown.len())])?;

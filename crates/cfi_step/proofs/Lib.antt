@@ -7,3 +7,4 @@ pub mod WorkedModules
 pub mod KeptRows
 pub mod Walking
 pub mod PackedKeeps
+pub mod LesserWalks

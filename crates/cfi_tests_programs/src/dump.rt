@@ -117,7 +117,7 @@ const INSTRUCTIONS_PRINTED: &str = "cie 0x0 length=90 version=4 size=8 code=1 da
   DW_CFA_def_cfa_register register=r6
   DW_CFA_def_cfa_offset offset=16
   DW_CFA_def_cfa_offset_sf factored_offset=-2
-  DW_CFA_def_cfa_expression expression=expr@49:1
+  DW_CFA_def_cfa_expression expression=expr(DW_OP_call_frame_cfa)
   DW_CFA_undefined register=r3
   DW_CFA_same_value register=r4
   DW_CFA_offset register=r6 factored_offset=2
@@ -127,8 +127,8 @@ const INSTRUCTIONS_PRINTED: &str = "cie 0x0 length=90 version=4 size=8 code=1 da
   DW_CFA_val_offset register=r5 factored_offset=5
   DW_CFA_val_offset_sf register=r5 factored_offset=-6
   DW_CFA_register dest_register=r5 src_register=r6
-  DW_CFA_expression register=r5 expression=expr@77:2
-  DW_CFA_val_expression register=r5 expression=expr@82:1
+  DW_CFA_expression register=r5 expression=expr(DW_OP_breg7 r7+0)
+  DW_CFA_val_expression register=r5 expression=expr(DW_OP_nop)
   DW_CFA_restore register=r6
   DW_CFA_restore register=r33
   DW_CFA_remember_state
@@ -232,12 +232,13 @@ fn entries_that_are_refused(rt: HostRuntime) -> Result<(), Fail> {
     prints(&rt, &eh_frame(), "04000000 04000000", no_cie)
 }
 
-/// Addresses, and the rows of the FDEs that contain them; of all FDEs, where there is no address.
-const ADDRESSES: [(Option<u64>, &str); 4] = [
+/// Addresses, and the rows of the FDEs that contain one of them; of all FDEs, where none are given.
+const ADDRESSES: [(Option<&[u64]>, &str); 5] = [
     (None, THREE_ROWS_ALONE),
-    (Some(0x1000), THREE_ROWS_ALONE),
-    (Some(0x101f), THREE_ROWS_ALONE),
-    (Some(0x1020), ""),
+    (Some(&[0x1000]), THREE_ROWS_ALONE),
+    (Some(&[0x1020, 0x101f]), THREE_ROWS_ALONE),
+    (Some(&[0x1020]), ""),
+    (Some(&[]), ""),
 ];
 
 /// Lines of text, with registers by number.
@@ -251,7 +252,7 @@ fn prints_rows(
     rt: &(impl Abort + AllocGlobal),
     style: Style,
     digits: &str,
-    address: Option<u64>,
+    addresses: Option<&[u64]>,
     functions: &FunctionNames<'_>,
     text: &str,
 ) -> Result<(), Fail> {
@@ -259,7 +260,7 @@ fn prints_rows(
     let source = debug_frame().source(bytes.as_slice(), &[]);
     let Style { names, format } = style;
     let asked = AskedRows {
-        address,
+        addresses,
         functions,
         format,
     };
@@ -272,8 +273,8 @@ fn prints_rows(
 #[test]
 fn rows_of_fdes(rt: HostRuntime) -> Result<(), Fail> {
     let functions = FunctionNames::none(rt.alloc());
-    for (address, text) in &ADDRESSES {
-        prints_rows(&rt, PLAIN, THREE_ROWS, *address, &functions, text)?;
+    for (addresses, text) in &ADDRESSES {
+        prints_rows(&rt, PLAIN, THREE_ROWS, *addresses, &functions, text)?;
     }
     Ok(())
 }
@@ -301,6 +302,39 @@ const THREE_ROWS_JSON: &str = "{\"fde\":{\"start\":\"0x1000\",\"end\":\"0x1020\"
 {\"start\":\"0x1004\",\"end\":\"0x1020\",\"cfa\":\"r6+16\",\"args\":0,\"rules\":{\"r6\":\"offset(-16)\",\
 \"r16\":\"offset(-8)\"}}
 ";
+
+/// The procedure linkage table of a program for x86-64, whose CFA readelf -wf has as
+/// `DW_OP_breg7 (rsp): 8; DW_OP_breg16 (rip): 0; DW_OP_lit15; DW_OP_and; DW_OP_lit11; DW_OP_ge;
+/// DW_OP_lit3; DW_OP_shl; DW_OP_plus`; then two registers with expressions, the second of which has
+/// an operation of no table.
+const EXPRESSIONS: &str = "10000000 ffffffff 04000800 017810 0c0708 9001 \
+    2c000000 00000000 0010000000000000 2000000000000000 \
+    0f0b 770880003f1a3b2a332422 1603 0209ff 1006 0306e001";
+
+const EXPRESSIONS_NAMED: &str = "fde 0x1000 0x1020
+0x1000 0x1020 cfa=expr(DW_OP_breg7 rsp+8, DW_OP_breg16 ra+0, DW_OP_lit15, DW_OP_and, DW_OP_lit11, DW_OP_ge, \
+DW_OP_lit3, DW_OP_shl, DW_OP_plus) args=0 rbx=val_expr(DW_OP_const1s -1) \
+rbp=expr(DW_OP_deref, DW_OP_0xe0 0x01) ra=offset(-8)
+";
+
+const EXPRESSIONS_JSON: &str = "{\"fde\":{\"start\":\"0x1000\",\"end\":\"0x1020\"}}
+{\"start\":\"0x1000\",\"end\":\"0x1020\",\"cfa\":\"expr(DW_OP_breg7 r7+8, DW_OP_breg16 r16+0, DW_OP_lit15, \
+DW_OP_and, DW_OP_lit11, DW_OP_ge, DW_OP_lit3, DW_OP_shl, DW_OP_plus)\",\
+\"cfa_bytes\":\"770880003f1a3b2a332422\",\"args\":0,\"rules\":{\
+\"r3\":\"val_expr(DW_OP_const1s -1)\",\"r6\":\"expr(DW_OP_deref, DW_OP_0xe0 0x01)\",\
+\"r16\":\"offset(-8)\"},\"rules_bytes\":{\"r3\":\"09ff\",\"r6\":\"06e001\"}}
+";
+
+#[test]
+fn rows_with_expressions(rt: HostRuntime) -> Result<(), Fail> {
+    let functions = FunctionNames::none(rt.alloc());
+    let names = RegisterNames::X86_64;
+    let named = Style { names, ..PLAIN };
+    prints_rows(&rt, named, EXPRESSIONS, None, &functions, EXPRESSIONS_NAMED)?;
+    let format = Format::Json;
+    let json = Style { format, ..PLAIN };
+    prints_rows(&rt, json, EXPRESSIONS, None, &functions, EXPRESSIONS_JSON)
+}
 
 /// A state that was never remembered is restored, and the argument size is 2^53.
 const REFUSED_IN_JSON: &str = "10000000 ffffffff 04000800 017810 0c0708 9001 \

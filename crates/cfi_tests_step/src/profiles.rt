@@ -1,6 +1,6 @@
 //! A small profile in both byte orders, of a program, a mapped file and a sample, and each error.
 //! The expected values are what `perf script -D` prints of the two.
-use cfi_perf::{Event, PerfError, Profile, Record, Sample};
+use cfi_perf::{Event, PerfError, Profile, Record, RecordWalk, Sample};
 use cfi_tests_bytes::bytes_of;
 use std::alloc::Global;
 use std::process::Abort;
@@ -93,6 +93,26 @@ fn lines(bytes: &[u8]) -> Result<[Option<Line>; 4], PerfError> {
     ])
 }
 
+/// The next record, by a window that ends with the records.
+fn next_line_in(walk: &mut RecordWalk<'_>, bytes: &[u8]) -> Result<Option<Line>, PerfError> {
+    let left = bytes.get(walk.place() as usize..).unwrap_or_default();
+    let window = left.get(..walk.left() as usize).unwrap_or_default();
+    match walk.next(window)? {
+        Some(record) => Ok(Some(line(&record))),
+        None => Ok(None),
+    }
+}
+
+fn lines_by_windows(bytes: &[u8]) -> Result<[Option<Line>; 4], PerfError> {
+    let mut walk = Profile::parse(bytes)?.walk();
+    Ok([
+        next_line_in(&mut walk, bytes)?,
+        next_line_in(&mut walk, bytes)?,
+        next_line_in(&mut walk, bytes)?,
+        next_line_in(&mut walk, bytes)?,
+    ])
+}
+
 /// The registers AX, BX, SP and IP of a sample.
 fn registers(sample: &Sample<'_>) -> [Option<u64>; 4] {
     match sample.user.registers {
@@ -122,7 +142,10 @@ const REGISTERS: [Option<u64>; 4] = [Some(0x11), None, Some(0x7ffe), Some(0x40_0
 fn check_whole(rt: &(impl Abort + AllocGlobal), text: &str) -> Result<(), Fail> {
     let bytes = changed(rt.alloc(), text, &[])?;
     let bytes = bytes.as_slice();
-    assert_eq!(rt; (lines(bytes), sampled(bytes)), (Ok(LINES), Ok(REGISTERS)));
+    assert_eq!(rt;
+        (lines(bytes), lines_by_windows(bytes), sampled(bytes)),
+        (Ok(LINES), Ok(LINES), Ok(REGISTERS))
+    );
     let architecture = Profile::parse(bytes)?.architecture()?;
     assert_eq!(rt; architecture, Some(b"x86_64".as_slice()));
     Ok(())
@@ -245,10 +268,16 @@ fn cut_records(rt: HostRuntime) -> Result<(), Fail> {
     let cut = bytes.as_slice().get(..SAMPLE + 48).unwrap_or_default();
     let profile = Profile::parse(cut)?;
     assert_eq!(rt;
-        (profile.is_cut(), profile.architecture(), lines(cut)),
+        (
+            profile.is_cut(),
+            profile.architecture(),
+            lines(cut),
+            lines_by_windows(cut)
+        ),
         (
             true,
             Ok(Some(b"x86_64".as_slice())),
+            Err(PerfError::DataOutOfBounds),
             Err(PerfError::DataOutOfBounds)
         )
     );

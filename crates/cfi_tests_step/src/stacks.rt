@@ -4,10 +4,10 @@
 //! `-F comm,pid,tid,cpu,time,period,event,ip,sym,symoff,dso`, but for those
 //! that begin with `#`, and that perf leaves spaces before names of events and behind them, and
 //! appends `:HG` to the event of the first profile, which has no names.
-ghost use Rattle.std.specs.Prelude.{⊤};
+ghost use Rattle.std.specs.Prelude.{⊤, refl};
 
 use cfi_processes::Opener;
-use cfi_stacks::unwind_profile;
+use cfi_stacks::{Choice, Listing, list_profile, unwind_profile};
 use cfi_tests_bytes::bytes_of;
 use std::process::Abort;
 use std::test::Fail;
@@ -86,6 +86,50 @@ const RAW: &str = ":7     7/7         1.000001:          1 cpu-clock:
 \t            8fff ([unknown])
 # no file with call frames is mapped here (NoModule)
 
+";
+
+/// The second sample alone.
+const SECOND: &str = ":8     7/8         1.000002:          1 cpu-clock:
+\t              b4 pushes+0x4 (/usr/pushes)
+\t              b4 pushes+0x4 (/usr/pushes)
+\t            8fff [unknown] ([unknown])
+# no file with call frames is mapped here (NoModule)
+
+";
+
+/// The first sample alone.
+const FIRST: &str = ":7     7/7         1.000001:          1 cpu-clock:
+# the sample has no registers of user space (NoRegisters)
+
+";
+
+/// Both as objects of JSON, by the form that docs/PROGRAMS.md has.
+const OBJECTS: &str = "\
+    {\"comm\":\":7\",\"pid\":7,\"tid\":7,\"time\":\"1.000001999\",\"period\":1,\"event\":\"cpu-clock\",\
+    \"frames\":[],\"end\":\"NoRegisters\"}
+{\"comm\":\":8\",\"pid\":7,\"tid\":8,\"time\":\"1.000002000\",\"period\":1,\"event\":\"cpu-clock\",\
+    \"frames\":[{\"place\":\"0xb4\",\"function\":\"pushes\",\"offset\":4,\"file\":\"/usr/pushes\"},\
+    {\"place\":\"0xb4\",\"function\":\"pushes\",\"offset\":4,\"file\":\"/usr/pushes\"},\
+    {\"place\":\"0x8fff\"}],\"end\":\"NoModule\"}
+";
+
+/// The first two samples of the two events, without functions.
+const OBJECTS_OF_TWO_EVENTS: &str = "\
+    {\"comm\":\"verylongprogram\",\"pid\":17261,\"tid\":17261,\"cpu\":2,\
+    \"time\":\"2384.958796901\",\"period\":3,\"event\":\"page-faults\",\
+    \"frames\":[{\"place\":\"0x7f6ee8efeb70\"}]}
+{\"comm\":\"verylongprogram\",\"pid\":17261,\"tid\":17261,\"cpu\":2,\
+    \"time\":\"2384.958948529\",\"period\":250000,\
+    \"event\":\"cpu-clock/call-graph=dwarf,stack-size=8/\",\
+    \"frames\":[{\"place\":\"0xffffffff816ec0e8\",\"kernel\":true},\
+    {\"place\":\"0xffffffff816ecf3e\",\"kernel\":true},\
+    {\"place\":\"0xffffffff816eeb96\",\"kernel\":true},\
+    {\"place\":\"0xffffffff816eff16\",\"kernel\":true},\
+    {\"place\":\"0xffffffff816d24f8\",\"kernel\":true},\
+    {\"place\":\"0xffffffff816d29cd\",\"kernel\":true},\
+    {\"place\":\"0xffffffff8225aa01\",\"kernel\":true},\
+    {\"place\":\"0xffffffff81000130\",\"kernel\":true},\
+    {\"place\":\"0x7f6ee8f04b1d\"}],\"end\":\"NoModule\"}
 ";
 
 /// Of `perf record -e cpu-clock/call-graph=dwarf,stack-size=8/ -e page-faults --sample-cpu`: the
@@ -209,11 +253,21 @@ impl<'a> Opener for OneFile<'a> {
         None
     }
 
+    fn open_kernel_symbols(&self) -> Option<&'a [u8]> {
+        None
+    }
+
+    fn open_code_map(&self, _process: u32) -> Option<&'a [u8]> {
+        None
+    }
+
     fn tell_missing(&self, _name: &[u8]) {}
 
     fn tell_without_stacks(&self) {}
 
     fn tell_lost(&self, _records: u64, _samples: u64) {}
+
+    ghost same_bytes = { λ _. refl };
 }
 
 /// Compares what is printed of a profile, where the file has this name, and the status.
@@ -269,4 +323,112 @@ fn two_events(rt: HostRuntime) -> Result<(), Fail> {
     )?;
     let cut = profile.as_slice().get(..930).unwrap_or_default();
     prints(&rt, false, cut, b"/usr/pushes", CUT, 1)
+}
+
+/// Compares what is listed of a profile whose file is there, and the status.
+fn lists(
+    rt: &(impl Abort + AllocGlobal),
+    listing: Listing,
+    choice: &Choice<'_>,
+    profile: &[u8],
+    text: &str,
+    status: u8,
+) -> Result<(), Fail> {
+    let bytes = bytes_of(rt.alloc(), FILE)?;
+    let opener = OneFile {
+        name: b"/usr/pushes",
+        bytes: bytes.as_slice(),
+    };
+    let mut output = Vec::new(rt.alloc());
+    let input = &mut &*profile;
+    let printed = list_profile(rt.alloc(), listing, choice, &opener, input, &mut output)?;
+    assert_eq!(rt;
+        (str::from_utf8(output.as_slice()), printed),
+        (Ok(text), status)
+    );
+    Ok(())
+}
+
+#[test]
+fn objects(rt: HostRuntime) -> Result<(), Fail> {
+    let profile = bytes_of(rt.alloc(), PROFILE)?;
+    let all = Choice::all();
+    lists(
+        &rt,
+        Listing::Json(false),
+        &all,
+        profile.as_slice(),
+        OBJECTS,
+        0,
+    )?;
+    let two = Choice {
+        limit: Some(2),
+        ..all
+    };
+    let events = bytes_of(rt.alloc(), TWO_EVENTS)?;
+    let of_two = OBJECTS_OF_TWO_EVENTS;
+    lists(&rt, Listing::Json(true), &two, events.as_slice(), of_two, 0)?;
+    let refusal = "{\"error\":\"NotPerf\"}\n";
+    lists(&rt, Listing::Json(false), &all, b"PERFILE1", refusal, 1)
+}
+
+/// A name, the process, the thread, the first and the last time and the limit, an event, and what
+/// is printed.
+type Chosen = (
+    Option<&'static str>,
+    [Option<u64>; 5],
+    Option<&'static str>,
+    &'static str,
+);
+
+const CHOSEN: [Chosen; 10] = [
+    (None, [None, Some(8), None, None, None], None, SECOND),
+    (Some(":8"), [None, None, None, None, None], None, SECOND),
+    (
+        None,
+        [None, None, Some(1_000_002_000), None, None],
+        None,
+        SECOND,
+    ),
+    (
+        None,
+        [None, None, None, Some(1_000_001_999), None],
+        None,
+        FIRST,
+    ),
+    (None, [None, None, None, None, Some(1)], None, FIRST),
+    (
+        None,
+        [Some(7), None, None, None, Some(2)],
+        Some("cpu-clock"),
+        STACKS,
+    ),
+    (None, [None, Some(8), None, None, Some(1)], None, SECOND),
+    (None, [Some(8), None, None, None, None], None, ""),
+    (None, [None, None, None, None, None], Some("cpu"), ""),
+    (None, [None, None, None, None, Some(0)], None, ""),
+];
+
+#[test]
+fn chosen_samples(rt: HostRuntime) -> Result<(), Fail> {
+    let profile = bytes_of(rt.alloc(), PROFILE)?;
+    let profile = profile.as_slice();
+    for row in &CHOSEN {
+        let choice = Choice {
+            comm: row.0,
+            pid: row.1[0],
+            tid: row.1[1],
+            from: row.1[2],
+            until: row.1[3],
+            event: row.2,
+            limit: row.1[4],
+        };
+        lists(&rt, Listing::Frames(false), &choice, profile, row.3, 0)?;
+    }
+    let second = Choice {
+        tid: Some(8),
+        ..Choice::all()
+    };
+    let folded = ":8;[unknown];pushes;pushes 1\n";
+    lists(&rt, Listing::Folded(false), &second, profile, folded, 0)
 }

@@ -1,5 +1,5 @@
-//! The rows of each FDE, or of those that contain an address, after a line with its addresses and
-//! the name of the function that begins there.
+//! The rows of each FDE, or of those that contain one of some addresses, after a line with its
+//! addresses and the name of the function that begins there.
 ghost use Rattle.std.specs.Prelude.{◌≡◌, ◌++◌, option_map, [], ⊤, IfOk, OnOk, if◌then◌else◌};
 ghost use Rattle.cfi_read_core.specs.ReaderCalls.{map_ok};
 ghost use Rattle.cfi_entry.specs.Sections.{section_of};
@@ -13,9 +13,10 @@ ghost use Rattle.cfi_programs.specs.WriterOutput.{Writes};
 ghost use Rattle.cfi_programs.specs.DumpSectionTexts.{fde_rows, lines};
 ghost use Rattle.cfi_programs.specs.JsonLines.{json_addresses};
 ghost use Rattle.cfi_programs.specs.DumpRowTexts.{addresses_in, addresses_line, addresses_text};
-ghost use Rattle.cfi_programs.specs.DumpRowTexts.{function_in};
+ghost use Rattle.cfi_programs.specs.DumpRowTexts.{contains_any, function_in, given_addresses};
 ghost use Rattle.cfi_programs.specs.DumpRowTexts.{entry_rows_text, fde_rows_text, is_asked_for};
 ghost use Rattle.cfi_programs.specs.ReadingTexts.{item_text};
+ghost use Rattle.cfi_programs.specs.Wordings.{of_section};
 
 use crate::dump::function_line::{end_line, push_end};
 use crate::dump::printed::AskedRows;
@@ -32,8 +33,8 @@ use gimli_cfi::{
 use std::io::Write;
 use std::{fmt, io};
 
-/// Writes the addresses and the rows of an entry that is an FDE, and contains the address where
-/// there is one; or the error in place of an entry. A CIE has no text.
+/// Writes the addresses and the rows of an entry that is an FDE, and contains one of the addresses
+/// where some are given; or the error in place of an entry. A CIE has no text.
 pub(crate) fn write_entry_rows<R: Reader<Offset = usize>, S: UnwindSection<R>, W: Write>(
     output: &mut W,
     room: &mut LineRoom,
@@ -50,7 +51,8 @@ pub(crate) fn write_entry_rows<R: Reader<Offset = usize>, S: UnwindSection<R>, W
     ensures written { let found = map_ok (cie_or_fde_view R.position (λ n. n)) entry.entry in
         let function = name_in asked.entry.functions.now in
         Writes (W.contents output.old) (W.contents output.new) result
-        (item_text style.format (λ e. entry_rows_text style function asked.entry.address
+        (item_text style.format (λ e. entry_rows_text style function
+        (given_addresses asked.entry.addresses)
         (section_of (S.view section.now) bases.now) e) found) }
     ensures cies { IsCacheOf R.position (λ n. n) (S.view section.now) bases.now cies.new }
 {
@@ -82,8 +84,8 @@ fn write_partial_rows<R: Reader<Offset = usize>, S: UnwindSection<R>, W: Write>(
     ensures written { let from = section_of (S.view section.now) bases.now in
         let found = partial_view R.position (λ n. n) partial.now in
         Writes (W.contents output.old) (W.contents output.new) result
-        (fde_rows_text style (name_in asked.entry.functions.now) asked.entry.address from
-        (read_fde from found)) }
+        (fde_rows_text style (name_in asked.entry.functions.now)
+        (given_addresses asked.entry.addresses) from (read_fde from found)) }
     ensures cies { IsCacheOf R.position (λ n. n) (S.view section.now) bases.now cies.new }
 {
     match whole(cies, section, bases, partial) {
@@ -106,12 +108,13 @@ fn write_if_asked_for<R: Reader<Offset = usize>, S: UnwindSection<R>, W: Write>(
     requires own { IsFdeOf R.position (S.view section.now).position fde.now }
     requires cie { HasCieOf R.position (S.view section.now).position fde.now }
     ensures { let read = fde_view R.position (λ n. n) fde.now in
-        let rows = lines style (fde_rows (section_of (S.view section.now) bases.now) read) in
+        let from = section_of (S.view section.now) bases.now in
+        let rows = lines (of_section style from) (fde_rows from read) in
         Writes (W.contents output.old) (W.contents output.new) result
-        (if is_asked_for asked.entry.address read
+        (if is_asked_for (given_addresses asked.entry.addresses) read
         then addresses_line style.format (name_in asked.entry.functions.now) read ++ rows else []) }
 {
-    if is_asked_for(asked.address, fde) {
+    if is_asked_for(asked.addresses, fde) {
         write_addressed_rows(
             output,
             room,
@@ -127,17 +130,33 @@ fn write_if_asked_for<R: Reader<Offset = usize>, S: UnwindSection<R>, W: Write>(
     }
 }
 
-/// Returns whether the FDE contains the address; true where there is none.
+/// Returns whether the FDE contains one of the addresses; true where none are given.
 fn is_asked_for<R: Reader<Offset = usize>>(
-    address: Option<u64>,
+    addresses: Option<&[u64]>,
     fde: &FrameDescriptionEntry<R>,
 ) -> bool
-    ensures { result ≡ is_asked_for address (fde_view R.position (λ n. n) fde.now) }
+    ensures { result ≡ is_asked_for (given_addresses addresses.entry)
+        (fde_view R.position (λ n. n) fde.now) }
 {
-    match address {
+    match addresses {
         None => true,
-        Some(address) => fde.contains(address),
+        Some(addresses) => contains_any(addresses, fde),
     }
+}
+
+/// Returns whether the FDE contains one of the addresses.
+fn contains_any<R: Reader<Offset = usize>>(
+    addresses: &[u64],
+    fde: &FrameDescriptionEntry<R>,
+) -> bool
+    ensures { result ≡ contains_any addresses.now (fde_view R.position (λ n. n) fde.now) }
+{
+    for address in addresses {
+        if fde.contains(*address) {
+            return true;
+        }
+    }
+    false
 }
 
 /// Writes the line of the FDE's addresses, and the lines of its rows.
@@ -154,7 +173,8 @@ fn write_addressed_rows<R: Reader<Offset = usize>, S: UnwindSection<R>, W: Write
     requires own { IsFdeOf R.position (S.view section.now).position fde.now }
     requires cie { HasCieOf R.position (S.view section.now).position fde.now }
     ensures { let read = fde_view R.position (λ n. n) fde.now in
-        let rows = lines style (fde_rows (section_of (S.view section.now) bases.now) read) in
+        let from = section_of (S.view section.now) bases.now in
+        let rows = lines (of_section style from) (fde_rows from read) in
         Writes (W.contents output.old) (W.contents output.new) result
         (addresses_line style.format (name_in functions.now) read ++ rows) }
 {

@@ -1,6 +1,7 @@
 //! The lines of call frame instructions.
-ghost use Rattle.std.specs.Prelude.{◌≡◌, Some, IfSome};
+ghost use Rattle.std.specs.Prelude.{◌≡◌, ◌++◌, [], ◌∷◌, Some, IfSome, codes};
 ghost use Rattle.cfi_read_core.specs.AddressSizes.{size_in_bytes};
+ghost use Rattle.cfi_read_core.specs.ExpressionPlaces.{expression_of};
 ghost use Rattle.cfi_parts.specs.InstructionIterators.{instruction_reader};
 ghost use Rattle.cfi_parts.specs.InstructionReaders.{instructions_left};
 ghost use Rattle.cfi_programs.specs.WriterOutput.{Writes};
@@ -8,35 +9,25 @@ ghost use Rattle.cfi_programs.specs.ReadingTexts.{item_text};
 ghost use Rattle.cfi_programs.specs.DumpInstructionLines.{instruction_line, target, target_text};
 ghost use Rattle.cfi_programs.specs.DumpInstructionLines.{advanced, instructions_text, item_moved};
 ghost use Rattle.cfi_programs.specs.DumpInstructionLines.{moved};
-ghost use Rattle.cfi_programs.specs.DumpInstructionLines.{dest_and_src, expression_operand, of};
+ghost use Rattle.cfi_programs.specs.DumpInstructionLines.{dest_and_src, instruction_head, of};
 ghost use Rattle.cfi_programs.specs.DumpInstructionLines.{factored_operand, registers_text, shown};
 ghost use Rattle.cfi_programs.specs.DumpInstructionLines.{signed_factored_operand};
-ghost use Rattle.cfi_programs.specs.RowLines.{expression_text};
+ghost use Rattle.cfi_programs.specs.ExpressionWords.{in_words};
+ghost use Rattle.cfi_programs.specs.Wordings.{text_style, worded};
 
 use crate::dump::section::write_refused;
-use crate::lines::write_part;
+use crate::expression_words::write_in_words;
+use crate::lines::{write_part, write_text};
 use crate::style::Format;
 use cfi_object::register_names::RegisterNames;
 use cfi_read_core::address::{AddressSize, ReaderAddress};
 use gimli_cfi::{
-    CallFrameInstruction as Instruction, CallFrameInstructionIter, Reader, Register, Result,
-    UnwindExpression,
+    _UnwindSectionPrivate, CallFrameInstruction as Instruction, CallFrameInstructionIter, Reader,
+    Register, Result, UnwindExpression, UnwindSection,
 };
 use std::fmt::{Display, Formatter};
 use std::io::Write;
 use std::{fmt, io};
-
-/// Where an expression is, and its length.
-#[derive(Clone, Copy)]
-struct Place(UnwindExpression<usize>);
-
-impl Display for Place {
-    ghost output = { λ place. Some (expression_text place.0) };
-
-    fn fmt<W: fmt::Write>(&self, f: &mut Formatter<W>) -> fmt::Result {
-        write!(f, "expr@{}:{}", self.0.offset, self.0.length)
-    }
-}
 
 /// A register, as the operand of that name, with the names of registers.
 #[derive(Clone, Copy)]
@@ -62,19 +53,6 @@ impl Display for Both {
         let dest = self.0.name(self.1.0);
         let src = self.0.name(self.2.0);
         write!(f, " dest_register={dest} src_register={src}")
-    }
-}
-
-/// An expression, as the operand of that name.
-#[derive(Clone, Copy)]
-struct ByExpression(UnwindExpression<usize>);
-
-impl Display for ByExpression {
-    ghost output = { λ it. Some (expression_operand it.0) };
-
-    fn fmt<W: fmt::Write>(&self, f: &mut Formatter<W>) -> fmt::Result {
-        let place = Place(self.0);
-        write!(f, " expression={place}")
     }
 }
 
@@ -142,7 +120,8 @@ impl Display for Registers {
     }
 }
 
-/// The operand of an instruction that is no register, as it is encoded in the section.
+/// The operand of an instruction that is no register and no expression, as it is encoded in the
+/// section.
 #[derive(Clone, Copy)]
 struct Value(Instruction<usize>);
 
@@ -161,7 +140,7 @@ impl Display for Value {
             Instruction::DefCfaRegister { .. } => Ok(()),
             Instruction::DefCfaOffset { offset } => write!(f, " offset={offset}"),
             Instruction::DefCfaOffsetSf { factored_offset: n } => Signed(n).fmt(f),
-            Instruction::DefCfaExpression { expression } => ByExpression(expression).fmt(f),
+            Instruction::DefCfaExpression { .. } => Ok(()),
             Instruction::Undefined { .. } => Ok(()),
             Instruction::SameValue { .. } => Ok(()),
             Instruction::Offset {
@@ -185,8 +164,8 @@ impl Display for Value {
                 ..
             } => Signed(n).fmt(f),
             Instruction::Register { .. } => Ok(()),
-            Instruction::Expression { expression, .. } => ByExpression(expression).fmt(f),
-            Instruction::ValExpression { expression, .. } => ByExpression(expression).fmt(f),
+            Instruction::Expression { .. } => Ok(()),
+            Instruction::ValExpression { .. } => Ok(()),
             Instruction::Restore { .. } => Ok(()),
             Instruction::RememberState => Ok(()),
             Instruction::RestoreState => Ok(()),
@@ -300,58 +279,161 @@ fn target(at: Option<u64>, instruction: Instruction<usize>) -> Option<u64>
     }
 }
 
+/// Returns the operand of the instruction that is an expression, if it has one.
+fn expression_of(instruction: Instruction<usize>) -> Option<UnwindExpression<usize>>
+    ensures { result ≡ expression_of instruction }
+{
+    match instruction {
+        Instruction::DefCfaExpression { expression } => Some(expression),
+        Instruction::Expression { expression, .. } => Some(expression),
+        Instruction::ValExpression { expression, .. } => Some(expression),
+        _ => None,
+    }
+}
+
 /// Writes a line for each instruction that is left, by the code alignment factor and the size of an
 /// address from an address on; and after the last one the line of the error with which they end, if
-/// there is one.
-pub fn write_instructions<R: Reader<Offset = usize>, W: Write>(
+/// there is one. The section has the expressions.
+pub fn write_instructions<R: Reader<Offset = usize>, S: UnwindSection<R>, W: Write>(
     output: &mut W,
     names: RegisterNames,
+    section: &S,
     factor: u64,
     size: AddressSize,
     start: Option<u64>,
     instructions: CallFrameInstructionIter<'_, R>,
 ) -> io::Result<()>
     ensures { let left = instructions_left (instruction_reader R.position instructions.entry) in
+        let from = S.view section.now in
+        let wording = worded (text_style names) from.address_size from.position in
         Writes (W.contents output.old) (W.contents output.new) result
-        (instructions_text names factor (size_in_bytes size) start left) }
+        (instructions_text wording factor (size_in_bytes size) start left) }
 {
     let mut at = start;
     for instruction in instructions {
         at = moved(factor, size, at, instruction);
-        write_item(output, names, at, instruction)?;
+        write_item(output, names, section, at, instruction)?;
     }
     Ok(())
 }
 
 /// Writes the line of an instruction that moves to this address, or of the error in its place.
-fn write_item<W: Write>(
+fn write_item<R: Reader<Offset = usize>, S: UnwindSection<R>, W: Write>(
     output: &mut W,
     names: RegisterNames,
+    section: &S,
     at: Option<u64>,
     instruction: Result<Instruction<usize>>,
 ) -> io::Result<()>
-    ensures { Writes (W.contents output.old) (W.contents output.new) result
-        (item_text Format.Text (instruction_line names at) instruction) }
+    ensures { let from = S.view section.now in
+        let wording = worded (text_style names) from.address_size from.position in
+        Writes (W.contents output.old) (W.contents output.new) result
+        (item_text Format.Text (instruction_line wording at) instruction) }
 {
     match instruction {
-        Ok(instruction) => write_instruction(output, names, at, instruction),
+        Ok(instruction) => write_instruction(output, names, section, at, instruction),
         Err(error) => write_refused(output, Format::Text, error),
     }
 }
 
 /// Writes the line of an instruction that moves to this address.
-fn write_instruction<W: Write>(
+fn write_instruction<R: Reader<Offset = usize>, S: UnwindSection<R>, W: Write>(
+    output: &mut W,
+    names: RegisterNames,
+    section: &S,
+    at: Option<u64>,
+    instruction: Instruction<usize>,
+) -> io::Result<()>
+    ensures { let from = S.view section.now in
+        let wording = worded (text_style names) from.address_size from.position in
+        Writes (W.contents output.old) (W.contents output.new) result
+        (instruction_line wording at instruction) }
+{
+    match expression_of(instruction) {
+        None => write_whole(output, names, at, instruction),
+        Some(expression) => {
+            write_with_expression(output, names, section, at, instruction, expression)
+        }
+    }
+}
+
+/// Writes the line of an instruction with this expression.
+fn write_with_expression<R: Reader<Offset = usize>, S: UnwindSection<R>, W: Write>(
+    output: &mut W,
+    names: RegisterNames,
+    section: &S,
+    at: Option<u64>,
+    instruction: Instruction<usize>,
+    expression: UnwindExpression<usize>,
+) -> io::Result<()>
+    ensures { let from = S.view section.now in
+        let words = in_words names from.address_size from.position expression in
+        Writes (W.contents output.old) (W.contents output.new) result
+        (instruction_head names instruction ++ ((codes " expression=" ++ words)
+        ++ (target_text (target at instruction) ++ 10 ∷ []))) }
+{
+    write_head(output, names, instruction)?;
+    write_operand(output, names, section, expression)?;
+    write_end(output, at, instruction)
+}
+
+/// Writes the line of an instruction without an expression.
+fn write_whole<W: Write>(
     output: &mut W,
     names: RegisterNames,
     at: Option<u64>,
     instruction: Instruction<usize>,
 ) -> io::Result<()>
     ensures { Writes (W.contents output.old) (W.contents output.new) result
-        (instruction_line names at instruction) }
+        (instruction_head names instruction
+        ++ (target_text (target at instruction) ++ 10 ∷ [])) }
 {
     let name = dwarf_name(&instruction);
     let registers = Registers(names, instruction);
     let value = Value(instruction);
     let to = MovedTo(target(at, instruction));
     write_part(output, format_args!("  {name}{registers}{value}{to}\n"))
+}
+
+/// Writes what comes before the expression of an instruction.
+fn write_head<W: Write>(
+    output: &mut W,
+    names: RegisterNames,
+    instruction: Instruction<usize>,
+) -> io::Result<()>
+    ensures { Writes (W.contents output.old) (W.contents output.new) result
+        (instruction_head names instruction) }
+{
+    let name = dwarf_name(&instruction);
+    let registers = Registers(names, instruction);
+    let value = Value(instruction);
+    write_part(output, format_args!("  {name}{registers}{value}"))
+}
+
+/// Writes an expression, as the operand of that name.
+fn write_operand<R: Reader<Offset = usize>, S: UnwindSection<R>, W: Write>(
+    output: &mut W,
+    names: RegisterNames,
+    section: &S,
+    expression: UnwindExpression<usize>,
+) -> io::Result<()>
+    ensures { let from = S.view section.now in
+        Writes (W.contents output.old) (W.contents output.new) result
+        (codes " expression=" ++ in_words names from.address_size from.position expression) }
+{
+    write_text(output, b" expression=")?;
+    write_in_words(output, names, section, expression)
+}
+
+/// Writes what comes behind the expression of an instruction.
+fn write_end<W: Write>(
+    output: &mut W,
+    at: Option<u64>,
+    instruction: Instruction<usize>,
+) -> io::Result<()>
+    ensures { Writes (W.contents output.old) (W.contents output.new) result
+        (target_text (target at instruction) ++ 10 ∷ []) }
+{
+    let to = MovedTo(target(at, instruction));
+    write_part(output, format_args!("{to}\n"))
 }

@@ -9,8 +9,8 @@ use cfi_elf::FunctionNames;
 /// The FDEs whose rows are printed, and the names of their functions.
 #[derive(Clone, Copy)]
 pub struct AskedRows<'names> {
-    /// Where an address is given, the FDEs that contain it; else all.
-    pub address: Option<u64>,
+    /// Where addresses are given, the FDEs that contain one of them; else all.
+    pub addresses: Option<&'names [u64]>,
     /// The names, by the first address of an FDE.
     pub functions: &'names FunctionNames<'names>,
     /// The form of the lines.

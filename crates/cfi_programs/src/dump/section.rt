@@ -15,7 +15,7 @@ ghost use Rattle.cfi_unwind.specs.WalkViews.{IsEntryOf, IsPartialOf, cie_or_fde_
 ghost use Rattle.cfi_unwind.specs.WalkViews.{partial_view};
 ghost use Rattle.cfi_unwind.specs.Scan.{read_fde};
 ghost use Rattle.cfi_unwind.specs.UnwindTableViews.{table_state};
-ghost use Rattle.cfi_programs.specs.AnswerLines.{text_style};
+ghost use Rattle.cfi_programs.specs.Wordings.{of_section, text_style, worded};
 ghost use Rattle.cfi_programs.specs.Lines.{refusal_in, refusal_line};
 ghost use Rattle.cfi_programs.specs.WriterOutput.{Writes};
 ghost use Rattle.cfi_programs.specs.DumpEntryLines.{fde_line, partial_fde_line};
@@ -31,7 +31,8 @@ use crate::dump::instruction_line::write_instructions;
 use crate::dump::printed::Printed;
 use crate::kept_rules::{KeptRows, LineRoom};
 use crate::lines::{write_refusal_in, write_text};
-use crate::row_line::{FULL_OF_LINES, write_answer, write_apart, write_out};
+use crate::row_line::{FULL_OF_LINES, write_out};
+use crate::row_words::{write_answer, write_apart};
 use crate::style::{Format, Style};
 use crate::text::Text;
 use cfi_elf::FunctionNames;
@@ -164,6 +165,7 @@ fn write_whole_cie<R: Reader<Offset = usize>, S: UnwindSection<R>, W: Write>(
     write_instructions(
         output,
         names,
+        section,
         factor,
         address_size_of(cie),
         None,
@@ -220,7 +222,7 @@ fn write_whole_fde<R: Reader<Offset = usize>, S: UnwindSection<R>, W: Write>(
         let instructions = fde_instructions_text names from read in
         Writes (W.contents output.old) (W.contents output.new) result
         (fde_line (name_in functions.now read.initial) read
-        ++ (instructions ++ lines (text_style names) (fde_rows from read))) }
+        ++ (instructions ++ lines (of_section (text_style names) from) (fde_rows from read))) }
 {
     write_fde(output, functions, fde)?;
     write_fde_instructions(output, names, section, bases, fde)?;
@@ -249,6 +251,7 @@ fn write_fde_instructions<R: Reader<Offset = usize>, S: UnwindSection<R>, W: Wri
     write_instructions(
         output,
         names,
+        section,
         factor,
         address_size_of(cie),
         start,
@@ -308,27 +311,31 @@ pub(crate) fn write_rows<R: Reader<Offset = usize>, S: UnwindSection<R>, W: Writ
     requires own { IsFdeOf R.position (S.view section.now).position fde.now }
     requires cie { HasCieOf R.position (S.view section.now).position fde.now }
     ensures { Writes (W.contents output.old) (W.contents output.new) result
-        (lines style (fde_rows (section_of (S.view section.now) bases.now)
+        (lines (of_section style (section_of (S.view section.now) bases.now))
+        (fde_rows (section_of (S.view section.now) bases.now)
         (fde_view R.position (λ n. n) fde.now))) }
 {
     match fde.rows(section, bases, context) {
-        Ok(mut table) => write_table(output, room, style, &mut table),
+        Ok(mut table) => write_table(output, room, style, section, &mut table),
         Err(error) => write_refused(output, style.format, error),
     }
 }
 
 /// Writes a line for each row that is left in the table, and for each error among them.
-fn write_table<R: Reader<Offset = usize>, W: Write>(
+fn write_table<R: Reader<Offset = usize>, S: UnwindSection<R>, W: Write>(
     output: &mut W,
     room: &mut LineRoom,
     style: Style,
+    section: &S,
     table: &mut UnwindTable<'_, '_, R>,
 ) -> io::Result<()>
     ensures { let setting = setting_of table.old.parameters (Some 192) (Some 4) in
         let state = table_state R.position (λ n. n) table.old in
+        let from = S.view section.now in
+        let wording = worded style from.address_size from.position in
         (program : Program ℕ) → IsStateAfter setting state.so_far program
         → Writes (W.contents output.old) (W.contents output.new) result
-        (lines style (answers_to_come setting (at_program state program))) }
+        (lines wording (answers_to_come setting (at_program state program))) }
 {
     match style.format {
         Format::Text => write_text_table(
@@ -336,26 +343,30 @@ fn write_table<R: Reader<Offset = usize>, W: Write>(
             &mut room.text,
             &mut room.kept,
             style.names,
+            section,
             table,
         ),
-        Format::Json => write_each(output, style, table),
+        Format::Json => write_each(output, style, section, table),
     }
 }
 
 /// Writes the lines of text of what is left in the table. They are gathered before they are
 /// written, and rules that are those of an earlier row mostly take their text from it.
-fn write_text_table<R: Reader<Offset = usize>, W: Write>(
+fn write_text_table<R: Reader<Offset = usize>, S: UnwindSection<R>, W: Write>(
     output: &mut W,
     text: &mut Text,
     kept: &mut KeptRows,
     names: RegisterNames,
+    section: &S,
     table: &mut UnwindTable<'_, '_, R>,
 ) -> io::Result<()>
     ensures { let setting = setting_of table.old.parameters (Some 192) (Some 4) in
         let state = table_state R.position (λ n. n) table.old in
+        let from = S.view section.now in
+        let wording = worded (text_style names) from.address_size from.position in
         (program : Program ℕ) → IsStateAfter setting state.so_far program
         → Writes (W.contents output.old) (W.contents output.new) result
-        (lines (text_style names) (answers_to_come setting (at_program state program))) }
+        (lines wording (answers_to_come setting (at_program state program))) }
 {
     text.clear();
     while let Some(answer) = table.next_row().transpose() {
@@ -363,26 +374,29 @@ fn write_text_table<R: Reader<Offset = usize>, W: Write>(
             write_out(output, text)?;
         }
         if !kept.push_next(text, names, answer)? {
-            write_apart(output, text, names, answer)?;
+            write_apart(output, text, names, section, answer)?;
         }
     }
     write_text(output, text.as_slice())
 }
 
 /// Writes the lines of what is left in the table, each by itself.
-fn write_each<R: Reader<Offset = usize>, W: Write>(
+fn write_each<R: Reader<Offset = usize>, S: UnwindSection<R>, W: Write>(
     output: &mut W,
     style: Style,
+    section: &S,
     table: &mut UnwindTable<'_, '_, R>,
 ) -> io::Result<()>
     ensures { let setting = setting_of table.old.parameters (Some 192) (Some 4) in
         let state = table_state R.position (λ n. n) table.old in
+        let from = S.view section.now in
+        let wording = worded style from.address_size from.position in
         (program : Program ℕ) → IsStateAfter setting state.so_far program
         → Writes (W.contents output.old) (W.contents output.new) result
-        (lines style (answers_to_come setting (at_program state program))) }
+        (lines wording (answers_to_come setting (at_program state program))) }
 {
     while let Some(answer) = table.next_row().transpose() {
-        write_answer(output, style, answer)?;
+        write_answer(output, style, section, answer)?;
     }
     Ok(())
 }

@@ -6,9 +6,8 @@ ghost use Rattle.cfi_programs.specs.Runs.{PrintsAnswer};
 
 use crate::input::Sections;
 use crate::lines::write_refusal;
-use crate::row_line::write_answer;
+use crate::row_line::write_plain_answer;
 use crate::rows::command_line::{Request, Storage};
-use crate::style::{Format, Style};
 use cfi_object::register_names::RegisterNames;
 use gimli_cfi::{
     Error, StoreGrowing, StoreOnHeap, UnwindContext, UnwindContextStorage, UnwindTableRow,
@@ -16,12 +15,6 @@ use gimli_cfi::{
 use std::alloc::Global;
 use std::io;
 use std::io::Write;
-
-/// Lines of text, with registers by number.
-const PLAIN: Style = Style {
-    names: RegisterNames::Numbers,
-    format: Format::Text,
-};
 
 /// Prints the answer to the request.
 pub fn print_answer<W: Write>(
@@ -55,7 +48,7 @@ fn print_row<S: UnwindContextStorage<usize>, W: Write>(
         Err(error) => return write_refusal(output, error),
     };
     let answer = find_row(request, sections, &mut context);
-    write_answer(output, PLAIN, answer)
+    write_plain_answer(output, RegisterNames::Numbers, answer)
 }
 
 /// Returns the row for the request's address.

@@ -161,7 +161,8 @@ fn each_error(rt: HostRuntime) -> Result<(), Fail> {
     check(&rt, &OF_THE_TABLES)
 }
 
-const SENTENCES: [(ElfError, &str); 25] = [
+const SENTENCES: [(ElfError, &str); 26] = [
+    (ElfError::OutOfMemory, "memory is refused"),
     (ElfError::NotElf, "not an ELF file"),
     (ElfError::HeaderCut, "the file ends in its header"),
     (ElfError::UnknownClass(3), "unknown class 3"),

@@ -373,11 +373,11 @@ fn checks(rt: HostRuntime) -> Result<(), Fail> {
         &rt,
         text,
         &mut &*cut,
-        "a file: refused HeaderCut\n",
+        "a file: refused HeaderCut: the file ends in its header\n",
         Finding::NoTable,
     )?;
     let script = b"#!/bin/sh\n".as_slice();
-    let other = "a file: refused NotElf\n";
+    let other = "a file: refused NotElf: not an ELF file\n";
     finds(&rt, text, &mut &*script, other, Finding::OtherFile)?;
     let line = "a file: wrong input\n";
     finds(&rt, text, &mut Endless, line, Finding::Unreadable)
@@ -391,8 +391,12 @@ const NO_ROW_JSON: &str = "{\"file\":\"a file\",\"result\":\"unfaithful\",\
 ";
 
 const CUT_JSON: &str = "{\"file\":\"a file\",\"result\":\"no table\",\
-\"reason\":\"refused HeaderCut\"}
+\"reason\":\"refused HeaderCut: the file ends in its header\"}
 ";
+
+const NOT_ELF: &str = "refused NotElf: not an ELF file\n";
+
+const NOT_ELF_JSON: &str = "{\"error\":\"NotElf\",\"reason\":\"not an ELF file\"}\n";
 
 const WRONG_INPUT_JSON: &str = "{\"file\":\"a file\",\"result\":\"unreadable\",\
 \"reason\":\"wrong input\"}
@@ -422,7 +426,7 @@ fn rows_in_json(rt: HostRuntime) -> Result<(), Fail> {
     let all = Printed::Rows(None, Format::Json);
     prints(&rt, all, &mut &*bytes, ALL_ROWS_JSON, 0)?;
     let cut = bytes.get(..3).unwrap_or_default();
-    prints(&rt, all, &mut &*cut, "{\"error\":\"NotElf\"}\n", 1)?;
+    prints(&rt, all, &mut &*cut, NOT_ELF_JSON, 1)?;
     let failing = &mut FailsAfter { bytes, left: 0 };
     prints(&rt, all, failing, "{\"error\":\"wrong input\"}\n", 2)
 }
@@ -431,7 +435,7 @@ fn rows_in_json(rt: HostRuntime) -> Result<(), Fail> {
 fn files_that_cannot_be_read(rt: HostRuntime) -> Result<(), Fail> {
     prints(&rt, Printed::Dump, &mut Endless, "wrong input\n", 2)?;
     let empty: &[u8] = &[];
-    prints(&rt, Printed::Dump, &mut &*empty, "refused NotElf\n", 1)?;
+    prints(&rt, Printed::Dump, &mut &*empty, NOT_ELF, 1)?;
     let without = changed(rt.alloc(), LITTLE_64, &[])?;
     prints(
         &rt,
@@ -464,15 +468,15 @@ fn outputs_that_fail(rt: HostRuntime) -> Result<(), Fail> {
 /// What is printed of a file that ends in its identification, in its header, and before the end of
 /// its section headers, which come last.
 const CUT: [(usize, usize, &str); 3] = [
-    (0, 3, "refused NotElf\n"),
-    (4, 63, "refused HeaderCut\n"),
+    (0, 3, NOT_ELF),
+    (4, 63, "refused HeaderCut: the file ends in its header\n"),
     (64, 1119, CUT_SECTIONS),
 ];
 
 const CUT_SECTIONS: &str = ".eh_frame
-refused SectionTableOutOfBounds
+refused SectionTableOutOfBounds: the section header table goes past the file's end
 .debug_frame
-refused SectionTableOutOfBounds
+refused SectionTableOutOfBounds: the section header table goes past the file's end
 ";
 
 #[test]

@@ -177,7 +177,7 @@ pub struct CfiRule {
     pub length: u64,
 }
 
-/// A module as it is loaded. Of the bases `debug_frame` and `address_size` are not read.
+/// A module as it is loaded. Of the bases `address_size` is not read, and beside a header neither is `debug_frame`.
 #[repr(C)]
 #[derive(Clone, Copy, Debug)]
 pub struct CfiModule {
@@ -185,7 +185,7 @@ pub struct CfiModule {
     pub start: u64,
     /// The first address after it.
     pub end: u64,
-    /// The bytes of `.eh_frame`.
+    /// The bytes of `.eh_frame`, or of `.debug_frame` if the bases say so and there is no header.
     pub eh_frame: *const u8,
     /// How many there are.
     pub eh_frame_len: usize,

@@ -4,14 +4,14 @@ use std::ops::Range;
 
 use crate::{Error, Section};
 
-/// A loaded module: the addresses of its code, and its `.eh_frame`, with a header or without.
+/// A loaded module: the addresses of its code, and its `.eh_frame`, with a header or without, or its `.debug_frame`.
 #[derive(Clone, Copy, Debug)]
 #[repr(transparent)]
 pub struct Module<'a>(cfi_sys::CfiModule, PhantomData<&'a [u8]>);
 
 impl<'a> Module<'a> {
     /// Returns the module with this code and section, with addresses as they are loaded. Without a header its rows are
-    /// found by a scan, which takes far longer. A `.debug_frame` is read as `.eh_frame`.
+    /// found by a scan, which takes far longer.
     pub fn new(code: Range<u64>, section: Section<'a>) -> Module<'a> {
         let (eh_frame, header) = (section.bytes, section.header);
         let module = cfi_sys::CfiModule {

@@ -50,6 +50,12 @@ fn a_stack_of_two_frames() {
         assert_eq!(facts(found), expected[..room.min(3)]);
         assert_eq!(end, if room < 3 { End::NoRoom } else { End::NoModule });
     }
+    // The same rows by `.debug_frame`.
+    let debug_frame = bytes(include_str!("../../debug_frame.hex"));
+    let others = [Module::new(0x1000..0x2000, Section::debug_frame(&debug_frame))];
+    let mut frames = [Frame::default(); 3];
+    let (found, end) = context.unwind(&others, &stack, 0x1004, &registers, &mut frames);
+    assert_eq!((facts(found), end), (expected.to_vec(), End::NoModule));
     let short = Stack {
         bytes: &copied[..16],
         ..stack

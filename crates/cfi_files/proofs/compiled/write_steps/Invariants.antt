@@ -1,6 +1,7 @@
 use Rattle.cfi_compiled.specs.CompiledTables.{steps_of}
 use Rattle.cfi_compiled.specs.TableSteps.{steps_left}
 use Rattle.cfi_files.specs.CompiledTexts.{steps_text}
+use Rattle.cfi_programs.specs.Wordings.{text_style, worded}
 use Rattle.cfi_programs.proofs.WrittenLemmas.{IsGiven}
 use Rattle.cfi_files.proofs.compiled.write_steps.Given as goal
 
@@ -9,4 +10,4 @@ abbrev pub invariant-loop-step : goal.invariant-loop-step
 invariant-loop-step g l =
     (goal.iterator-loop-step g).can_next l.step-iterator ×
     (goal.iterator-loop-step g).is_finite l.step-iterator ×
-    IsGiven (g.W.Write.contents l.initial.output) (g.W.Write.contents l.output) (steps_text l.names (steps_left l.step-iterator)) (steps_text l.names (steps_of l.table))
+    IsGiven (g.W.Write.contents l.initial.output) (g.W.Write.contents l.output) (steps_text (worded (text_style l.names) (g.S._UnwindSectionPrivate.view l.section).address_size (g.S._UnwindSectionPrivate.view l.section).position) (steps_left l.step-iterator)) (steps_text (worded (text_style l.names) (g.S._UnwindSectionPrivate.view l.section).address_size (g.S._UnwindSectionPrivate.view l.section).position) (steps_of l.table))

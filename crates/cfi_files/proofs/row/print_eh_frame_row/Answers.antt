@@ -6,7 +6,7 @@ use Rattle.gimli_cfi.specs.SectionSources.{GivenSection, IsGivenRow, IsRowIn, gi
 use Rattle.cfi_programs.specs.AnswerLines.{answer_behind}
 use Rattle.cfi_programs.specs.WriterOutput.{PrintsSome}
 use Rattle.cfi_files.specs.Found.{part_view}
-use Rattle.cfi_files.specs.RowOutputs.{IsByTable, IsRowByTableOrScan}
+use Rattle.cfi_files.specs.RowOutputs.{IsByTable, IsRowByTableOrScan, wording_in}
 use Rattle.cfi_files.proofs.row.print_eh_frame_row.Goals as goal
 
 by_table : (given : GivenSection) (header : HeaderSection) (a : ℕ) (answer : Result (Row ℕ) Error) → Some header ≡ given_header given → IsGivenRow (Some 192) (Some 4) true given a answer → IsByTable given header a answer
@@ -21,7 +21,7 @@ pub returns-in-Ok : goal.returns-in-Ok
 returns-in-Ok g c =
     subst (λ header. PrintsSome (λ line. IsRowByTableOrScan c.args.style (source_view c.args.frames.now) header (part_view c.args.debug_frame) c.args.address line) (g.W.Write.contents c.args.output.now) (g.W.Write.contents c.write_answer_behind.new.output) c.write_answer_behind.result)
     c.in-Some.ensures
-    (answer_behind c.args.style (Ok c.in-Ok.row.now), c.write_answer_behind.ensures, (Ok c.in-Ok.row.now, by_table (source_view c.args.frames.now) _ _ _ c.in-Some.ensures c.in-Ok.ensures.row, refl))
+    (answer_behind (wording_in c.args.style (source_view c.args.frames.now)) (Ok c.in-Ok.row.now), c.write_answer_behind.ensures, (Ok c.in-Ok.row.now, by_table (source_view c.args.frames.now) _ _ _ c.in-Some.ensures c.in-Ok.ensures.row, refl))
 
 pub returns-in-Err : goal.returns-in-Err
 returns-in-Err g c =

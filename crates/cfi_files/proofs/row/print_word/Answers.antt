@@ -1,24 +1,12 @@
 use Rattle.cfi_elf.specs.ElfFiles.{file_view}
-use Rattle.cfi_object.specs.Targets.{target_address}
-use Rattle.cfi_files.specs.Asked.{address_found, asked_text}
-use Rattle.cfi_files.specs.Found.{debug_frame_in, eh_frame_in}
-use Rattle.cfi_files.specs.RowOutputs.{IsAnswer}
-use Rattle.cfi_files.proofs.Joined.{under_refused, under_written}
-use Rattle.cfi_files.proofs.WordLines.{answer_as, some_answer}
+use Rattle.cfi_files.proofs.WordLines.{of_error, of_named}
 use Rattle.cfi_files.proofs.row.print_word.Goals as goal
 
-pub returns-in_err-write_asked : goal.returns-in_err-write_asked
-returns-in_err-write_asked g c =
-    let file = file_view c.args.file.now in
-    let target = target_address file c.args.word.now in
-    under_refused (IsAnswer c.args.style (eh_frame_in file) (debug_frame_in file) target) (asked_text c.args.style.format c.args.has_several c.args.word.now (address_found target)) _ _ c.from_residual.result
-    (some_answer c.args.style (eh_frame_in file) (debug_frame_in file) target) c.from_residual.ensures.0
-    (rw (c.address_found-address.ensures, c.target_address-target.ensures) at c.in_err-write_asked.ensures)
+pub returns-in-Ok : goal.returns-in-Ok
+returns-in-Ok g c =
+    of_named c.args.style (file_view c.args.file.now) c.args.has_several c.args.word.now c.in-Ok.addresses.items _ _ _ c.print_named.result c.in-Ok.ensures.ok
+    c.as_slice.ensures.value c.print_named.ensures
 
-pub returns : goal.returns
-returns g c =
-    let file = file_view c.args.file.now in
-    let target = target_address file c.args.word.now in
-    under_written (IsAnswer c.args.style (eh_frame_in file) (debug_frame_in file) target) (asked_text c.args.style.format c.args.has_several c.args.word.now (address_found target)) _ _ _ c.print_answer.result
-    (rw (c.address_found-address.ensures, c.target_address-target.ensures) at c.in_ok-write_asked.ensures)
-    (answer_as c.args.style _ (eh_frame_in file) _ (debug_frame_in file) _ target _ _ c.print_answer.result c.requires.0 c.requires.1 c.target_address-target.ensures c.print_answer.ensures)
+pub returns-in-Err : goal.returns-in-Err
+returns-in-Err g c =
+    of_error c.args.style (file_view c.args.file.now) c.args.has_several c.args.word.now c.in-Err.error _ _ c.print_target.result c.in-Err.ensures.err c.print_target.ensures

@@ -3,8 +3,8 @@ use Rattle.cfi_read_core.specs.RefusalNames.{name_of}
 use Rattle.cfi_read_core.specs.declared.error.Error.TheVariants.{OutOfMemory}
 use Rattle.cfi_object.specs.FileParts.{image_of}
 use Rattle.cfi_files.specs.declared.finding.Finding.TheVariants.{NoTable, Unreadable}
-use Rattle.cfi_files.specs.FileOutputs.{IsCheckOfInput, refused}
-use Rattle.cfi_files.specs.Findings.{found_line}
+use Rattle.cfi_files.specs.FileOutputs.{IsCheckOfInput}
+use Rattle.cfi_files.specs.Findings.{found_line, refused}
 use Rattle.cfi_files.proofs.Joined.{checks_found, for_input}
 use Rattle.cfi_files.proofs.WholeOutputs.{checked_parts}
 use Rattle.cfi_files.proofs.run.check_input.Goals as goal

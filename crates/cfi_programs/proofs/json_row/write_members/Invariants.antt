@@ -1,12 +1,17 @@
-use Rattle.std.proofs.Common.{◌-◌, ◌++◌}
+use Rattle.std.proofs.Common.{◌-◌, true}
 use Rattle.std.specs.FinMap as map
 use Rattle.cfi_programs.specs.JsonLines.{json_rule, json_rules, separated}
 use Rattle.cfi_programs.specs.RowLines.{rules_by}
+use Rattle.cfi_programs.specs.Wordings.{worded}
+use Rattle.cfi_programs.proofs.JsonRowLemmas.{member_first, separated_none}
+use Rattle.cfi_programs.proofs.RowLineLemmas.{rules_none, rules_without}
 use Rattle.cfi_programs.proofs.WrittenLemmas.{IsGiven}
 use Rattle.cfi_programs.proofs.json_row.write_members.Given as goal
 
 abbrev pub invariant-loop-number : goal.invariant-loop-number
 invariant-loop-number g l =
+    let from = g.S._UnwindSectionPrivate.view l.section in
+    let wording = worded l.style from.address_size from.position in
     let parts = g.H.HasRules.parts l.row in
     IsGiven (g.W.Write.contents l.initial.output) (g.W.Write.contents l.output)
-    (l.text.items ++ separated l.is_first (rules_by (json_rule l.names) (65536 - l.number) l.number (map.get parts.rules))) (l.initial.text.items ++ json_rules l.names parts)
+    (separated l.is_first (rules_by (json_rule wording) (65536 - l.number) l.number (map.get parts.rules))) (json_rules wording parts)

@@ -4,7 +4,7 @@ use Rattle.cfi_cores.specs.CoreSegments.{segment_view}
 use Rattle.cfi_cores.specs.MappedFiles.{mapping_view}
 use Rattle.cfi_processes.specs.OpenedFiles.{opened_view}
 use Rattle.cfi_stacks.specs.CoreOutputs.{file_window}
-use Rattle.cfi_stacks.proofs.CoreLemmas.{kept_next, left_out, none_left}
+use Rattle.cfi_stacks.proofs.CoreLemmas.{kept_next, left_out}
 use Rattle.cfi_stacks.proofs.core_files.mapped_windows.Goals.{in-Some+in_ok-push, in_default}
 use Rattle.cfi_stacks.proofs.core_files.mapped_windows.Goals as goal
 

@@ -8,4 +8,4 @@ use Rattle.cfi_stacks.proofs.core_run.print_by_files.Goals as goal
 
 pub returns-in-Ok : goal.returns-in-Ok
 returns-in-Ok g c =
-    printed_in c.args.raw (core_view c.args.core.now) (map opened_view c.args.opened.now) (map known_view c.args.files.now) (map segment_view c.in-Ok.code.windows.items) _ _ c.print_code.result c.in-Ok.ensures.windows c.print_code.ensures
+    printed_in c.args.listing (core_view c.args.core.now) (map opened_view c.args.opened.now) (map known_view c.args.files.now) (map segment_view c.in-Ok.code.windows.items) _ _ c.print_code.result c.in-Ok.ensures.windows c.print_code.ensures

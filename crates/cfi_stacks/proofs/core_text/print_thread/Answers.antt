@@ -5,7 +5,7 @@ use Rattle.cfi_processes.specs.KnownFiles.{known_view}
 use Rattle.cfi_processes.specs.Modules.{module_view}
 use Rattle.cfi_processes.specs.ThreadNames.{bytes_of}
 use Rattle.cfi_processes.proofs.CodeLemmas.{modules_sorted}
-use Rattle.cfi_stacks.specs.CoreOutputs.{thread_text}
+use Rattle.cfi_stacks.specs.CoreOutputs.{thread_in}
 use Rattle.cfi_stacks.proofs.RoomLemmas.{numbered_before, room_after, rows_after, rows_before}
 use Rattle.cfi_stacks.proofs.core_text.print_thread.Goals as goal
 
@@ -15,7 +15,7 @@ unreachable-requires g c =
 
 pub returns-clause-printed : goal.returns-clause-printed
 returns-clause-printed g c = (
-  thread_text c.args.raw (map known_view c.args.code.now.files.now) c.args.code.now.mappings.now (bytes_of c.args.name) (thread_view c.args.thread.now) c.unwind_thread-found.result c.unwind_thread-found.new.frames,
+  thread_in c.args.listing (map known_view c.args.code.now.files.now) c.args.code.now.mappings.now (bytes_of c.args.name) (thread_view c.args.thread.now) c.unwind_thread-found.result c.unwind_thread-found.new.frames,
   c.print_found.ensures,
   (
     module_list c.in-Ok.modules,

@@ -1,6 +1,10 @@
 use Rattle.std.proofs.Common.{sym}
 use Rattle.cfi_processes.proofs.ModuleLemmas.{still_of_files}
+use Rattle.cfi_perf.specs.Samples.{sample_view}
+use Rattle.cfi_processes.specs.Replays.{files_in}
+use Rattle.cfi_stacks.specs.ProfileOutputs.{known_in}
 use Rattle.cfi_stacks.proofs.RoomLemmas.{still_room_for}
+use Rattle.cfi_stacks.proofs.RunLemmas.{text_alone}
 use Rattle.cfi_stacks.proofs.run.print_followed.Goals as goal
 
 pub print_sample-requires-clause-files : goal.print_sample-requires-clause-files
@@ -17,4 +21,5 @@ pub returns-in-Sample-clause-printed : goal.returns-in-Sample-clause-printed
 returns-in-Sample-clause-printed g c =
     let printed = c.print_sample.ensures.printed in
     let of_replay = rw (c.code-kernel.ensures.files, c.code-kernel.ensures.mappings, c.code-code.ensures.files, c.code-code.ensures.mappings, c.name.ensures) at printed.2 in
-    (printed.0, printed.1, rw c.in-Sample.is of_replay)
+    let alone = text_alone c.args.style c.args.machine (files_in c.args.replay.now) (known_in c.args.replay.now) c.args.item.now.time (sample_view c.in-Sample.sample) printed.0 of_replay in
+    (printed.0, printed.1, rw c.in-Sample.is alone)

@@ -1,9 +1,7 @@
-use Rattle.std.proofs.Common.{◌∙◌, ℕ, ap, map}
-use Rattle.std.specs.List.{flat_map}
+use Rattle.std.proofs.Common.{ℕ, ap, map}
 use Rattle.cfi_programs.proofs.WrittenLemmas.{beginning_then, given_all, given_then, writes_refused}
-use Rattle.cfi_perf.specs.CallChains.{addresses_left}
 use Rattle.cfi_processes.specs.KnownFiles.{chain_site, known_view}
-use Rattle.cfi_processes.specs.Sites.{Site, site_view}
+use Rattle.cfi_processes.specs.Sites.{site_view}
 use Rattle.cfi_stacks.specs.StackTexts.{site_line}
 use Rattle.cfi_stacks.proofs.ChainLemmas.{line_then, no_line}
 use Rattle.cfi_stacks.proofs.sample_text.print_chain.Goals as goal

@@ -5,7 +5,7 @@ use Rattle.cfi_processes.specs.KnownFiles.{kernel_site, known_view}
 use Rattle.cfi_processes.specs.Modules.{module_view}
 use Rattle.cfi_processes.specs.ThreadNames.{bytes_of}
 use Rattle.cfi_processes.proofs.CodeLemmas.{modules_sorted}
-use Rattle.cfi_stacks.specs.ProfileOutputs.{sample_text}
+use Rattle.cfi_stacks.specs.ProfileOutputs.{sample_in}
 use Rattle.cfi_stacks.proofs.RoomLemmas.{numbered_before, room_after, rows_after, rows_before}
 use Rattle.cfi_stacks.proofs.sample_text.print_sample.Goals as goal
 
@@ -15,7 +15,7 @@ unreachable-requires g c =
 
 pub returns-clause-printed : goal.returns-clause-printed
 returns-clause-printed g c = (
-  sample_text c.args.raw (kernel_site (map known_view c.args.kernel.now.files.now) c.args.kernel.now.mappings.now) (map known_view c.args.code.now.files.now) c.args.code.now.mappings.now (bytes_of c.args.name) c.args.time (sample_view c.args.sample.now) c.unwind_sample-found.result c.unwind_sample-found.new.frames,
+  sample_in c.args.style (kernel_site (map known_view c.args.kernel.now.files.now) c.args.kernel.now.mappings.now) (map known_view c.args.code.now.files.now) c.args.code.now.mappings.now (bytes_of c.args.name) c.args.time (sample_view c.args.sample.now) c.unwind_sample-found.result c.unwind_sample-found.new.frames,
   c.print_found.ensures,
   (
     module_list c.in-Ok.modules,

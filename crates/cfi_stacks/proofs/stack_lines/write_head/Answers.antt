@@ -1,4 +1,4 @@
-use Rattle.std.proofs.Common.{◌++◌, ◌∷◌, [], codes, map}
+use Rattle.std.proofs.Common.{map}
 use Rattle.cfi_perf.specs.Samples.{sample_view}
 use Rattle.cfi_programs.specs.FunctionLines.{shown}
 use Rattle.cfi_programs.proofs.DumpSectionWritten.{first_refused, last_written}

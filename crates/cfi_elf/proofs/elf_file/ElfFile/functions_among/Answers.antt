@@ -3,9 +3,10 @@ use Rattle.std.specs.List.{filter_map}
 use Rattle.cfi_elf.specs.FunctionNames.{named_function}
 use Rattle.cfi_elf.specs.SymbolTables.{function_view}
 use Rattle.cfi_elf.specs.ElfFiles.{class_of_file, file_view, is_big_file}
+use Rattle.cfi_elf.specs.FunctionEntries.{located}
 use Rattle.cfi_elf.specs.Headers.{symbol, symbol_bytes}
 use Rattle.cfi_elf.specs.SymbolTables.{symbol_table_view, symbols}
-use Rattle.cfi_elf.proofs.EntrySteps.{next_left, none_is, none_left}
+use Rattle.cfi_elf.proofs.EntrySteps.{next_left, none_is, none_left_of}
 use Rattle.cfi_elf.proofs.FunctionLists.{none_gathered, one_gathered}
 use Rattle.cfi_elf.proofs.elf_file.ElfFile.functions_among.Goals as goal
 use Rattle.cfi_elf.proofs.elf_file.ElfFile.functions_among.Goals.{in-Some-named_function+in_ok-push, in_default-named_function}
@@ -37,4 +38,4 @@ pub returns : goal.returns
 returns c =
     let functions = map function_view c.loop-index.functions.items in
     sym (append-nil functions)
-    ∙ (ap (λ xs. functions ++ filter_map (named_function c.args.table.names.now) xs) (sym (none_left (symbol (class_of_file (file_view c.args.self.now)) (is_big_file (file_view c.args.self.now))) (symbol_bytes (class_of_file (file_view c.args.self.now))) c.args.table.bytes.now c.loop-index.index (omega (arith, c.loop-index-test.false)))) ∙ c.loop-index.invariant)
+    ∙ (ap (λ xs. functions ++ filter_map (named_function c.args.table.names.now) xs) (sym (none_left_of (located (file_view c.args.self.now) (symbol_table_view c.args.table).descriptors) (symbol (class_of_file (file_view c.args.self.now)) (is_big_file (file_view c.args.self.now))) (symbol_bytes (class_of_file (file_view c.args.self.now))) c.args.table.bytes.now c.loop-index.index (omega (arith, c.loop-index-test.false)))) ∙ c.loop-index.invariant)

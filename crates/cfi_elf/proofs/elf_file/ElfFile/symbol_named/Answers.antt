@@ -2,9 +2,10 @@ use Rattle.std.proofs.Common.{◌≡◌, ◌∙◌, Ok, Err, sym, ap, rules, ari
 use Rattle.cfi_elf.specs.Searches.{first_by}
 use Rattle.cfi_elf.specs.SymbolTables.{is_symbol_named}
 use Rattle.cfi_elf.specs.ElfFiles.{class_of_file, file_view, is_big_file}
+use Rattle.cfi_elf.specs.FunctionEntries.{located}
 use Rattle.cfi_elf.specs.Headers.{symbol, symbol_bytes}
 use Rattle.cfi_elf.specs.SymbolTables.{symbol_table_view, symbols}
-use Rattle.cfi_elf.proofs.EntrySteps.{none_is, none_left, search_step}
+use Rattle.cfi_elf.proofs.EntrySteps.{none_is, none_left_of, search_step}
 use Rattle.cfi_elf.proofs.elf_file.ElfFile.symbol_named.Goals as goal
 
 pub returns-in_default : goal.returns-in_default
@@ -22,4 +23,4 @@ pub loop-index-preserved : goal.loop-index-preserved
 loop-index-preserved c = sym (search_step (is_symbol_named c.args.table.names.now c.args.name.now) (symbols (file_view c.args.self.now) (symbol_table_view c.args.table)) c.loop-index.index c.in-Some.symbol _ c.in-Some.ensures (sym c.in_ok-is_symbol_named.ensures ∙ ap Ok c.if-branch.false)) ∙ c.loop-index.invariant
 
 pub returns : goal.returns
-returns c = sym (ap (first_by (is_symbol_named c.args.table.names.now c.args.name.now)) (none_left (symbol (class_of_file (file_view c.args.self.now)) (is_big_file (file_view c.args.self.now))) (symbol_bytes (class_of_file (file_view c.args.self.now))) c.args.table.bytes.now c.loop-index.index (omega (arith, c.loop-index-test.false)))) ∙ c.loop-index.invariant
+returns c = sym (ap (first_by (is_symbol_named c.args.table.names.now c.args.name.now)) (none_left_of (located (file_view c.args.self.now) (symbol_table_view c.args.table).descriptors) (symbol (class_of_file (file_view c.args.self.now)) (is_big_file (file_view c.args.self.now))) (symbol_bytes (class_of_file (file_view c.args.self.now))) c.args.table.bytes.now c.loop-index.index (omega (arith, c.loop-index-test.false)))) ∙ c.loop-index.invariant

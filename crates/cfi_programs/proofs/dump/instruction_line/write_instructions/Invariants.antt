@@ -3,6 +3,7 @@ use Rattle.cfi_parts.specs.InstructionReaders.{instructions_left}
 use Rattle.cfi_parts.specs.InstructionIterators.{instruction_reader}
 use Rattle.cfi_programs.proofs.WrittenLemmas.{IsGiven}
 use Rattle.cfi_programs.specs.DumpInstructionLines.{instructions_text}
+use Rattle.cfi_programs.specs.Wordings.{text_style, worded}
 use Rattle.cfi_programs.proofs.dump.instruction_line.write_instructions.Given as goal
 
 -- what is left to write is the text of the instructions that are left
@@ -12,6 +13,6 @@ invariant-loop-instruction g l =
       can_next : (goal.iterator-loop-instruction g).can_next l.instruction-iterator;
       is_finite : (goal.iterator-loop-instruction g).is_finite l.instruction-iterator;
       given : IsGiven (g.W.Write.contents l.initial.output) (g.W.Write.contents l.output)
-          (instructions_text l.names l.factor (size_in_bytes l.size) l.at (instructions_left (instruction_reader g.R.Reader.position l.instruction-iterator)))
-          (instructions_text l.names l.factor (size_in_bytes l.size) l.fn.start (instructions_left (instruction_reader g.R.Reader.position l.fn.instructions)));
+          (instructions_text (worded (text_style l.names) (g.S._UnwindSectionPrivate.view l.section).address_size (g.S._UnwindSectionPrivate.view l.section).position) l.factor (size_in_bytes l.size) l.at (instructions_left (instruction_reader g.R.Reader.position l.instruction-iterator)))
+          (instructions_text (worded (text_style l.names) (g.S._UnwindSectionPrivate.view l.section).address_size (g.S._UnwindSectionPrivate.view l.section).position) l.factor (size_in_bytes l.size) l.fn.start (instructions_left (instruction_reader g.R.Reader.position l.fn.instructions)));
     }

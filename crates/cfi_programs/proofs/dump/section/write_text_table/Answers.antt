@@ -2,6 +2,7 @@ use Rattle.std.proofs.Common.{◌∙◌, ap, refl, sym, Some}
 use Rattle.cfi_state.specs.ContextEffects.{setting_of}
 use Rattle.cfi_programs.proofs.WrittenLemmas.{given_part, writes_refused}
 use Rattle.cfi_programs.proofs.DumpRowsWritten.{fewer_after, all_written, line_begun, line_waits, line_written, out_begun, out_written, stands_first}
+use Rattle.cfi_programs.proofs.RowWordsLemmas.{pushed_in_words}
 use Rattle.cfi_programs.proofs.dump.section.write_text_table.Goals as goal
 use Rattle.cfi_programs.proofs.dump.section.write_text_table.Goals.{then-len-gt-FULL_OF_LINES+in_ok-write_out, else-len-gt-FULL_OF_LINES}
 
@@ -46,11 +47,11 @@ pub loop-answer-preserved : goal.loop-answer-preserved
 loop-answer-preserved g c = elim c.if-len-gt-FULL_OF_LINES.branch [
   | then-len-gt-FULL_OF_LINES+in_ok-write_out w ↦ (
     ap (λ p. setting_of p (Some 192) (Some 4)) c.next_row.follows.holds-at-none.1 ∙ c.loop-answer.invariant.0,
-    λ program stands. rw w.output-is (line_waits _ refl refl _ c.loop-answer.invariant.0 _ _ c.next_row.result _ _ c.next_row.follows.holds-at-none.0 _ _ _ _ _ (out_written _ _ _ _ _ _ _ _ (c.loop-answer.invariant.1 program stands) _ w.in_ok-write_out.ensures.empty w.in_ok-write_out.ensures.written) c.in-Some.answer (sym c.transpose.ensures ∙ c.in-Some.is) _ (rw w.text-is at (c.in_ok-push_next.ensures.pushed c.if-not-branch.false))),
+    λ program stands. rw w.output-is (line_waits _ refl refl _ c.loop-answer.invariant.0 _ _ c.next_row.result _ _ c.next_row.follows.holds-at-none.0 _ _ _ _ _ (out_written _ _ _ _ _ _ _ _ (c.loop-answer.invariant.1 program stands) _ w.in_ok-write_out.ensures.empty w.in_ok-write_out.ensures.written) c.in-Some.answer (sym c.transpose.ensures ∙ c.in-Some.is) _ (rw w.text-is at (pushed_in_words c.args.names (g.S._UnwindSectionPrivate.view c.args.section.now).address_size (g.S._UnwindSectionPrivate.view c.args.section.now).position _ _ _ (c.in_ok-push_next.ensures.plain c.if-not-branch.false) (c.in_ok-push_next.ensures.pushed c.if-not-branch.false)))),
   )
   | else-len-gt-FULL_OF_LINES w ↦ (
     ap (λ p. setting_of p (Some 192) (Some 4)) c.next_row.follows.holds-at-none.1 ∙ c.loop-answer.invariant.0,
-    λ program stands. rw w.output-is (line_waits _ refl refl _ c.loop-answer.invariant.0 _ _ c.next_row.result _ _ c.next_row.follows.holds-at-none.0 _ _ _ _ _ (c.loop-answer.invariant.1 program stands) c.in-Some.answer (sym c.transpose.ensures ∙ c.in-Some.is) _ (rw w.text-is at (c.in_ok-push_next.ensures.pushed c.if-not-branch.false))),
+    λ program stands. rw w.output-is (line_waits _ refl refl _ c.loop-answer.invariant.0 _ _ c.next_row.result _ _ c.next_row.follows.holds-at-none.0 _ _ _ _ _ (c.loop-answer.invariant.1 program stands) c.in-Some.answer (sym c.transpose.ensures ∙ c.in-Some.is) _ (rw w.text-is at (pushed_in_words c.args.names (g.S._UnwindSectionPrivate.view c.args.section.now).address_size (g.S._UnwindSectionPrivate.view c.args.section.now).position _ _ _ (c.in_ok-push_next.ensures.plain c.if-not-branch.false) (c.in_ok-push_next.ensures.pushed c.if-not-branch.false)))),
   )
 ]
 

@@ -6,7 +6,7 @@ use Rattle.cfi_state.specs.Program.{Program}
 use Rattle.cfi_state.specs.UnwindTableStates.{answers_to_come}
 use Rattle.cfi_unwind.specs.UnwindTableViews.{table_state}
 use Rattle.cfi_programs.specs.DumpSectionTexts.{lines}
-use Rattle.cfi_programs.specs.AnswerLines.{text_style}
+use Rattle.cfi_programs.specs.Wordings.{text_style, worded}
 use Rattle.cfi_programs.proofs.DumpRowsWritten.{StandsAt, answers_left}
 use Rattle.cfi_programs.proofs.dump.section.write_text_table.Given as goal
 
@@ -15,9 +15,11 @@ abbrev pub invariant-loop-answer : goal.invariant-loop-answer
 invariant-loop-answer g l =
     let setting = setting_of l.initial.table.parameters (Some 192) (Some 4) in
     let first = table_state g.R.Reader.position (λ n. n) l.initial.table in
+    let from = g.S._UnwindSectionPrivate.view l.section in
+    let wording = worded (text_style l.names) from.address_size from.position in
     (setting_of l.table.parameters (Some 192) (Some 4) ≡ setting)
     × ((program : Program ℕ) → IsStateAfter setting first.so_far program
-    → StandsAt (text_style l.names) setting (table_state g.R.Reader.position (λ n. n) l.table) (g.W.Write.contents l.initial.output) (g.W.Write.contents l.output) l.text.items (lines (text_style l.names) (answers_to_come setting (at_program first program))))
+    → StandsAt wording setting (table_state g.R.Reader.position (λ n. n) l.table) (g.W.Write.contents l.initial.output) (g.W.Write.contents l.output) l.text.items (lines wording (answers_to_come setting (at_program first program))))
 
 abbrev pub decreases-loop-answer : goal.decreases-loop-answer
 decreases-loop-answer g l = answers_left (table_state g.R.Reader.position (λ n. n) l.table)

@@ -1,0 +1,66 @@
+-- The records of bytes of which only a window is at hand.
+--     IsWindow window others left      the window is followed by these other bytes, and has enough
+--         of the bytes that are left to read the first record
+--     bytes_left walk, place_in walk      how many bytes are left, and where the next record is
+--     records_in walk bytes      those that a walk of the code finds in the bytes that it has left
+--     record_alone walk bytes      the record that these bytes are
+--     framed_in, first_in      what the code finds in a window, of all bytes
+use Rattle.std.specs.Prelude.{◌≡◌, ◌⊎◌, ◌≤◌, ℕ, ◌+◌, ◌-◌, List, drop, length, min, Option, Some}
+use Rattle.std.specs.Prelude.{Result, Ok}
+use Rattle.cfi_read_core.specs.ByteOrder.{is_big}
+use Rattle.cfi_read_core.specs.ReaderCalls.{map_ok}
+use Rattle.cfi_perf.specs.declared.error.PerfError.{PerfError}
+use Rattle.cfi_perf.specs.declared.windows.RecordWalk.{RecordWalk}
+use Rattle.cfi_perf.specs.declared.windows.FramedIn.{FramedIn}
+use Rattle.cfi_perf.specs.declared.windows.FirstIn.{FirstIn}
+use Rattle.cfi_perf.specs.EventTables.{table_view}
+use Rattle.cfi_perf.specs.Events.{OtherEvent, Record, record_view}
+use Rattle.cfi_perf.specs.Records.{First, Framed, Records, first_record, records_of, until_cut}
+
+-- The size of a record is a number of 16 bits (struct perf_event_header).
+pub record IsWindow (window others : List ℕ) (left : ℕ) : Type 0 where
+  pub all : length window + length others ≡ left
+  pub enough : min 65535 left ≤ length window
+
+-- ---- what the code finds
+
+abbrev pub framed_in : List ℕ → FramedIn → Framed
+framed_in bytes f = record { header = f.header; body = f.body.now; others = drop f.size bytes }
+
+abbrev pub first_in : List ℕ → FirstIn → First
+first_in bytes f = record { first = record_view f.first; others = drop f.size bytes }
+
+-- ---- a walk
+
+abbrev pub records_in : RecordWalk → List ℕ → Records
+records_in walk bytes =
+    until_cut walk.is_cut (records_of (table_view walk.events) (is_big walk.endian) bytes)
+
+abbrev pub bytes_left : RecordWalk → ℕ
+bytes_left walk = walk.left
+
+-- where the next record is in the file
+abbrev pub place_in : RecordWalk → ℕ
+place_in walk = walk.end - walk.left
+
+-- how many bytes were passed
+abbrev pub passed : RecordWalk → RecordWalk → ℕ
+passed old new = old.left - new.left
+
+abbrev pub first_of : First → Record
+first_of found = found.first
+
+abbrev pub record_alone : RecordWalk → List ℕ → Result Record PerfError
+record_alone walk bytes =
+    map_ok first_of (first_record (table_view walk.events) (is_big walk.endian) bytes)
+
+-- that a record is the one that these bytes are
+abbrev pub IsAlone : RecordWalk → List ℕ → Result (Option Record) PerfError → Type 0
+IsAlone walk bytes (Ok (Some r)) = record_alone walk bytes ≡ Ok r
+IsAlone walk bytes _ = Unit {0}
+
+-- that the bytes that were passed are among the first of these, but for records that say nothing:
+-- behind those may be a trace
+abbrev pub IsWithin : ℕ → ℕ → Result (Option Record) PerfError → Type 0
+IsWithin count window (Ok (Some r)) = (r.event ≡ OtherEvent) ⊎ (count ≤ window)
+IsWithin count window _ = Unit {0}

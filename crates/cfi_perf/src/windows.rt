@@ -1,0 +1,247 @@
+//! The records of a profile whose bytes are read by parts: each by a window, the bytes that the
+//! caller has of those that are left.
+ghost use Rattle.std.specs.Prelude.{◌≡◌, ◌⊎◌, ◌≤◌, ◌-◌, ◌++◌, ℕ, List, IfOk, Some, drop};
+ghost use Rattle.std.specs.Prelude.{length, min, option_map, take};
+ghost use Rattle.cfi_read_core.specs.ByteOrder.{is_big};
+ghost use Rattle.cfi_read_core.specs.ReaderCalls.{map_ok};
+ghost use Rattle.cfi_perf.specs.EventTables.{table_view};
+ghost use Rattle.cfi_perf.specs.Events.{OtherEvent, record_view};
+ghost use Rattle.cfi_perf.specs.Records.{Meets, after_record, first_record, no_records};
+ghost use Rattle.cfi_perf.specs.Records.{records_of, split_record, until_cut};
+ghost use Rattle.cfi_perf.specs.Windows.{IsAlone, IsWindow, IsWithin, bytes_left, first_in};
+ghost use Rattle.cfi_perf.specs.Windows.{framed_in, passed, place_in, record_alone, records_in};
+
+use crate::bytes::part;
+use crate::error::PerfError;
+use crate::event_table::EventTable;
+use crate::record::Record;
+use crate::records::{
+    PERF_RECORD_AUXTRACE, RecordHeader, first_record, read_record_header, record_of,
+};
+use cfi_read_core::{EndianSlice, Reader, RunTimeEndian};
+
+/// The greatest size of a record, in bytes.
+const GREATEST_SIZE: u64 = 65535;
+
+/// A walk over the records of a profile whose bytes are read by parts, in the order of the file.
+/// For each record the caller gives a window: bytes from the place of the record on. After an error
+/// or the end there is nothing more.
+#[derive(Clone, Copy, Debug)]
+pub struct RecordWalk<'input> {
+    events: EventTable<'input>,
+    endian: RunTimeEndian,
+    /// Where the records end in the file.
+    end: u64,
+    /// How many of their bytes are left.
+    left: u64,
+    /// Whether the file ends before the records do.
+    is_cut: bool,
+}
+
+impl<'input> RecordWalk<'input> {
+    /// Over the records of which so many bytes are left, which end at this place of the file.
+    #[inline(always)]
+    pub(crate) fn new(
+        events: EventTable<'input>,
+        endian: RunTimeEndian,
+        end: u64,
+        left: u64,
+        is_cut: bool,
+    ) -> Self
+        ensures records { (bytes : List ℕ) → records_in result bytes ≡ until_cut is_cut
+            (records_of (table_view events.entry) (is_big endian) bytes) }
+        ensures left { bytes_left result ≡ left }
+        ensures place { place_in result ≡ end - left }
+    {
+        RecordWalk {
+            events,
+            endian,
+            end,
+            left,
+            is_cut,
+        }
+    }
+
+    /// How many bytes the records have that were not passed; 0 after an error.
+    #[inline(always)]
+    pub fn left(&self) -> u64
+        ensures { result ≡ bytes_left self.now }
+    {
+        self.left
+    }
+
+    /// Where the next record is in the file.
+    #[inline(always)]
+    pub fn place(&self) -> u64
+        ensures { result ≡ place_in self.now }
+    {
+        self.end.saturating_sub(self.left)
+    }
+
+    /// How many bytes the next window has at least: all that are left, or as many as a record has
+    /// at most.
+    #[inline(always)]
+    pub fn needed(&self) -> u64
+        ensures { result ≡ min 65535 (bytes_left self.now) }
+    {
+        GREATEST_SIZE.min(self.left)
+    }
+
+    /// Returns the next record, by a window that begins at its place, or `None` at the end. The
+    /// bytes that `left` is less by are the record's own: they are all in the window, but of an
+    /// `Event::Other`, behind which may be a trace.
+    ///
+    /// Fails as `Records::next` does. Does not allocate.
+    pub fn next<'w>(&mut self, window: &'w [u8]) -> Result<Option<Record<'w>>, PerfError>
+    where
+        'input: 'w,
+        ensures met { (others : List ℕ) → IsWindow window.now others (bytes_left self.old)
+            → Meets (map_ok (option_map record_view) result)
+            (records_in self.old (window.now ++ others))
+            (records_in self.new (drop (passed self.old self.new) (window.now ++ others))) }
+        ensures alone { (others : List ℕ) → IsWindow window.now others (bytes_left self.old)
+            → IsAlone self.old (take (passed self.old self.new) (window.now ++ others))
+            (map_ok (option_map record_view) result) }
+        ensures within { IsWithin (passed self.old self.new) (length window.now)
+            (map_ok (option_map record_view) result) }
+        ensures fewer { bytes_left self.new ≤ bytes_left self.old }
+        ensures same { (bytes : List ℕ)
+            → record_alone self.new bytes ≡ record_alone self.old bytes }
+    {
+        if self.left == 0 {
+            if self.is_cut {
+                self.is_cut = false;
+                return Err(PerfError::DataOutOfBounds);
+            }
+            return Ok(None);
+        }
+        match first_in_window(&self.events, self.endian, window, self.left) {
+            Ok(found) => {
+                self.left = self.left.saturating_sub(found.size);
+                Ok(Some(found.first))
+            }
+            Err(error) => {
+                let error = end_error(self.is_cut, error);
+                self.left = 0;
+                self.is_cut = false;
+                Err(error)
+            }
+        }
+    }
+
+    /// Reads a record again that `next` has returned, by its own bytes alone.
+    ///
+    /// Of other bytes it is their first record, and fails as `Records::next` does. Does not
+    /// allocate.
+    pub fn read_again<'w>(&self, bytes: &'w [u8]) -> Result<Record<'w>, PerfError>
+    where
+        'input: 'w,
+        ensures { map_ok record_view result ≡ record_alone self.now bytes.now }
+    {
+        match first_record(&self.events, self.endian, bytes) {
+            Ok(found) => Ok(found.first),
+            Err(error) => Err(error),
+        }
+    }
+}
+
+/// A record's header, its other bytes, and how many bytes it takes, with those of a trace behind
+/// it.
+#[derive(Clone, Copy, Debug)]
+pub(crate) struct FramedIn<'w> {
+    pub(crate) header: RecordHeader,
+    pub(crate) body: &'w [u8],
+    pub(crate) size: u64,
+}
+
+/// The first record, and how many bytes it takes, with those of a trace behind it.
+#[derive(Clone, Copy, Debug)]
+pub(crate) struct FirstIn<'w> {
+    pub(crate) first: Record<'w>,
+    pub(crate) size: u64,
+}
+
+/// The error that ends the records where one of them has this.
+fn end_error(is_cut: bool, error: PerfError) -> PerfError
+    ensures { Some result ≡ (until_cut is_cut (no_records (Some error))).error }
+{
+    match error {
+        PerfError::RecordCut if is_cut => PerfError::DataOutOfBounds,
+        _ => error,
+    }
+}
+
+/// Reads the first record of the bytes that are left, by a window of them.
+fn first_in_window<'w>(
+    events: &EventTable<'w>,
+    endian: RunTimeEndian,
+    window: &'w [u8],
+    left: u64,
+) -> Result<FirstIn<'w>, PerfError>
+    ensures first { (others : List ℕ) → IsWindow window.now others left
+        → map_ok (first_in (window.now ++ others)) result
+        ≡ first_record (table_view events.now) (is_big endian) (window.now ++ others) }
+    ensures within { IfOk result (λ found.
+        ((record_view found.first).event ≡ OtherEvent) ⊎ (found.size ≤ length window.now)) }
+{
+    let found = split_window(endian, window, left)?;
+    let first = record_of(events, endian, &found.header, found.body)?;
+    Ok(FirstIn {
+        first,
+        size: found.size,
+    })
+}
+
+/// Splits the first record off the bytes that are left, by a window of them.
+fn split_window(endian: RunTimeEndian, window: &[u8], left: u64) -> Result<FramedIn<'_>, PerfError>
+    ensures framed { (others : List ℕ) → IsWindow window.now others left
+        → map_ok (framed_in (window.now ++ others)) result
+        ≡ split_record (is_big endian) (window.now ++ others) }
+    ensures within { IfOk result (λ found.
+        (found.header.kind ≡ 71) ⊎ (found.size ≤ length window.now)) }
+{
+    let mut input = EndianSlice::new(window, endian);
+    let Ok(header) = read_record_header(&mut input) else {
+        return Err(PerfError::RecordCut);
+    };
+    let size = u64::from(header.size);
+    if size < 8 {
+        return Err(PerfError::RecordSize(header.size));
+    }
+    let Some(body) = part(window, 8, size - 8) else {
+        return Err(PerfError::RecordCut);
+    };
+    let trace = trace_size(endian, &header, body, left.saturating_sub(size))?;
+    Ok(FramedIn {
+        header,
+        body,
+        size: size + trace,
+    })
+}
+
+/// How many bytes stand between a record and the next, of so many behind it: those of a trace of
+/// which it tells.
+fn trace_size(
+    endian: RunTimeEndian,
+    header: &RecordHeader,
+    body: &[u8],
+    behind: u64,
+) -> Result<u64, PerfError>
+    ensures others { (others : List ℕ) → length others ≡ behind
+        → map_ok (λ size. drop size others) result
+        ≡ after_record (is_big endian) header.now body.now others }
+    ensures within { IfOk result (λ size. size ≤ behind) }
+    ensures none { IfOk result (λ size. (header.now.kind ≡ 71) ⊎ (size ≡ 0)) }
+{
+    if header.kind != PERF_RECORD_AUXTRACE {
+        return Ok(0);
+    }
+    let mut input = EndianSlice::new(body, endian);
+    let Ok(size) = input.read_u64() else {
+        return Err(PerfError::RecordCut);
+    };
+    if behind < size {
+        return Err(PerfError::RecordCut);
+    }
+    Ok(size)
+}

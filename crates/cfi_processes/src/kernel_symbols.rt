@@ -1,0 +1,160 @@
+//! The symbols of the kernel, as it tells them (`/proc/kallsyms`, proc(5)).
+ghost use Rattle.std.specs.Prelude.{◌≡◌, IfOk, map, option_map};
+ghost use Rattle.std.specs.List.{filter_map};
+ghost use Rattle.cfi_processes.specs.KernelSymbols.{address_among, address_if, is_data_type};
+ghost use Rattle.cfi_processes.specs.KernelSymbols.{is_function_type, is_kernel_name, kind_by};
+ghost use Rattle.cfi_processes.specs.KernelSymbols.{kind_of, symbol_from, symbol_named, symbol_of};
+ghost use Rattle.cfi_processes.specs.KernelSymbols.{symbol_typed, symbols_of};
+ghost use Rattle.cfi_processes.specs.TextSymbols.{parts_at, parts_view, symbol_view};
+
+use crate::text_symbols::{Parts, TextSymbol, lines_of, number_of, parts_at};
+use std::alloc::{AllocError, Global};
+
+/// What profiles name the kernel's own code.
+pub const KERNEL_IMAGE: &[u8] = b"[kernel.kallsyms]";
+
+/// Returns whether a mapping with this name is of the kernel itself: behind `KERNEL_IMAGE` it has
+/// the name of a symbol, as `_text`. Does not allocate.
+pub fn is_kernel_name(name: &[u8]) -> bool
+    ensures { result ≡ is_kernel_name name.now }
+{
+    name.starts_with(KERNEL_IMAGE)
+}
+
+/// The symbols of a text, in the order of its lines. Fails where memory is refused.
+#[tactic(auto, unfolding(crate::specs::KernelSymbols::symbols_of))]
+pub fn symbols_of<'run>(
+    alloc: Global,
+    text: &'run [u8],
+) -> Result<Vec<TextSymbol<'run>>, AllocError>
+    ensures { IfOk result (λ symbols. map symbol_view symbols.items ≡ symbols_of text.now) }
+{
+    let lines = lines_of(alloc, text)?;
+    symbols_on(alloc, lines.as_slice())
+}
+
+/// The symbols of these lines.
+fn symbols_on<'run>(
+    alloc: Global,
+    lines: &[&'run [u8]],
+) -> Result<Vec<TextSymbol<'run>>, AllocError>
+    ensures { IfOk result (λ symbols. map symbol_view symbols.items
+        ≡ filter_map symbol_of (map (λ line. line.now) lines.now)) }
+{
+    let mut symbols = Vec::new(alloc);
+    for line in lines {
+        if let Some(symbol) = symbol_of(line) {
+            symbols.push(symbol)?;
+        }
+    }
+    Ok(symbols)
+}
+
+/// The symbol of a line; `None` where it isn't a number, a type and a name, or the type is neither
+/// that of a function nor of data.
+fn symbol_of(line: &[u8]) -> Option<TextSymbol<'_>>
+    ensures { option_map symbol_view result ≡ symbol_of line.now }
+{
+    symbol_from(parts_at(line, b' ')?)
+}
+
+/// The symbol of a line of which the first part is its address.
+fn symbol_from(line: Parts<'_>) -> Option<TextSymbol<'_>>
+    ensures { option_map symbol_view result ≡ symbol_from (parts_view line.entry) }
+{
+    let address = number_of(line.front)?;
+    symbol_typed(address, parts_at(line.rest, b' ')?)
+}
+
+/// The symbol at an address, with its type as the first of these parts.
+fn symbol_typed(address: u64, parts: Parts<'_>) -> Option<TextSymbol<'_>>
+    ensures { option_map symbol_view result ≡ symbol_typed address (parts_view parts.entry) }
+{
+    let is_function = kind_of(parts.front)?;
+    Some(symbol_named(address, is_function, parts.rest))
+}
+
+/// The symbol with this name, or with the name and the module that are before and behind a tab.
+fn symbol_named(address: u64, is_function: bool, name: &[u8]) -> TextSymbol<'_>
+    ensures { symbol_view result
+        ≡ symbol_named address is_function name.entry.now (parts_at 9 name.entry.now) }
+{
+    match parts_at(name, b'\t') {
+        Some(parts) => TextSymbol {
+            address,
+            size: 0,
+            is_function,
+            name: parts.front,
+            owner: Some(parts.rest),
+        },
+        None => TextSymbol {
+            address,
+            size: 0,
+            is_function,
+            name,
+            owner: None,
+        },
+    }
+}
+
+/// Whether a symbol of the type is a function; `None` where it is neither that nor data.
+fn kind_of(kind: &[u8]) -> Option<bool>
+    ensures { result ≡ kind_of kind.now }
+{
+    let (letter, others) = kind.split_first()?;
+    if others.is_empty() {
+        kind_by(*letter)
+    } else {
+        None
+    }
+}
+
+/// The same by the letter of the type.
+fn kind_by(letter: u8) -> Option<bool>
+    ensures { result ≡ kind_by letter }
+{
+    if is_function_type(letter) {
+        Some(true)
+    } else if is_data_type(letter) {
+        Some(false)
+    } else {
+        None
+    }
+}
+
+/// Whether the letter is the type of functions.
+fn is_function_type(letter: u8) -> bool
+    ensures { result ≡ is_function_type letter }
+{
+    letter == b'T' || letter == b't' || letter == b'W' || letter == b'w'
+}
+
+/// Whether the letter is the type of data.
+fn is_data_type(letter: u8) -> bool
+    ensures { result ≡ is_data_type letter }
+{
+    letter == b'D' || letter == b'd' || letter == b'B' || letter == b'b'
+}
+
+/// The address of the first symbol of the kernel itself with this name. Does not allocate.
+pub fn address_among(symbols: &[TextSymbol<'_>], name: &[u8]) -> Option<u64>
+    ensures { result ≡ address_among (map symbol_view symbols.now) name.now }
+{
+    for symbol in symbols {
+        if let Some(address) = address_if(symbol, name) {
+            return Some(address);
+        }
+    }
+    None
+}
+
+/// The address of a symbol, if it is one of the kernel itself with this name.
+fn address_if(symbol: &TextSymbol<'_>, name: &[u8]) -> Option<u64>
+    ensures { result ≡ address_if name.now (symbol_view symbol.now) }
+{
+    if symbol.owner.is_none() && symbol.name == name {
+        Some(symbol.address)
+    } else {
+        None
+    }
+}

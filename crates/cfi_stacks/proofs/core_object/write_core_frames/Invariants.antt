@@ -1,0 +1,12 @@
+use Rattle.std.proofs.Common.{drop, map, true}
+use Rattle.cfi_programs.specs.JsonLines.{separated}
+use Rattle.cfi_programs.proofs.WrittenLemmas.{IsGiven}
+use Rattle.cfi_processes.specs.KnownFiles.{known_view}
+use Rattle.cfi_stacks.specs.CoreOutputs.{core_objects}
+use Rattle.cfi_stacks.proofs.core_object.write_core_frames.Given as goal
+
+abbrev pub invariant-loop-frame : goal.invariant-loop-frame
+invariant-loop-frame g l =
+    let files = map known_view l.code.files.now in
+    let list = l.code.mappings.now in
+    IsGiven (g.W.Write.contents l.initial.output) (g.W.Write.contents l.output) (separated l.is_first (core_objects l.raw files list (drop l.frame-index l.frames))) (separated true (core_objects l.raw files list l.frames))
