@@ -104,7 +104,7 @@ not_told = refl
 of_node : of_code (codes "18c4000 300 Builtin:DeoptimizationEntry_Eager") ≡ Some (record { address = 0x18c4000; size = 0x300; is_function = true; name = codes "Builtin:DeoptimizationEntry_Eager"; owner = None })
 of_node = refl
 
-name_with_spaces : option_map (λ (s : Symbol). s.name) (of_code (codes "7f7274006180 1d4 JS:*fib /work/fib.js:1:13")) ≡ Some (codes "JS:*fib /work/fib.js:1:13")
+name_with_spaces : option_map (λ (s : Symbol). s.name) (of_code (codes "7f7274006180 1d4 JS:*fib /srv/fib.js:1:13")) ≡ Some (codes "JS:*fib /srv/fib.js:1:13")
 name_with_spaces = refl
 
 no_size : of_code (codes "18c4000 fib") ≡ None

@@ -1,5 +1,5 @@
 -- The operations of an expression, written one after the other, and the bytes of one.
-use Rattle.std.proofs.Common.{◌≡◌, ◌≢◌, ◌-◌, ◌+◌, ◌<◌, ◌≤◌, ℕ, zero, suc, Bool, true, false, List, [], ◌∷◌, ◌++◌, Option, Some, None, Result, Ok, Err, refl, sym, ap, ◌∙◌, subst, append_assoc, arith, length}
+use Rattle.std.proofs.Common.{◌≡◌, ◌≢◌, ◌-◌, ◌+◌, ◌<◌, ℕ, zero, suc, Bool, true, false, List, [], ◌∷◌, ◌++◌, Option, Some, None, Result, Ok, Err, refl, sym, ap, ◌∙◌, subst, arith, length}
 use Rattle.std.specs.Prelude.{◌==◌, if◌then◌else◌}
 use Rattle.std.specs.Int.{w8}
 use Rattle.cfi_read_core.specs.declared.error.Error.{Error}
@@ -10,7 +10,7 @@ use Rattle.cfi_read_core.proofs.Leb128.{byte_there, no_byte_there}
 use Rattle.cfi_object.specs.declared.register_names.RegisterNames.{RegisterNames}
 use Rattle.cfi_programs.specs.Operations.{operation}
 use Rattle.cfi_programs.specs.declared.operations.Operation.{Operation}
-use Rattle.cfi_programs.specs.ExpressionWords.{byte_text, comma, hexadecimal, known, listed, operation_text, unknown_text, words_from}
+use Rattle.cfi_programs.specs.ExpressionWords.{comma, known, listed, operation_text, unknown_text, words_from}
 use Rattle.cfi_programs.proofs.WrittenLemmas.{IsGiven}
 
 -- ---- a byte that is read

@@ -1,5 +1,5 @@
 -- Rows in words: in turn, and those without expressions.
-use Rattle.std.proofs.Common.{◌≡◌, ◌∙◌, ◌+◌, ℕ, zero, suc, true, false, List, [], ◌∷◌, ◌++◌, Option, Some, None, Result, Ok, Err, IfOk, refl, sym, ap, subst, append_assoc, codes, arith, inl, inr}
+use Rattle.std.proofs.Common.{◌≡◌, ◌∙◌, ◌+◌, ℕ, zero, suc, true, List, [], ◌∷◌, ◌++◌, Option, Some, None, Result, Ok, Err, IfOk, refl, sym, ap, subst, append_assoc, codes, arith, inl, inr}
 use Rattle.std.proofs.lemmas.Bool.{cases_lt}
 use Rattle.std.specs.Borrow.{Bor}
 use Rattle.std.specs.FinMap.{get}
@@ -20,7 +20,7 @@ use Rattle.cfi_object.specs.declared.register_names.RegisterNames.{RegisterNames
 use Rattle.cfi_programs.specs.AnswerLines.{answer_line, plain_line}
 use Rattle.cfi_programs.specs.ExpressionWords.{in_words}
 use Rattle.cfi_programs.specs.KeptRules.{ArePlain}
-use Rattle.cfi_programs.specs.Lines.{Line, address_text, line}
+use Rattle.cfi_programs.specs.Lines.{address_text, line}
 use Rattle.cfi_programs.specs.RowLines.{IsPlain, cfa_saying, expression_at, expression_in, expression_text, frame_saying, head_saying, is_plain_cfa, row_saying, rule_saying, ruled_by, ruled_saying, rules_by, rules_saying}
 use Rattle.cfi_programs.specs.Wordings.{text_style, worded}
 use Rattle.cfi_programs.specs.WriterOutput.{Writes}

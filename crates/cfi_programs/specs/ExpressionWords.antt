@@ -8,7 +8,7 @@ use Rattle.std.specs.Prelude.{if◌then◌else◌}
 use Rattle.std.specs.Fmt.{decimal, signed_decimal, digit_glyph}
 use Rattle.cfi_read_core.specs.declared.error.Error.{Error}
 use Rattle.cfi_read_core.specs.declared.instruction.UnwindExpression.{UnwindExpression}
-use Rattle.cfi_read_core.specs.ReadFunctions.{Source, Position, Extent, bytes_of, rest}
+use Rattle.cfi_read_core.specs.ReadFunctions.{Source, Position, Extent, rest}
 use Rattle.cfi_read_core.specs.ReaderCalls.{bytes_left, read_at, remaining}
 use Rattle.cfi_read_core.specs.ExpressionPlaces.{expression_bytes}
 use Rattle.cfi_object.specs.RegisterNames.{register_text}

@@ -1,4 +1,4 @@
-use Rattle.std.proofs.Common.{[], ◌∷◌, ◌++◌, codes}
+use Rattle.std.proofs.Common.{◌++◌, codes}
 use Rattle.cfi_read_core.specs.ExpressionPlaces.{expression_bytes}
 use Rattle.cfi_read_core.specs.ReaderCalls.{read_at}
 use Rattle.cfi_programs.specs.ExpressionWords.{words_in}

@@ -1,4 +1,4 @@
-use Rattle.std.proofs.Common.{[], ◌∷◌, ◌++◌, codes}
+use Rattle.std.proofs.Common.{◌++◌, codes}
 use Rattle.cfi_read_core.specs.ReaderCalls.{bytes_left}
 use Rattle.cfi_programs.specs.ExpressionWords.{byte_text, bytes_text}
 use Rattle.cfi_programs.proofs.DumpSectionWritten.{first_refused, last_written}

@@ -1,4 +1,3 @@
-use Rattle.std.proofs.Common.{[], ◌∷◌, ◌++◌, codes}
 use Rattle.cfi_read_core.specs.ReaderCalls.{bytes_left}
 use Rattle.cfi_programs.specs.ExpressionWords.{comma, unknown_text}
 use Rattle.cfi_programs.proofs.DumpSectionWritten.{first_refused, last_written}

@@ -1,4 +1,3 @@
-use Rattle.std.proofs.Common.{[], ◌∷◌, ◌++◌, codes}
 use Rattle.cfi_programs.specs.JsonLines.{end_member, start_member}
 use Rattle.cfi_programs.proofs.DumpSectionWritten.{first_refused, last_written}
 use Rattle.cfi_programs.proofs.json_row.write_addresses.Goals as goal

@@ -1,4 +1,4 @@
-use Rattle.std.proofs.Common.{[], ◌∷◌, ◌++◌, codes}
+use Rattle.std.proofs.Common.{codes}
 use Rattle.cfi_programs.specs.Wordings.{worded}
 use Rattle.cfi_programs.specs.JsonLines.{json_member}
 use Rattle.cfi_programs.proofs.DumpSectionWritten.{first_refused, last_written}

@@ -1,11 +1,10 @@
-use Rattle.std.proofs.Common.{◌∙◌, ap, arith, true}
-use Rattle.cfi_programs.specs.JsonLines.{bytes_of_rule, json_bytes, rules_end}
-use Rattle.cfi_programs.specs.RowLines.{rules_by}
+use Rattle.std.proofs.Common.{◌∙◌, ap, arith}
+use Rattle.cfi_programs.specs.JsonLines.{bytes_of_rule, rules_end}
 use Rattle.cfi_programs.specs.Wordings.{worded}
 use Rattle.cfi_programs.proofs.JsonRowLemmas.{bytes_first, bytes_without, ended_none}
 use Rattle.cfi_programs.proofs.RowLineLemmas.{rules_none}
 use Rattle.cfi_programs.proofs.ExpressionWordsWritten.{given_as}
-use Rattle.cfi_programs.proofs.WrittenLemmas.{beginning_then, given_all, given_first, given_then, writes_last, writes_refused}
+use Rattle.cfi_programs.proofs.WrittenLemmas.{beginning_then, given_first, given_then, writes_last, writes_refused}
 use Rattle.cfi_programs.proofs.json_row.write_bytes.Goals as goal
 use Rattle.cfi_programs.proofs.json_row.write_bytes.Goals.{in-Some+in_ok-write_bytes_member, in_default}
 

@@ -1,10 +1,8 @@
-use Rattle.std.proofs.Common.{◌-◌, true}
+use Rattle.std.proofs.Common.{◌-◌}
 use Rattle.std.specs.FinMap as map
 use Rattle.cfi_programs.specs.JsonLines.{bytes_of_rule, json_bytes, rules_end}
 use Rattle.cfi_programs.specs.RowLines.{rules_by}
 use Rattle.cfi_programs.specs.Wordings.{worded}
-use Rattle.cfi_programs.proofs.JsonRowLemmas.{bytes_first, bytes_without, ended_none}
-use Rattle.cfi_programs.proofs.RowLineLemmas.{rules_none}
 use Rattle.cfi_programs.proofs.WrittenLemmas.{IsGiven}
 use Rattle.cfi_programs.proofs.json_row.write_bytes.Given as goal
 

@@ -1,4 +1,3 @@
-use Rattle.std.proofs.Common.{[], ◌∷◌, ◌++◌, codes}
 use Rattle.cfi_programs.specs.Wordings.{worded}
 use Rattle.cfi_programs.specs.JsonLines.{bytes_member, opening}
 use Rattle.cfi_programs.proofs.DumpSectionWritten.{first_refused, last_written}

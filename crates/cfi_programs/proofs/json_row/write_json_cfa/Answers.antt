@@ -1,4 +1,4 @@
-use Rattle.std.proofs.Common.{[], ◌∷◌, ◌++◌, codes}
+use Rattle.std.proofs.Common.{◌++◌, codes}
 use Rattle.cfi_programs.specs.Wordings.{worded}
 use Rattle.cfi_programs.specs.JsonLines.{cfa_bytes}
 use Rattle.cfi_programs.specs.RowLines.{cfa_saying}

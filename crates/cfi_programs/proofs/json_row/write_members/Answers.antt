@@ -1,11 +1,10 @@
-use Rattle.std.proofs.Common.{◌∙◌, ap, arith, true}
-use Rattle.cfi_programs.specs.JsonLines.{json_rule, json_rules, separated}
-use Rattle.cfi_programs.specs.RowLines.{rules_by}
+use Rattle.std.proofs.Common.{◌∙◌, ap, arith}
+use Rattle.cfi_programs.specs.JsonLines.{json_rule, separated}
 use Rattle.cfi_programs.specs.Wordings.{worded}
 use Rattle.cfi_programs.proofs.JsonRowLemmas.{member_first, separated_none}
 use Rattle.cfi_programs.proofs.RowLineLemmas.{rules_none, rules_without}
 use Rattle.cfi_programs.proofs.ExpressionWordsWritten.{given_as}
-use Rattle.cfi_programs.proofs.WrittenLemmas.{beginning_then, given_all, given_first, given_then, writes_last, writes_refused}
+use Rattle.cfi_programs.proofs.WrittenLemmas.{beginning_then, given_all, given_first, given_then, writes_refused}
 use Rattle.cfi_programs.proofs.json_row.write_members.Goals as goal
 use Rattle.cfi_programs.proofs.json_row.write_members.Goals.{in-Some+in_ok-write_separated, in_default}
 

@@ -1,10 +1,8 @@
-use Rattle.std.proofs.Common.{◌-◌, true}
+use Rattle.std.proofs.Common.{◌-◌}
 use Rattle.std.specs.FinMap as map
 use Rattle.cfi_programs.specs.JsonLines.{json_rule, json_rules, separated}
 use Rattle.cfi_programs.specs.RowLines.{rules_by}
 use Rattle.cfi_programs.specs.Wordings.{worded}
-use Rattle.cfi_programs.proofs.JsonRowLemmas.{member_first, separated_none}
-use Rattle.cfi_programs.proofs.RowLineLemmas.{rules_none, rules_without}
 use Rattle.cfi_programs.proofs.WrittenLemmas.{IsGiven}
 use Rattle.cfi_programs.proofs.json_row.write_members.Given as goal
 

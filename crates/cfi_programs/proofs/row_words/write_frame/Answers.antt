@@ -1,4 +1,4 @@
-use Rattle.std.proofs.Common.{[], ◌∷◌, ◌++◌, codes}
+use Rattle.std.proofs.Common.{◌++◌, codes}
 use Rattle.std.specs.Fmt.{decimal}
 use Rattle.cfi_programs.specs.ExpressionWords.{in_words}
 use Rattle.cfi_programs.specs.RowLines.{cfa_saying}

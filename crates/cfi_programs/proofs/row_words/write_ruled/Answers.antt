@@ -1,4 +1,4 @@
-use Rattle.std.proofs.Common.{[], ◌∷◌, ◌++◌, codes}
+use Rattle.std.proofs.Common.{◌++◌, codes}
 use Rattle.cfi_object.specs.RegisterNames.{register_text}
 use Rattle.cfi_programs.specs.ExpressionWords.{in_words}
 use Rattle.cfi_programs.specs.RowLines.{rule_saying}

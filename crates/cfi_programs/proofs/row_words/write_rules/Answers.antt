@@ -1,9 +1,9 @@
-use Rattle.std.proofs.Common.{◌∙◌, ap, arith, true}
+use Rattle.std.proofs.Common.{arith}
 use Rattle.cfi_programs.specs.ExpressionWords.{in_words}
-use Rattle.cfi_programs.specs.RowLines.{ruled_saying, rules_by, rules_saying}
+use Rattle.cfi_programs.specs.RowLines.{ruled_saying}
 use Rattle.cfi_programs.proofs.RowLineLemmas.{rules_none, rules_with, rules_without}
 use Rattle.cfi_programs.proofs.ExpressionWordsWritten.{given_as}
-use Rattle.cfi_programs.proofs.WrittenLemmas.{beginning_then, given_all, given_first, given_then, writes_last, writes_refused}
+use Rattle.cfi_programs.proofs.WrittenLemmas.{beginning_then, given_all, given_first, given_then, writes_refused}
 use Rattle.cfi_programs.proofs.row_words.write_rules.Goals as goal
 use Rattle.cfi_programs.proofs.row_words.write_rules.Goals.{in-Some+in_ok-write_ruled, in_default}
 

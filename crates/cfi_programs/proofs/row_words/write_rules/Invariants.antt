@@ -1,8 +1,7 @@
-use Rattle.std.proofs.Common.{◌-◌, true}
+use Rattle.std.proofs.Common.{◌-◌}
 use Rattle.std.specs.FinMap as map
 use Rattle.cfi_programs.specs.ExpressionWords.{in_words}
 use Rattle.cfi_programs.specs.RowLines.{ruled_saying, rules_by, rules_saying}
-use Rattle.cfi_programs.proofs.RowLineLemmas.{rules_none, rules_with, rules_without}
 use Rattle.cfi_programs.proofs.WrittenLemmas.{IsGiven}
 use Rattle.cfi_programs.proofs.row_words.write_rules.Given as goal
 

@@ -1,4 +1,4 @@
-use Rattle.std.proofs.Common.{[], ◌∷◌, ◌++◌, codes}
+use Rattle.std.proofs.Common.{codes}
 use Rattle.cfi_programs.specs.ExpressionWords.{in_words}
 use Rattle.cfi_programs.proofs.DumpSectionWritten.{first_refused, last_written}
 use Rattle.cfi_programs.proofs.row_words.write_value.Goals as goal

@@ -1,7 +1,7 @@
 use Rattle.std.proofs.Common.{[], ◌∷◌, ◌++◌}
 use Rattle.cfi_elf.specs.FunctionNames.{name_in}
 use Rattle.cfi_unwind.specs.FdeViews.{fde_view}
-use Rattle.cfi_programs.proofs.WrittenLemmas.{IsGiven, given_first, given_then, beginning_then, writes_last, writes_refused}
+use Rattle.cfi_programs.proofs.WrittenLemmas.{given_first, given_then, beginning_then, writes_last, writes_refused}
 use Rattle.cfi_programs.specs.DumpEntryLines.{fde_head, fde_addresses, lsda_text}
 use Rattle.cfi_programs.specs.FunctionLines.{function_text}
 use Rattle.cfi_programs.proofs.dump.entry_line.write_fde.Goals as goal
