@@ -29,9 +29,8 @@ use Rattle.cfi.specs.Folders.{Folders}
 use Rattle.cfi.specs.CommandLine.{Asked, cfi_app}
 use Rattle.cfi.specs.Forms.{format_names}
 use Rattle.cfi.specs.declared.files.CheckStyle.{CheckStyle}
-use Rattle.cfi.specs.declared.flames.Summary.{Summary}
 use Rattle.cfi.specs.Openings.{FileKind, of_any_kind, path_of}
-use Rattle.cfi.specs.FlameOutputs.{IsOwed as IsOwedOfFolded}
+use Rattle.cfi.specs.FlameOutputs.{IsOwed as IsOwedOfFolded, OfStacks}
 use Rattle.cfi.specs.Findings.{greatest_status, tally_in}
 use Rattle.cfi.specs.Words.{asked}
 use Rattle.cfi_programs.specs.declared.style.Format.{Format}
@@ -200,11 +199,11 @@ threads_of disk listing folders name file old new r may (bytes, left, (printed, 
 pub no_threads : (E : Type 0) (disk : Disk) (listing : ThreadListing) (folders : Folders) (name : Text) (old : Option (List ℕ)) → MayOpenNamed disk name None → PrintsSome {E = E} (λ line. AreThreads disk listing folders name line) old old (Ok 2)
 no_threads E disk listing folders name old may = (nothing, (none_yet old, refl), (None, may, refl))
 
-pub summary_is : {E : Type 0} (disk : Disk) (summary : Summary) (name : Text) (file : disk.Handle) (old new : Option (List ℕ)) (r : Result ℕ E) → MayOpenNamed disk name (Some file) →
+pub summary_is : {E : Type 0} (disk : Disk) (summary : OfStacks) (name : Text) (file : disk.Handle) (old new : Option (List ℕ)) (r : Result ℕ E) → MayOpenNamed disk name (Some file) →
     ((bytes : List ℕ) × AreLeft (disk.bytes_of file) bytes × PrintsSome (λ line. IsOwedOfFolded summary bytes line) old new r) → PrintsSome (λ line. IsSummary disk summary name line) old new r
 summary_is disk summary name file old new r may (bytes, left, (printed, prints, owed)) = (printed, prints, (Some file, may, (bytes, left, owed)))
 
-pub no_summary : (E : Type 0) (disk : Disk) (summary : Summary) (name : Text) (old : Option (List ℕ)) → MayOpenNamed disk name None → PrintsSome {E = E} (λ line. IsSummary disk summary name line) old old (Ok 2)
+pub no_summary : (E : Type 0) (disk : Disk) (summary : OfStacks) (name : Text) (old : Option (List ℕ)) → MayOpenNamed disk name None → PrintsSome {E = E} (λ line. IsSummary disk summary name line) old old (Ok 2)
 no_summary E disk summary name old may = (nothing, (none_yet old, refl), (None, may, refl))
 
 -- ---- the line that counts
@@ -289,7 +288,7 @@ pub same_threads : {Handle E : Type 0} (may_open : FileKind → Text → Option 
 same_threads {Handle = Handle} may_open left known same listing folders name old new r =
     subst (λ (bytes_of : Handle → Option (List ℕ)). PrintsSome (λ line. AreThreads (disk_of may_open bytes_of) listing folders name line) old new r) (λ i file. same file i)
 
-pub same_summary : {Handle E : Type 0} (may_open : FileKind → Text → Option Handle → Type 0) (left known : Handle → Option (List ℕ)) → ((file : Handle) → left file ≡ known file) → (summary : Summary) (name : Text) (old new : Option (List ℕ)) (r : Result ℕ E) →
+pub same_summary : {Handle E : Type 0} (may_open : FileKind → Text → Option Handle → Type 0) (left known : Handle → Option (List ℕ)) → ((file : Handle) → left file ≡ known file) → (summary : OfStacks) (name : Text) (old new : Option (List ℕ)) (r : Result ℕ E) →
     PrintsSome (λ line. IsSummary (disk_of may_open left) summary name line) old new r → PrintsSome (λ line. IsSummary (disk_of may_open known) summary name line) old new r
 same_summary {Handle = Handle} may_open left known same summary name old new r =
     subst (λ (bytes_of : Handle → Option (List ℕ)). PrintsSome (λ line. IsSummary (disk_of may_open bytes_of) summary name line) old new r) (λ i file. same file i)

@@ -253,8 +253,11 @@ a_debug_file_in_a_folder = refl
 
 -- ---- folded stacks
 
-folded : asked (codes "cfi" ∷ codes "flame" ∷ codes "-" ∷ []) ≡ Some (flame (codes "-"))
+folded : asked (codes "cfi" ∷ codes "flame" ∷ codes "-" ∷ []) ≡ Some (flame None (codes "-"))
 folded = refl
+
+a_title : asked (codes "cfi" ∷ codes "flame" ∷ codes "--title" ∷ codes "ls -lR" ∷ codes "-" ∷ []) ≡ Some (flame (Some (codes "ls -lR")) (codes "-"))
+a_title = refl
 
 folded_is_not_raw : asked (codes "cfi" ∷ codes "flame" ∷ codes "--raw" ∷ codes "-" ∷ []) ≡ None
 folded_is_not_raw = refl

@@ -59,7 +59,8 @@ samples_view samples = record {
 
 -- first whether registers are printed by number, or stacks without functions, and the form of what
 -- is printed; for a check, whether files with faithful tables have no line; for folded stacks,
--- whether they are counted by periods; for a core file, which thread alone
+-- whether they are counted by periods; for a core file, which thread alone; for a flame graph, its
+-- title
 pub data Asked : Type 0 where
   row : Bool → Format → Text → List Text → Asked
   rows : Bool → Format → Text → Option Text → Asked
@@ -68,7 +69,7 @@ pub data Asked : Type 0 where
   table : Bool → Text → Asked
   unwind : Bool → Format → Samples → Folders → Text → Asked
   stack : Bool → Format → Option ℕ → Folders → Text → Asked
-  flame : Text → Asked
+  flame : Option Text → Text → Asked
   report : Text → Asked
   fold : Bool → Samples → Folders → Text → Asked
 
@@ -85,7 +86,7 @@ command_view (command.Unwind raw format samples folders file) =
     unwind raw format (samples_view samples) (folders_view folders) file.now
 command_view (command.Stack raw format thread folders file) =
     stack raw format thread (folders_view folders) file.now
-command_view (command.Flame file) = flame file.now
+command_view (command.Flame title file) = flame (text_view title) file.now
 command_view (command.Report file) = report file.now
 command_view (command.Fold period samples folders file) =
     fold period (samples_view samples) (folders_view folders) file.now
@@ -263,10 +264,9 @@ abbrev pub of_one_file : Text → Bool → Text → Asked
 of_one_file name raw file =
     if bytes_eq name (codes "dump") then dump raw file
     else if bytes_eq name (codes "table") then table raw file
-    else if bytes_eq name (codes "flame") then flame file
     else report file
 
--- or that prints the stacks of a profile or a core file
+-- or that prints the stacks of a profile or a core file, or a graph of stacks
 abbrev pub of_stacks : Text → (Text → List Text) → Asked
 of_stacks name values =
     let file = file_in values in
@@ -277,6 +277,7 @@ of_stacks name values =
     (number_in (codes "thread") values) folders file
     else if bytes_eq name (codes "fold") then fold (period_in values) (samples_in values) folders
     file
+    else if bytes_eq name (codes "flame") then flame (first_in values (codes "title")) file
     else of_one_file name (raw_in values) file
 
 -- by the name of a command, and the values at each name

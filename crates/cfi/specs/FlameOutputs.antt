@@ -12,6 +12,15 @@ use Rattle.cfi_programs.specs.Lines.{Line, line, wrong_input}
 use Rattle.cfi.specs.declared.flames.Summary.{Summary}
 use Rattle.cfi.specs.declared.flames.Summary.TheVariants.{FlameGraph, Report}
 
+-- their graph, with a title, or the table of their functions
+pub data OfStacks : Type 0 where
+  graph : List ℕ → OfStacks
+  table : OfStacks
+
+abbrev pub summary_view : Summary → OfStacks
+summary_view (FlameGraph title) = graph title.now
+summary_view Report = table
+
 -- with the number of the line that isn't folded, from 1
 abbrev pub refusal : FoldedError → Line
 refusal OutOfMemory = line (codes "refused OutOfMemory") 1
@@ -23,20 +32,20 @@ abbrev pub made_line : List ℕ → Line
 made_line made = record { text = made; status = 0 }
 
 -- of the stacks of a text
-abbrev pub IsMade : Summary → List ℕ → List ℕ → Type 0
-IsMade FlameGraph text made = IsOfPlain (codes "Flame graph") (map plain text) made
-IsMade Report text made = IsReport (map plain text) made
+abbrev pub IsMade : OfStacks → List ℕ → List ℕ → Type 0
+IsMade (graph title) text made = IsOfPlain title (map plain text) made
+IsMade table text made = IsReport (map plain text) made
 
 -- why there is none
-abbrev pub IsUnmade : Summary → List ℕ → FoldedError → Type 0
-IsUnmade FlameGraph text error = IsPlainRefused (map plain text) error
-IsUnmade Report text error = IsReportRefused (map plain text) error
+abbrev pub IsUnmade : OfStacks → List ℕ → FoldedError → Type 0
+IsUnmade (graph title) text error = IsPlainRefused (map plain text) error
+IsUnmade table text error = IsReportRefused (map plain text) error
 
-abbrev pub IsOutput : Summary → List ℕ → Line → Type 0
+abbrev pub IsOutput : OfStacks → List ℕ → Line → Type 0
 IsOutput summary text printed =
     ((made : List ℕ) × IsMade summary text made × (printed ≡ made_line made))
     ⊎ ((error : FoldedError) × IsUnmade summary text error × (printed ≡ refusal error))
 
 -- or the input can't be read
-abbrev pub IsOwed : Summary → List ℕ → Line → Type 0
+abbrev pub IsOwed : OfStacks → List ℕ → Line → Type 0
 IsOwed summary text printed = IsOutput summary text printed ⊎ (printed ≡ wrong_input)

@@ -131,7 +131,7 @@ stack_form =
     form (codes "stack") (raw ∷ format ∷ number_option (codes "thread") ∷ folder_options) one_file
 
 abbrev pub flame_form : Form
-flame_form = form (codes "flame") [] one_file
+flame_form = form (codes "flame") (text_option (codes "title") ∷ []) one_file
 
 abbrev pub report_form : Form
 report_form = form (codes "report") [] one_file

@@ -33,10 +33,8 @@ use Rattle.cfi.specs.CommandLine.{Asked, cfi_app}
 use Rattle.cfi.specs.Folders.{Folders, copy_path, debug_path, path_below}
 use Rattle.cfi.specs.Forms.{format_names}
 use Rattle.cfi.specs.Openings.{FileKind, of_any_kind, path_of, regular}
-use Rattle.cfi.specs.FlameOutputs.{IsOwed as IsOwedOfFolded}
+use Rattle.cfi.specs.FlameOutputs.{IsOwed as IsOwedOfFolded, OfStacks, graph, table}
 use Rattle.cfi.specs.declared.files.CheckStyle.{CheckStyle}
-use Rattle.cfi.specs.declared.flames.Summary.{Summary}
-use Rattle.cfi.specs.declared.flames.Summary.TheVariants.{FlameGraph, Report}
 use Rattle.cfi.specs.Findings.{greatest_status, tally_in}
 use Rattle.cfi_programs.specs.declared.style.Format.{Format}
 use Rattle.cfi.specs.Tasks.{OfRequest, Task, check, flame, no_times, of_request, print, report}
@@ -183,12 +181,12 @@ AreThreads disk listing folders name printed =
 
 -- ---- what is printed of folded stacks
 
-abbrev pub IsSummaryOf : (disk : Disk) → Summary → Option disk.Handle → Line → Type 0
+abbrev pub IsSummaryOf : (disk : Disk) → OfStacks → Option disk.Handle → Line → Type 0
 IsSummaryOf disk summary None printed = printed ≡ nothing
 IsSummaryOf disk summary (Some file) printed =
     (bytes : List ℕ) × AreLeft (disk.bytes_of file) bytes × IsOwedOfFolded summary bytes printed
 
-abbrev pub IsSummary : Disk → Summary → Text → Line → Type 0
+abbrev pub IsSummary : Disk → OfStacks → Text → Line → Type 0
 IsSummary disk summary name printed =
     (opened : Option disk.Handle) × MayOpenNamed disk name opened
     × IsSummaryOf disk summary opened printed
@@ -202,8 +200,8 @@ IsAnswer disk (unwind listing choice folders name) printed =
     AreStacks disk listing choice folders name printed
 IsAnswer disk (stack listing folders name) printed = AreThreads disk listing folders name printed
 IsAnswer disk (no_times text) printed = printed ≡ nothing
-IsAnswer disk (flame name) printed = IsSummary disk FlameGraph name printed
-IsAnswer disk (report name) printed = IsSummary disk Report name printed
+IsAnswer disk (flame title name) printed = IsSummary disk (graph title) name printed
+IsAnswer disk (report name) printed = IsSummary disk table name printed
 
 -- the status after a text of clap's, which may be 0 after help; 2 where the text can't be written
 abbrev pub IsStatusAfter : ErrorKind → ℕ → Type 0

@@ -1,5 +1,5 @@
 -- What a command is to do.
-use Rattle.std.specs.Prelude.{Bool, List, Option, Some, None, map, option_map}
+use Rattle.std.specs.Prelude.{Bool, List, Option, Some, None, codes, map, option_map, unwrap_or}
 use Rattle.std.specs.Option.{option_map_or}
 use Rattle.clap.specs.Words.{Text}
 use Rattle.cfi_files.specs.declared.request.Printed.{Printed}
@@ -49,14 +49,14 @@ of_request request = asking request.raw (of_file request.printed)
 
 -- to print something of a file; to check files, in a style; to print the stacks of samples of a
 -- profile, as listed, or of threads of a core file, by files in folders; to say that a text isn't
--- two times; or the flame graph of folded stacks, or their report
+-- two times; or the flame graph of folded stacks with a title, or their report
 pub data Task : Type 0 where
   print : Text → OfRequest → Task
   check : List Text → CheckStyle → Task
   unwind : Listing → Choice → Folders → Text → Task
   stack : ThreadListing → Folders → Text → Task
   no_times : Text → Task
-  flame : Text → Task
+  flame : Text → Text → Task
   report : Text → Task
 
 abbrev pub task_view : TaskOfCode → Task
@@ -66,7 +66,7 @@ task_view (Unwind file listing choice folders) =
     unwind listing (choice_view choice) (folders_view folders) file.now
 task_view (Stack file listing folders) = stack listing (folders_view folders) file.now
 task_view (NoTimes text) = no_times text.now
-task_view (Flame file) = flame file.now
+task_view (Flame title file) = flame title.now file.now
 task_view (Report file) = report file.now
 
 -- the samples of a profile, between two times
@@ -111,7 +111,7 @@ task_for (asked.unwind raw format samples folders file) =
     unwinding (listing_for raw format) samples folders file
 task_for (asked.stack raw format thread folders file) =
     stack (record { raw = raw; format = format; thread = thread }) folders file
-task_for (asked.flame file) = flame file
+task_for (asked.flame title file) = flame (unwrap_or title (codes "Flame graph")) file
 task_for (asked.report file) = report file
 task_for (asked.fold period samples folders file) =
     unwinding (Folded period) samples folders file

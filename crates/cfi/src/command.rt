@@ -96,8 +96,9 @@ pub enum Command<'w> {
         folders: Folders<'w>,
         file: &'w str,
     },
-    /// `flame FILE`: the flame graph of folded stacks.
+    /// `flame FILE`: the flame graph of folded stacks, with this title.
     Flame {
+        title: Option<&'w str>,
         file: &'w str,
     },
     /// `report FILE`: the functions of folded stacks, by their samples.
@@ -180,7 +181,7 @@ fn named<'w>(
     }
 }
 
-/// Returns the command of this name, which prints stacks or has one file.
+/// Returns the command of this name, which prints stacks, a graph of them, or has one file.
 fn of_stacks<'w>(name: &str, arguments: &ArgMatches<'w>) -> Command<'w>
     ensures { of_stacks name.now (values_in (rows_of (found_of arguments.now)))
         ≡ command_view result }
@@ -208,6 +209,11 @@ fn of_stacks<'w>(name: &str, arguments: &ArgMatches<'w>) -> Command<'w>
             folders: folders_in(arguments),
             file: file_in(arguments),
         }
+    } else if name == "flame" {
+        Command::Flame {
+            title: text_in(arguments, "title"),
+            file: file_in(arguments),
+        }
     } else {
         of_one_file(name, raw_in(arguments), file_in(arguments))
     }
@@ -221,8 +227,6 @@ fn of_one_file<'w>(name: &str, raw: bool, file: &'w str) -> Command<'w>
         Command::Dump { raw, file }
     } else if name == "table" {
         Command::Table { raw, file }
-    } else if name == "flame" {
-        Command::Flame { file }
     } else {
         Command::Report { file }
     }
@@ -447,6 +451,7 @@ fn flame<'w>(alloc: Global) -> Result<clap::Command<'w>, AllocError>
 {
     clap::Command::new(alloc, "flame")
         .about("Prints the flame graph of folded stacks, an SVG")
+        .arg(title_option(alloc))?
         .arg(folded_file(alloc))
 }
 
@@ -592,6 +597,14 @@ fn number_option<'w>(alloc: Global, name: &'w str, help: &'w str) -> Arg<'w>
         .long(name)
         .value_name("N")
         .value_parser(ValueParser::Unsigned(0, u64::MAX))
+}
+
+/// Returns the option `--title` of `flame`.
+fn title_option<'w>(alloc: Global) -> Arg<'w>
+    ensures rule { rule_of result ≡ text_rule (codes "title") }
+    ensures local { result.global ≡ false }
+{
+    text_option(alloc, "title", "TEXT", "What stands above the graph")
 }
 
 /// Returns the option `--thread` of `stack`.

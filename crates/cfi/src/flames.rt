@@ -4,6 +4,7 @@ ghost use Rattle.cfi_object.specs.FileParts.{AreLeft};
 ghost use Rattle.cfi_inputs.specs.Refusals.{input_refusal};
 ghost use Rattle.cfi_programs.specs.WriterOutput.{Prints, PrintsSome};
 ghost use Rattle.cfi.specs.FlameOutputs.{IsMade, IsOutput, IsOwed, IsUnmade, made_line, refusal};
+ghost use Rattle.cfi.specs.FlameOutputs.{summary_view};
 
 use cfi_flame::{FoldedError, flame_of, report_of};
 use cfi_inputs::write_input_refusal;
@@ -15,14 +16,11 @@ use std::alloc::Global;
 use std::io;
 use std::io::{Read, Write};
 
-/// What stands above the graph.
-const TITLE: &[u8] = b"Flame graph";
-
 /// What is printed of folded stacks.
 #[derive(Clone, Copy)]
-pub enum Summary {
-    /// Their flame graph, with the title `Flame graph`.
-    FlameGraph,
+pub enum Summary<'w> {
+    /// Their flame graph, with this title.
+    FlameGraph(&'w str),
     /// The table of their functions.
     Report,
 }
@@ -43,7 +41,7 @@ pub fn print_folded<R: Read, W: Write>(
     output: &mut W,
 ) -> io::Result<u8>
     ensures { (bytes : List ℕ) × AreLeft (R.remaining input.old) bytes
-        × PrintsSome (λ line. IsOwed summary bytes line)
+        × PrintsSome (λ line. IsOwed (summary_view summary.entry) bytes line)
         (W.contents output.old) (W.contents output.new) result }
 {
     let read = read_all(alloc, input);
@@ -58,7 +56,7 @@ fn print_read<W: Write>(
     output: &mut W,
 ) -> io::Result<u8>
     ensures { MatchResult read
-        (λ text. PrintsSome (λ line. IsOutput summary text.items line)
+        (λ text. PrintsSome (λ line. IsOutput (summary_view summary.entry) text.items line)
         (W.contents output.old) (W.contents output.new) result)
         (λ error. Prints (input_refusal Format.Text error)
         (W.contents output.old) (W.contents output.new) result) }
@@ -76,7 +74,7 @@ fn print_made<W: Write>(
     text: &[u8],
     output: &mut W,
 ) -> io::Result<u8>
-    ensures { PrintsSome (λ line. IsOutput summary text.now line)
+    ensures { PrintsSome (λ line. IsOutput (summary_view summary.entry) text.now line)
         (W.contents output.old) (W.contents output.new) result }
 {
     match made_of(alloc, summary, text) {
@@ -87,11 +85,11 @@ fn print_made<W: Write>(
 
 /// Returns this summary of the folded stacks of a text. Fails as `flame_of` and `report_of`.
 fn made_of(alloc: Global, summary: Summary, text: &[u8]) -> Result<Vec<u8>, FoldedError>
-    ensures made { IfOk result (λ made. IsMade summary text.now made.items) }
-    ensures refused { IfErr result (IsUnmade summary text.now) }
+    ensures made { IfOk result (λ made. IsMade (summary_view summary.entry) text.now made.items) }
+    ensures refused { IfErr result (IsUnmade (summary_view summary.entry) text.now) }
 {
     match summary {
-        Summary::FlameGraph => flame_of(alloc, TITLE, text),
+        Summary::FlameGraph(title) => flame_of(alloc, title.as_bytes(), text),
         Summary::Report => report_of(alloc, text),
     }
 }

@@ -8,6 +8,7 @@ ghost use Rattle.clap.specs.Words.{kind_of};
 ghost use Rattle.cfi_programs.specs.WriterOutput.{PrintsSome};
 ghost use Rattle.cfi_stacks.specs.Choices.{choice_view};
 ghost use Rattle.cfi.specs.CommandLine.{command_view};
+ghost use Rattle.cfi.specs.FlameOutputs.{summary_view};
 ghost use Rattle.cfi.specs.Folders.{folders_view};
 ghost use Rattle.cfi.specs.Process.{AreStacks, AreTallied, AreThreads, IsAnswer, IsPrint};
 ghost use Rattle.cfi.specs.Process.{IsStatusAfter, IsStatusOf, IsSummary, PrintsRun, disk_of};
@@ -116,7 +117,9 @@ fn run_command<S: System, W: Write>(system: &S, command: &Command, output: &mut 
             system.tell_no_times(text);
             Ok(WRONG)
         }
-        Task::Flame(file) => print_summary(system, Summary::FlameGraph, file, output),
+        Task::Flame(title, file) => {
+            print_summary(system, Summary::FlameGraph(title), file, output)
+        }
         Task::Report(file) => print_summary(system, Summary::Report, file, output),
     }
 }
@@ -196,7 +199,7 @@ fn print_summary<S: System, W: Write>(
     output: &mut W,
 ) -> io::Result<u8>
     ensures { PrintsSome (λ line. IsSummary (disk_of (S.may_open system.now) S.File.bytes)
-        summary file.now line)
+        (summary_view summary.entry) file.now line)
         (W.contents output.old) (W.contents output.new) result }
 {
     match open_named(system, file) {

@@ -27,8 +27,9 @@ pub enum Task<'c> {
     Stack(&'c str, ThreadListing, Folders<'c>),
     /// Say that this text isn't two times.
     NoTimes(&'c str),
-    /// Print the flame graph of the folded stacks of this file; `-` is standard input.
-    Flame(&'c str),
+    /// Print the flame graph, with this title, of the folded stacks of this file; `-` is standard
+    /// input.
+    Flame(&'c str, &'c str),
     /// Print the table of the functions of the folded stacks of this file; `-` is standard input.
     Report(&'c str),
 }
@@ -85,7 +86,7 @@ pub fn task_of<'c>(command: &'c Command<'c>) -> Task<'c>
             },
             *folders,
         ),
-        Command::Flame { file } => Task::Flame(file),
+        Command::Flame { title, file } => Task::Flame(title.unwrap_or("Flame graph"), file),
         Command::Report { file } => Task::Report(file),
         Command::Fold {
             period,

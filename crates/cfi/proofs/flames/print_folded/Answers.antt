@@ -5,22 +5,20 @@ use Rattle.cfi_object.specs.declared.input.InputError.TheVariants.{Unreadable, N
 use Rattle.cfi_inputs.specs.Refusals.{input_refusal}
 use Rattle.cfi_programs.specs.declared.style.Format.TheVariants.{Text}
 use Rattle.cfi.proofs.FlameLemmas.{owed_of_read}
-use Rattle.cfi.specs.declared.flames.Summary.{Summary}
-use Rattle.cfi.specs.declared.flames.Summary.TheVariants.{FlameGraph, Report}
-use Rattle.cfi.specs.FlameOutputs.{IsOutput, IsOwed, IsUnmade}
+use Rattle.cfi.specs.FlameOutputs.{IsOutput, IsOwed, IsUnmade, OfStacks, graph, summary_view, table}
 use Rattle.cfi.proofs.flames.print_folded.Goals as goal
 
 -- memory may always be refused
-by_memory : (summary : Summary) (text : List ℕ) → IsUnmade summary text folded.OutOfMemory
-by_memory FlameGraph text = inl (tt {0})
-by_memory Report text = inl (tt {0})
+by_memory : (summary : OfStacks) (text : List ℕ) → IsUnmade summary text folded.OutOfMemory
+by_memory (graph title) text = inl (tt {0})
+by_memory table text = inl (tt {0})
 
-unread : (summary : Summary) (bytes : List ℕ) (error : InputError) → IsOwed summary bytes (input_refusal Text error)
+unread : (summary : OfStacks) (bytes : List ℕ) (error : InputError) → IsOwed summary bytes (input_refusal Text error)
 unread summary bytes Unreadable = inr refl
 unread summary bytes NotHexadecimal = inr refl
 unread summary bytes OutOfMemory = inl (inr (folded.OutOfMemory, by_memory summary bytes, refl))
 
 pub returns : goal.returns
 returns g c =
-    owed_of_read (λ text. text.items) (g.R.Read.remaining c.args.input.now) (IsOutput c.args.summary) (IsOwed c.args.summary)
-    (g.W.Write.contents c.args.output.now) _ c.print_read.result c.read_all-read.result (λ bytes line is. inl is) (unread c.args.summary) c.read_all-read.ensures.all c.print_read.ensures
+    owed_of_read (λ text. text.items) (g.R.Read.remaining c.args.input.now) (IsOutput (summary_view c.args.summary)) (IsOwed (summary_view c.args.summary))
+    (g.W.Write.contents c.args.output.now) _ c.print_read.result c.read_all-read.result (λ bytes line is. inl is) (unread (summary_view c.args.summary)) c.read_all-read.ensures.all c.print_read.ensures

@@ -1,11 +1,11 @@
 use Rattle.std.proofs.Common.{ℕ, List, inl, inr, refl, subst, sym}
-use Rattle.cfi.specs.FlameOutputs.{IsMade, made_line, refusal}
+use Rattle.cfi.specs.FlameOutputs.{IsMade, made_line, refusal, summary_view}
 use Rattle.cfi.proofs.flames.print_made.Goals as goal
 
 pub returns-in-Ok : goal.returns-in-Ok
 returns-in-Ok g c =
     let made = c.as_slice.result.now in
-    let right = subst (λ (made : List ℕ). IsMade c.args.summary c.args.text.now made) (sym c.as_slice.ensures.value) c.in-Ok.ensures.made in
+    let right = subst (λ (made : List ℕ). IsMade (summary_view c.args.summary) c.args.text.now made) (sym c.as_slice.ensures.value) c.in-Ok.ensures.made in
     (made_line made, c.write_made.ensures, inl (made, right, refl))
 
 pub returns-in-Err : goal.returns-in-Err
