@@ -29,6 +29,8 @@ const POINTER: u64 = 9;
 const NUMBER: u64 = 10;
 /// Why a table isn't faithful: which reason, and up to three numbers. An error may follow.
 const UNFAITHFUL: u64 = 11;
+/// Number of an error of a frame, and the value that it carries. An error of a read may follow.
+const FRAME_ERROR: u64 = 12;
 
 /// Answers that are written one after the other, as far as there is room.
 #[derive(Drop)]
@@ -66,6 +68,11 @@ impl<'a> Answers<'a> {
 
     pub fn put_number(&mut self, number: u64) {
         self.put_two(NUMBER, number);
+    }
+
+    pub fn put_frame_error(&mut self, number: u64, value: u64) {
+        self.put(FRAME_ERROR);
+        self.put_two(number, value);
     }
 
     pub fn put_error(&mut self, error: Error) {

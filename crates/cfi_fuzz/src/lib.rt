@@ -11,12 +11,14 @@ mod answers;
 mod asked;
 mod check;
 mod entries;
+mod expression;
 mod header;
 mod rows;
 mod storage;
 
 use answers::Answers;
 use asked::{Asked, bases_of, endian_of, size_of, vendor_of};
+use expression::{AskedFrame, put_value};
 use gimli_cfi::{
     BaseAddresses, DebugFrame, EhFrame, EhFrameHdr, EndianSlice, Reader, StoreGrowing, StoreOnHeap,
     UnwindContextStorage, UnwindSection,
@@ -62,6 +64,23 @@ pub extern "C" fn cfi_fuzz_header(
     let frame = EndianSlice::new(section, endian);
     let header = EndianSlice::new(header, endian);
     in_header(alloc, asked, frame, header, numbers, &mut answers);
+    answers.count()
+}
+
+/// The value of an expression in a frame, or the error.
+///
+/// `registers` has the values of the registers from 0 on, and `memory` the bytes from
+/// `asked.base` on.
+#[unsafe(no_mangle)]
+pub extern "C" fn cfi_fuzz_expression(
+    asked: &AskedFrame,
+    expression: &[u8],
+    registers: &[u64],
+    memory: &[u8],
+    room: &mut [u64],
+) -> usize {
+    let mut answers = Answers::new(room);
+    put_value(asked, expression, registers, memory, &mut answers);
     answers.count()
 }
 
