@@ -146,7 +146,7 @@ of_chains = profile(
 # ---- core files
 
 PT_LOAD, PT_NOTE, EXECUTABLE, WRITABLE = 1, 4, 5, 6
-NT_PRSTATUS, NT_PRPSINFO, NT_AUXV, NT_FILE = 1, 3, 6, 0x46494C45
+NT_PRSTATUS, NT_PRPSINFO, NT_AUXV, NT_SIGINFO, NT_FILE = 1, 3, 6, 0x53494749, 0x46494C45
 AT_NULL, AT_SYSINFO_EHDR = 0, 33
 
 
@@ -169,6 +169,11 @@ def thread(tid, signal, rbp, rsp, rip):
 def process(name):
     """An elf_prpsinfo: what it has beside the name is zero."""
     return note(NT_PRPSINFO, bytes(40) + name.ljust(16, b"\0") + bytes(80))
+
+
+def fault(signal, code, address):
+    """A siginfo_t."""
+    return note(NT_SIGINFO, struct.pack("<3IxxxxQ", signal, 0, code, address).ljust(128, b"\0"))
 
 
 def vector(*pairs):
@@ -213,6 +218,18 @@ of_threads = core(
 
 # No mappings, and bytes behind the only thread that are no whole note.
 cut_off = core(thread(8, 11, 0x7020, 0x7000, IN_INNER) + bytes(5), CODE, (WRITABLE, 0x7000, 4096, STACK_OF_INNER))
+
+# The second thread has no signal, and the kernel says of no address with the code SI_KERNEL.
+of_fault = core(
+    thread(8, 11, 0x7020, 0x7000, IN_INNER)
+    + process(b"calls")
+    + fault(11, 2, 0xDEAD0)
+    + fault(11, 0x80, 0)
+    + thread(7, 0, 0x7020, 0x7000, IN_INNER)
+    + files((0x400000, 0x401000, 0, b"calls")),
+    CODE,
+    (WRITABLE, 0x7000, 4096, STACK_OF_INNER),
+)
 
 data = Path(__file__).resolve().parent.parent / "data"
 
@@ -263,3 +280,4 @@ struct.pack_into("<Q", packed, flags, 0x800)
 (data / "threads.core").write_bytes(of_threads)
 (data / "cut.core").write_bytes(cut_off)
 (data / "builds.core").write_bytes(of_mapped_builds)
+(data / "fault.core").write_bytes(of_fault)

@@ -12,7 +12,7 @@ module _ {X Y : Type 0} (view : X → Y) (p : Y → Bool) where
       ap (last_or o) (cond-false (p (view x)) (view x ∷ filter p (map view xs)) (filter p (map view xs)) (fails 0 x (omega arith)))
       ∙ none_pass xs o (λ j d inside. fails (suc j) d (omega (arith, inside)))
 
-  last_passes : (xs : List X) (k : ℕ) (o : Option Y) (x : X) → k < length xs →
+  pub last_passes : (xs : List X) (k : ℕ) (o : Option Y) (x : X) → k < length xs →
       ((j : ℕ) (d : X) → j < suc k → j < length xs → p (view (get_or xs j d)) ≡ true) →
       ((j : ℕ) (d : X) → suc k ≤ j → j < length xs → p (view (get_or xs j d)) ≡ false) →
       last_or o (filter p (map view xs)) ≡ Some (view (get_or xs k x))

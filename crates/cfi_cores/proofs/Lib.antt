@@ -6,3 +6,8 @@ mod Searches
 mod Vectors
 mod CoreResults
 mod Worked
+mod StackWindows
+mod PartialCores
+mod CutCores
+mod PartBytes
+pub mod WholeImages

@@ -25,14 +25,15 @@ or_else_none (Some a) = refl
 or_else_none None = refl
 
 -- of the same parts
-same : (threads ts : List CoreThread) (mapped ms : Option (List CoreMapping)) (vector vs name ns : Option (List ℕ)) (error : Option CoreError)
-    → threads ≡ ts → mapped ≡ ms → vector ≡ vs → name ≡ ns
-    → ◌≡◌ {A = Contents} (record { threads = threads; mapped = mapped; vector = vector; name = name; error = error }) (record { threads = ts; mapped = ms; vector = vs; name = ns; error = error })
-same threads ts mapped ms vector vs name ns error a b c d =
-    ap (λ (x : List CoreThread). record { threads = x; mapped = mapped; vector = vector; name = name; error = error }) a
-    ∙ (ap (λ (x : Option (List CoreMapping)). record { threads = ts; mapped = x; vector = vector; name = name; error = error }) b
-    ∙ (ap (λ (x : Option (List ℕ)). record { threads = ts; mapped = ms; vector = x; name = name; error = error }) c
-    ∙ ap (λ (x : Option (List ℕ)). record { threads = ts; mapped = ms; vector = vs; name = x; error = error }) d))
+same : (threads ts : List CoreThread) (mapped ms : Option (List CoreMapping)) (vector vs signal ss name ns : Option (List ℕ)) (error : Option CoreError)
+    → threads ≡ ts → mapped ≡ ms → vector ≡ vs → signal ≡ ss → name ≡ ns
+    → ◌≡◌ {A = Contents} (record { threads = threads; mapped = mapped; vector = vector; siginfo = signal; name = name; error = error }) (record { threads = ts; mapped = ms; vector = vs; siginfo = ss; name = ns; error = error })
+same threads ts mapped ms vector vs signal ss name ns error a b c d e =
+    ap (λ (x : List CoreThread). record { threads = x; mapped = mapped; vector = vector; siginfo = signal; name = name; error = error }) a
+    ∙ (ap (λ (x : Option (List CoreMapping)). record { threads = ts; mapped = x; vector = vector; siginfo = signal; name = name; error = error }) b
+    ∙ (ap (λ (x : Option (List ℕ)). record { threads = ts; mapped = ms; vector = x; siginfo = signal; name = name; error = error }) c
+    ∙ (ap (λ (x : Option (List ℕ)). record { threads = ts; mapped = ms; vector = vs; siginfo = x; name = name; error = error }) d
+    ∙ ap (λ (x : Option (List ℕ)). record { threads = ts; mapped = ms; vector = vs; siginfo = ss; name = x; error = error }) e)))
 
 assoc : (a b c : Contents) → followed_by (followed_by a b) c ≡ followed_by a (followed_by b c)
 assoc a b c = by a.error b.error
@@ -41,15 +42,15 @@ assoc a b c = by a.error b.error
     by (Some e) y = refl
     by None (Some e) = refl
     by None None =
-        same _ _ _ _ _ _ _ _ c.error (append_assoc a.threads b.threads c.threads) (or_else_assoc a.mapped b.mapped c.mapped)
-        (or_else_assoc a.vector b.vector c.vector) (or_else_assoc a.name b.name c.name)
+        same _ _ _ _ _ _ _ _ _ _ c.error (append_assoc a.threads b.threads c.threads) (or_else_assoc a.mapped b.mapped c.mapped)
+        (or_else_assoc a.vector b.vector c.vector) (or_else_assoc a.siginfo b.siginfo c.siginfo) (or_else_assoc a.name b.name c.name)
 
 pub nothing_more : (a : Contents) → a ≡ followed_by a nothing
 nothing_more a = by a.error
   where
     by : (x : Option CoreError) → with_error a x ≡ followed_by (with_error a x) nothing
     by (Some e) = refl
-    by None = sym (same _ _ _ _ _ _ _ _ None (append-nil a.threads) (or_else_none a.mapped) (or_else_none a.vector) (or_else_none a.name))
+    by None = sym (same _ _ _ _ _ _ _ _ _ _ None (append-nil a.threads) (or_else_none a.mapped) (or_else_none a.vector) (or_else_none a.siginfo) (or_else_none a.name))
 
 -- ---- loops over them
 

@@ -46,7 +46,7 @@ registers = hex (codes "00100000000000000110000000000000021000000000000003100000
 abbrev status : List ℕ
 status = hex (codes "06000000000000000000000006000000000000000000000000000000000000006712000000000000000000000000000000000000000000000000000000000000000000000000000000000000000000000000000000000000000000000000000000000000000000000000000000000000")
 
-worked_thread : thread_in X86_64 (status ++ registers) ≡ Some (record { tid = 4711; signal = 6; registers = registers })
+worked_thread : thread_in X86_64 (status ++ registers) ≡ Some (record { tid = 4711; signal = 6; fault = None; registers = registers })
 worked_thread = refl
 
 -- without its last byte
@@ -58,7 +58,7 @@ thread_of_another_machine : thread_in AArch64 (status ++ registers) ≡ None
 thread_of_another_machine = refl
 
 abbrev the_thread : CoreThread
-the_thread = record { tid = 4711; signal = 6; registers = registers }
+the_thread = record { tid = 4711; signal = 6; fault = None; registers = registers }
 
 -- rax (0) is the eleventh, rsp (7) the twentieth, r15 (15) the first, rip (16) the seventeenth
 its_rax : register_of X86_64 the_thread 0 ≡ Some 0x100a
@@ -151,17 +151,17 @@ of_another_machine = refl
 abbrev thread_note : List ℕ → List ℕ
 thread_note desc = hex (codes "05000000480100000100000043") ++ hex (codes "4f524500000000") ++ desc
 
-the_thread_alone : of_segment X86_64 (thread_note (status ++ registers)) ≡ record { threads = the_thread ∷ []; mapped = None; vector = None; name = None; error = None }
+the_thread_alone : of_segment X86_64 (thread_note (status ++ registers)) ≡ record { threads = the_thread ∷ []; mapped = None; vector = None; siginfo = None; name = None; error = None }
 unfolding computing
 the_thread_alone = refl
 
 -- a note of a thread with too few bytes, and a list of files behind it
 nothing_behind_an_error : followed_by (of_note X86_64 (record { name = codes "CORE"; kind = 1; desc = status })) (of_note X86_64 (record { name = codes "CORE"; kind = 0x46494c45; desc = files }))
-    ≡ record { threads = []; mapped = None; vector = None; name = None; error = Some ThreadCut }
+    ≡ record { threads = []; mapped = None; vector = None; siginfo = None; name = None; error = Some ThreadCut }
 unfolding computing
 nothing_behind_an_error = refl
 
-of_another_owner : of_note X86_64 (record { name = codes "LINUX"; kind = 1; desc = status }) ≡ record { threads = []; mapped = None; vector = None; name = None; error = None }
+of_another_owner : of_note X86_64 (record { name = codes "LINUX"; kind = 1; desc = status }) ≡ record { threads = []; mapped = None; vector = None; siginfo = None; name = None; error = None }
 unfolding computing
 of_another_owner = refl
 

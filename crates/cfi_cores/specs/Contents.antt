@@ -1,6 +1,6 @@
 -- What the notes of a core file say (core(5), "notes" of linux/elfcore.h and uapi/linux/elf.h).
---     Contents      threads, the files that were mapped, the auxiliary vector, the name of the
---         process, and the error that ended the notes
+--     Contents      threads, the files that were mapped, the auxiliary vector, what the kernel says
+--         of the signal, the name of the process, and the error that ended the notes
 --     followed_by first others      what both say: nothing follows an error, and of all but threads
 --         the first counts
 --     of_headers machine bytes headers      what the notes of a file's segments say
@@ -25,6 +25,7 @@ pub record Contents : Type 0 where
   pub threads : List CoreThread
   pub mapped : Option (List CoreMapping)
   pub vector : Option (List ℕ)
+  pub siginfo : Option (List ℕ)
   pub name : Option (List ℕ)
   pub error : Option CoreError
 
@@ -34,6 +35,7 @@ contents_view c = record {
   threads = map thread_view c.threads.items;
   mapped = option_map list_view c.mapped;
   vector = option_map (λ vector. vector.now) c.vector;
+  siginfo = option_map (λ siginfo. siginfo.now) c.siginfo;
   name = option_map (λ name. name.now) c.name;
   error = c.error;
 }
@@ -41,7 +43,14 @@ contents_view c = record {
 -- ---- one after the other
 
 abbrev pub nothing : Contents
-nothing = record { threads = []; mapped = None; vector = None; name = None; error = None }
+nothing = record {
+  threads = [];
+  mapped = None;
+  vector = None;
+  siginfo = None;
+  name = None;
+  error = None;
+}
 
 abbrev pub ended_by : CoreError → Contents
 ended_by error = record nothing { error = Some error }
@@ -52,6 +61,7 @@ unless_ended None first others = record {
   threads = first.threads ++ others.threads;
   mapped = or_else first.mapped others.mapped;
   vector = or_else first.vector others.vector;
+  siginfo = or_else first.siginfo others.siginfo;
   name = or_else first.name others.name;
   error = others.error;
 }
@@ -72,16 +82,20 @@ of_files None = ended_by FilesCut
 abbrev pub of_vector : List ℕ → Contents
 of_vector vector = record nothing { vector = Some vector }
 
+abbrev pub of_siginfo : List ℕ → Contents
+of_siginfo siginfo = record nothing { siginfo = Some siginfo }
+
 abbrev pub of_name : Option (List ℕ) → Contents
 of_name name = record nothing { name = name }
 
--- NT_PRSTATUS is 1, NT_PRPSINFO is 3, NT_AUXV is 6, NT_FILE is 0x46494c45
+-- NT_PRSTATUS is 1, NT_PRPSINFO is 3, NT_AUXV is 6, NT_SIGINFO is 0x53494749, NT_FILE is 0x46494c45
 abbrev pub of_note : SampleMachine → Note → Contents
 of_note machine note =
     if not (pointwise nat_eq note.name (codes "CORE")) then nothing
     else if note.kind == 1 then of_thread (thread_in machine note.desc)
     else if note.kind == 3 then of_name (process_name note.desc)
     else if note.kind == 6 then of_vector note.desc
+    else if note.kind == 0x53494749 then of_siginfo note.desc
     else if note.kind == 0x46494c45 then of_files (files_in note.desc)
     else nothing
 

@@ -19,6 +19,7 @@ use Rattle.cfi_cores.specs.declared.error.CoreError.TheVariants.{Elf, UnknownMac
 use Rattle.cfi_cores.specs.Contents.{of_headers}
 use Rattle.cfi_cores.specs.CoreSegments.{AreSorted, CoreSegment, loaded_in, segment_view}
 use Rattle.cfi_cores.specs.CoreThreads.{CoreThread, thread_view}
+use Rattle.cfi_cores.specs.Faults.{fault_by, with_fault}
 use Rattle.cfi_cores.specs.MappedFiles.{CoreMapping, list_view}
 use Rattle.cfi_cores.specs.Vdso.{vdso_by}
 
@@ -81,7 +82,7 @@ core_with machine bytes headers =
     record {
       machine = machine;
       name = contents.name;
-      threads = contents.threads;
+      threads = with_fault (fault_by contents.siginfo) contents.threads;
       mapped = with_vdso (or_this [] contents.mapped) (vdso_by segments contents.vector);
       segments = segments;
       error = contents.error;

@@ -1,23 +1,31 @@
 -- The threads of a core file (struct elf_prstatus of the kernel, linux/elfcore.h).
 --     thread_in machine desc      the thread of which a note of the type NT_PRSTATUS tells
 --     register_of machine thread k      the value of the register with DWARF's number k
-use Rattle.std.specs.Prelude.{ℕ, List, [], ◌∷◌, false, codes, Option, option_map, slice_get}
+use Rattle.std.specs.Prelude.{ℕ, List, [], ◌∷◌, false, codes, Option, None, option_map}
+use Rattle.std.specs.Prelude.{slice_get}
 use Rattle.std.specs.Int.{w16, w32, w64}
 use Rattle.std.specs.Option.{option_and_then}
 use Rattle.cfi_elf.specs.Fields.{Field, entries, field, number_at, part}
 use Rattle.cfi_processes.specs.declared.registers.SampleMachine.{SampleMachine}
+use Rattle.cfi_cores.specs.declared.fault.Fault.{Fault}
 use Rattle.cfi_cores.specs.declared.thread.CoreThread.{CoreThread as ThreadOfCode}
 use Rattle.cfi_cores.specs.CoreRegisters.{core_place, registers_size}
 
--- A thread's number, the signal that it was given, and its registers.
+-- A thread's number, the signal that it was given and for which fault, and its registers.
 pub record CoreThread : Type 0 where
   pub tid : ℕ
   pub signal : ℕ
+  pub fault : Option Fault
   pub registers : List ℕ
 
 -- what a thread of the code is
 abbrev pub thread_view : ThreadOfCode → CoreThread
-thread_view t = record { tid = t.tid; signal = t.signal; registers = t.registers.now }
+thread_view t = record {
+  tid = t.tid;
+  signal = t.signal;
+  fault = t.fault;
+  registers = t.registers.now;
+}
 
 -- struct elf_prstatus, up to the thread's number
 abbrev pub prstatus_fields : List Field
@@ -38,6 +46,7 @@ thread_in machine desc =
     option_map (λ registers. record {
       tid = value (codes "pr_pid");
       signal = value (codes "pr_cursig");
+      fault = None;
       registers = registers;
     }) (part desc 112 (registers_size machine))
 

@@ -7,5 +7,7 @@ pub mod CoreMemories
 pub mod Vdso
 pub mod Builds
 pub mod ProcessNames
+pub mod Faults
 pub mod Contents
 pub mod CoreFiles
+pub mod CoreParts

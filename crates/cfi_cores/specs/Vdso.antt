@@ -23,14 +23,12 @@ value_in kind (pair ∷ pairs) =
     else value_in kind pairs
 
 -- from its first byte on
+abbrev pub vdso_over : List ℕ → ℕ → CoreMapping
+vdso_over bytes a =
+    record { start = a; end = (a + length bytes) % 2 ^ 64; offset = 0; name = vdso_name }
+
 abbrev pub vdso_at : List CoreSegment → ℕ → Option CoreMapping
-vdso_at segments a =
-    option_map (λ bytes. record {
-      start = a;
-      end = (a + length bytes) % 2 ^ 64;
-      offset = 0;
-      name = vdso_name;
-    }) (bytes_at segments a)
+vdso_at segments a = option_map (λ bytes. vdso_over bytes a) (bytes_at segments a)
 
 -- AT_SYSINFO_EHDR is 33
 abbrev pub vdso_by : List CoreSegment → Option (List ℕ) → Option CoreMapping

@@ -4,8 +4,8 @@ ghost use Rattle.cfi_elf.specs.Notes.{note_view};
 ghost use Rattle.cfi_elf.specs.SegmentLists.{segments_left};
 ghost use Rattle.cfi_cores.specs.Contents.{contents_view, ended_by, files_found, followed_by};
 ghost use Rattle.cfi_cores.specs.Contents.{nothing, of_files, of_header, of_headers, of_name};
-ghost use Rattle.cfi_cores.specs.Contents.{of_note, of_segment, of_thread, of_vector};
-ghost use Rattle.cfi_cores.specs.Contents.{thread_found};
+ghost use Rattle.cfi_cores.specs.Contents.{of_note, of_segment, of_siginfo, of_thread};
+ghost use Rattle.cfi_cores.specs.Contents.{of_vector, thread_found};
 
 use crate::error::CoreError;
 use crate::mapped_files::{CoreMapping, files_in};
@@ -24,6 +24,8 @@ const NT_PRPSINFO: u32 = 3;
 
 const NT_AUXV: u32 = 6;
 
+const NT_SIGINFO: u32 = 0x5349_4749;
+
 const NT_FILE: u32 = 0x4649_4c45;
 
 /// What notes say, up to the error that ended them, if one did.
@@ -35,6 +37,8 @@ pub(crate) struct Contents<'run> {
     pub(crate) mapped: Option<Vec<CoreMapping<'run>>>,
     /// The auxiliary vector, by the first note that has one.
     pub(crate) vector: Option<&'run [u8]>,
+    /// What the kernel says of the signal, by the first note that tells of one.
+    pub(crate) siginfo: Option<&'run [u8]>,
     /// The name of the process, by the first note that has it.
     pub(crate) name: Option<&'run [u8]>,
     pub(crate) error: Option<CoreError>,
@@ -67,6 +71,7 @@ impl<'run> Contents<'run> {
             threads: Vec::new(alloc),
             mapped: None,
             vector: None,
+            siginfo: None,
             name: None,
             error: None,
         }
@@ -125,6 +130,7 @@ impl<'run> Contents<'run> {
             NT_PRSTATUS => self.push_thread(thread_in(machine, note.desc))?,
             NT_PRPSINFO => self.keep_name(process_name(note.desc)),
             NT_AUXV => self.keep_vector(note.desc),
+            NT_SIGINFO => self.keep_siginfo(note.desc),
             NT_FILE => self.map_files(files_in(alloc, note.desc)?),
             _ => {}
         }
@@ -169,6 +175,16 @@ impl<'run> Contents<'run> {
     {
         if self.error.is_none() && self.vector.is_none() {
             self.vector = Some(vector);
+        }
+    }
+
+    /// Takes what a note says of a signal too.
+    fn keep_siginfo(&mut self, siginfo: &'run [u8])
+        ensures { contents_view self.new
+            ≡ followed_by (contents_view self.old) (of_siginfo siginfo.entry.now) }
+    {
+        if self.error.is_none() && self.siginfo.is_none() {
+            self.siginfo = Some(siginfo);
         }
     }
 

@@ -1,5 +1,5 @@
 //! A core file.
-ghost use Rattle.std.specs.Prelude.{◌≡◌, [], IfOk, option_map};
+ghost use Rattle.std.specs.Prelude.{◌≡◌, [], IfOk, map, option_map};
 ghost use Rattle.cfi_read_core.specs.ReaderCalls.{map_ok};
 ghost use Rattle.cfi_elf.specs.ElfFiles.{file_view};
 ghost use Rattle.cfi_elf.specs.Options.{or_this};
@@ -7,10 +7,13 @@ ghost use Rattle.cfi_elf.specs.SegmentLists.{segments_left};
 ghost use Rattle.cfi_cores.specs.CoreSegments.{AreInOrder};
 ghost use Rattle.cfi_cores.specs.CoreFiles.{IsCore, IsSortedCore, core_elf, core_headers};
 ghost use Rattle.cfi_cores.specs.CoreFiles.{core_view, core_with, machine_of, with_vdso};
+ghost use Rattle.cfi_cores.specs.CoreThreads.{thread_view};
+ghost use Rattle.cfi_cores.specs.Faults.{with_fault};
 ghost use Rattle.cfi_cores.specs.MappedFiles.{list_view, mapping_view};
 
 use crate::contents::read_contents;
 use crate::error::CoreError;
+use crate::fault::{Fault, fault_by};
 use crate::mapped_files::CoreMapping;
 use crate::segments::{CoreSegment, loaded_segments};
 use crate::thread::CoreThread;
@@ -77,15 +80,33 @@ fn core_with<'run>(
     Ok(Core {
         machine,
         name: contents.name,
-        threads: contents.threads,
+        threads: with_fault(contents.threads, fault_by(contents.siginfo)),
         mapped: with_vdso(or_none(alloc, contents.mapped), vdso)?,
         segments,
         error: contents.error,
     })
 }
 
+/// The threads, of which the first one has this fault.
+pub(crate) fn with_fault<'run>(
+    threads: Vec<CoreThread<'run>>,
+    fault: Option<Fault>,
+) -> Vec<CoreThread<'run>>
+    ensures { map thread_view result.items
+        ≡ with_fault fault (map thread_view threads.entry.items) }
+{
+    let mut threads = threads;
+    if !threads.is_empty() {
+        threads[0].fault = fault;
+    }
+    threads
+}
+
 /// The list, or an empty one where there is none.
-fn or_none<'run>(alloc: Global, list: Option<Vec<CoreMapping<'run>>>) -> Vec<CoreMapping<'run>>
+pub(crate) fn or_none<'run>(
+    alloc: Global,
+    list: Option<Vec<CoreMapping<'run>>>,
+) -> Vec<CoreMapping<'run>>
     ensures { list_view result ≡ or_this [] (option_map list_view list.entry) }
 {
     match list {
@@ -95,7 +116,7 @@ fn or_none<'run>(alloc: Global, list: Option<Vec<CoreMapping<'run>>>) -> Vec<Cor
 }
 
 /// The list, and the vdso behind it if it was mapped. Fails where memory is refused.
-fn with_vdso<'run>(
+pub(crate) fn with_vdso<'run>(
     list: Vec<CoreMapping<'run>>,
     vdso: Option<CoreMapping<'run>>,
 ) -> Result<Vec<CoreMapping<'run>>, AllocError>
@@ -110,7 +131,7 @@ fn with_vdso<'run>(
 }
 
 /// The file, by its header.
-fn core_elf(bytes: &[u8]) -> Result<ElfFile<'_>, CoreError>
+pub(crate) fn core_elf(bytes: &[u8]) -> Result<ElfFile<'_>, CoreError>
     ensures { map_ok file_view result ≡ core_elf bytes.now }
 {
     match ElfFile::parse_core(bytes) {
@@ -120,7 +141,7 @@ fn core_elf(bytes: &[u8]) -> Result<ElfFile<'_>, CoreError>
 }
 
 /// The program headers.
-fn segments_of_elf<'run>(file: &ElfFile<'run>) -> Result<Segments<'run>, CoreError>
+pub(crate) fn segments_of_elf<'run>(file: &ElfFile<'run>) -> Result<Segments<'run>, CoreError>
     ensures { map_ok segments_left result ≡ core_headers (file_view file.now) }
 {
     match file.segments() {
@@ -130,7 +151,7 @@ fn segments_of_elf<'run>(file: &ElfFile<'run>) -> Result<Segments<'run>, CoreErr
 }
 
 /// The machine, if its registers are known here.
-fn machine_of(file: &ElfFile<'_>) -> Result<SampleMachine, CoreError>
+pub(crate) fn machine_of(file: &ElfFile<'_>) -> Result<SampleMachine, CoreError>
     ensures { result ≡ machine_of (file_view file.now) }
 {
     let e_machine = file.header().kind.e_machine;

@@ -2,6 +2,7 @@
 ghost use Rattle.std.specs.Prelude.{◌≡◌, ⊤, option_map};
 ghost use Rattle.cfi_cores.specs.CoreThreads.{register_of, thread_in, thread_view};
 
+use crate::fault::Fault;
 use crate::registers::{core_place, registers_size};
 use cfi_elf::bytes::{Record, entry, part};
 use cfi_processes::SampleMachine;
@@ -17,6 +18,8 @@ pub struct CoreThread<'run> {
     pub tid: u32,
     /// The signal that it was given, or 0 (`pr_cursig`).
     pub signal: u16,
+    /// The fault for which it was given that, if the notes tell of it (`si_addr`).
+    pub fault: Option<Fault>,
     /// The registers (`pr_reg`), eight bytes each, the least significant first.
     pub registers: &'run [u8],
 }
@@ -60,6 +63,7 @@ pub(crate) fn thread_in(machine: SampleMachine, desc: &[u8]) -> Option<CoreThrea
     Some(CoreThread {
         tid: fields.word(32),
         signal: fields.half(12),
+        fault: None,
         registers,
     })
 }

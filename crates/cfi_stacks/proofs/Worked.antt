@@ -78,15 +78,15 @@ without_a_row = refl
 some_signals : map signal_name (0 ∷ 1 ∷ 6 ∷ 11 ∷ 31 ∷ 32 ∷ []) ≡ None ∷ Some (codes "SIGHUP") ∷ Some (codes "SIGABRT") ∷ Some (codes "SIGSEGV") ∷ Some (codes "SIGSYS") ∷ None ∷ []
 some_signals = refl
 
-a_thread : thread_line 17121 6 (Some (codes "sorter")) ≡ codes "thread 17121 signal 6 SIGABRT of sorter" ++ 10 ∷ []
+a_thread : thread_line 17121 6 None (Some (codes "sorter")) ≡ codes "thread 17121 signal 6 SIGABRT of sorter" ++ 10 ∷ []
 unfolding digits
 a_thread = refl
 
-in_real_time : thread_line 7 34 None ≡ codes "thread 7 signal 34" ++ 10 ∷ []
+in_real_time : thread_line 7 34 None None ≡ codes "thread 7 signal 34" ++ 10 ∷ []
 unfolding digits
 in_real_time = refl
 
-without_signal : thread_line 7 0 (Some (codes "sorter")) ≡ codes "thread 7 of sorter" ++ 10 ∷ []
+without_signal : thread_line 7 0 None (Some (codes "sorter")) ≡ codes "thread 7 of sorter" ++ 10 ∷ []
 unfolding digits
 without_signal = refl
 

@@ -77,7 +77,7 @@ abbrev pub thread_text :
     Bool → List KnownFile → List MappedCode → Option (List ℕ) → CoreThread →
     Result Walk NoFrames → List StackFrame → List ℕ
 thread_text raw files list name thread result room =
-    thread_line thread.tid thread.signal name
+    thread_line thread.tid thread.signal thread.fault name
     ++ (core_walk_text raw files list result room ++ 10 ∷ [])
 
 -- ---- a thread as an object of JSON
@@ -101,7 +101,7 @@ abbrev pub thread_object :
     Bool → List KnownFile → List MappedCode → Option (List ℕ) → CoreThread →
     Result Walk NoFrames → List StackFrame → List ℕ
 thread_object raw files list name thread result room =
-    thread_head thread.tid thread.signal name
+    thread_head thread.tid thread.signal thread.fault name
     ++ (listed (core_walk_objects raw files list result room) ++ object_end (reason_for result))
 
 -- ---- a thread in either form

@@ -3,12 +3,13 @@
 --     frame_object raw before site after      a frame, between the beginning and the end of an
 --         object
 --     sample_head name time s      what comes before the frames of a sample
---     thread_head tid signal name      what comes before those of a thread of a core file
+--     thread_head tid signal fault name      what comes before those of a thread of a core file
 --     object_end reason      what comes behind them
 use Rattle.std.specs.Prelude.{ℕ, ◌/◌, ◌%◌, ◌==◌, Bool, true, false, List, [], ◌∷◌, ◌++◌, Option}
 use Rattle.std.specs.Prelude.{Some, None, codes, map, if◌then◌else◌}
 use Rattle.std.specs.Fmt.{decimal}
 use Rattle.cfi_elf.specs.FunctionPlaces.{Place}
+use Rattle.cfi_cores.specs.declared.fault.Fault.{Fault}
 use Rattle.cfi_perf.specs.Samples.{Sample}
 use Rattle.cfi_processes.specs.Sites.{Site}
 use Rattle.cfi_programs.specs.declared.style.Format.{Format}
@@ -121,22 +122,31 @@ abbrev pub signal_name_member : Option (List ℕ) → List ℕ
 signal_name_member None = []
 signal_name_member (Some name) = codes ",\"name\":\"" ++ name ++ codes "\""
 
+-- which fault it is, and where
+abbrev pub fault_members : Option Fault → List ℕ
+fault_members None = []
+fault_members (Some fault) =
+    codes ",\"code\":" ++ json_number fault.code
+    ++ codes ",\"fault\":\"" ++ address_text fault.address ++ codes "\""
+
 -- where it got none, its number is 0
-abbrev pub signal_members : ℕ → List ℕ
-signal_members signal =
+abbrev pub signal_members : ℕ → Option Fault → List ℕ
+signal_members signal fault =
     if signal == 0 then []
     else codes ",\"signal\":" ++ json_number signal ++ signal_name_member (signal_name signal)
+    ++ fault_members fault
 
-abbrev pub tid_members : ℕ → ℕ → List ℕ
-tid_members tid signal = codes "{\"tid\":" ++ json_number tid ++ signal_members signal
+abbrev pub tid_members : ℕ → ℕ → Option Fault → List ℕ
+tid_members tid signal fault =
+    codes "{\"tid\":" ++ json_number tid ++ signal_members signal fault
 
 abbrev pub process_member : Option (List ℕ) → List ℕ
 process_member None = []
 process_member (Some name) = codes ",\"process\":\"" ++ (escaped (map shown name) ++ codes "\"")
 
-abbrev pub thread_head : ℕ → ℕ → Option (List ℕ) → List ℕ
-thread_head tid signal name =
-    tid_members tid signal ++ (process_member name ++ codes ",\"frames\":[")
+abbrev pub thread_head : ℕ → ℕ → Option Fault → Option (List ℕ) → List ℕ
+thread_head tid signal fault name =
+    tid_members tid signal fault ++ (process_member name ++ codes ",\"frames\":[")
 
 -- ---- lists of frames
 

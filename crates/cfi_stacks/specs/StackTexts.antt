@@ -1,8 +1,8 @@
 -- The text of the stack of a sample, or of a thread of a core file.
 --     head_line name time sample      the line before the frames of a sample, as perf script prints
 --         it with -F comm,pid,tid,cpu,time,period,event
---     thread_line tid signal name      the line of a core file's thread: the signal that it got,
---         and the name of the process
+--     thread_line tid signal fault name      the line of a core file's thread: the signal that it
+--         got, the fault for which it did, and the name of the process
 --     site_line raw site      the line of a frame, raw or with its function
 --     core_frame_line raw a site      that of a frame of a core file, with its address
 use Rattle.std.specs.Prelude.{ℕ, ◌-◌, ◌/◌, ◌%◌, ◌==◌, Bool, List, [], ◌∷◌, ◌++◌, Option, Some, None}
@@ -11,6 +11,7 @@ use Rattle.std.specs.Fmt.{decimal, digits}
 use Rattle.cfi_elf.specs.FunctionPlaces.{Place}
 use Rattle.cfi_programs.specs.FunctionLines.{shown}
 use Rattle.cfi_programs.specs.Lines.{address_text}
+use Rattle.cfi_cores.specs.declared.fault.Fault.{Fault}
 use Rattle.cfi_perf.specs.Samples.{Sample}
 use Rattle.cfi_processes.specs.Sites.{Site}
 use Rattle.cfi_stacks.specs.Signals.{signal_name}
@@ -66,21 +67,29 @@ abbrev pub signal_name_text : Option (List ℕ) → List ℕ
 signal_name_text None = []
 signal_name_text (Some name) = codes " " ++ name
 
+-- which fault it is, and where
+abbrev pub fault_text : Option Fault → List ℕ
+fault_text None = []
+fault_text (Some fault) =
+    codes " code " ++ decimal fault.code ++ codes " address " ++ address_text fault.address
+
 -- where it got none, its number is 0
-abbrev pub signal_text : ℕ → List ℕ
-signal_text signal =
+abbrev pub signal_text : ℕ → Option Fault → List ℕ
+signal_text signal fault =
     if signal == 0 then []
     else codes " signal " ++ decimal signal ++ signal_name_text (signal_name signal)
+    ++ fault_text fault
 
-abbrev pub thread_start : ℕ → ℕ → List ℕ
-thread_start tid signal = codes "thread " ++ decimal tid ++ signal_text signal
+abbrev pub thread_start : ℕ → ℕ → Option Fault → List ℕ
+thread_start tid signal fault = codes "thread " ++ decimal tid ++ signal_text signal fault
 
 abbrev pub process_text : Option (List ℕ) → List ℕ
 process_text None = []
 process_text (Some name) = codes " of " ++ map shown name
 
-abbrev pub thread_line : ℕ → ℕ → Option (List ℕ) → List ℕ
-thread_line tid signal name = thread_start tid signal ++ (process_text name ++ 10 ∷ [])
+abbrev pub thread_line : ℕ → ℕ → Option Fault → Option (List ℕ) → List ℕ
+thread_line tid signal fault name =
+    thread_start tid signal fault ++ (process_text name ++ 10 ∷ [])
 
 -- ---- a frame
 

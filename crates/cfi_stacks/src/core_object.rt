@@ -8,13 +8,13 @@ ghost use Rattle.cfi_programs.specs.JsonLines.{separated};
 ghost use Rattle.cfi_programs.specs.WriterOutput.{Writes};
 ghost use Rattle.cfi_stacks.specs.CoreOutputs.{core_objects, core_walk_objects, thread_object};
 ghost use Rattle.cfi_stacks.specs.StackObjects.{address_member, comma, core_object, listed};
-ghost use Rattle.cfi_stacks.specs.StackObjects.{process_member, signal_members};
+ghost use Rattle.cfi_stacks.specs.StackObjects.{fault_members, process_member, signal_members};
 ghost use Rattle.cfi_stacks.specs.StackObjects.{signal_name_member, thread_head, tid_members};
 
 use crate::object_lines::{write_code_object, write_named, write_object_end};
 use crate::sample_object::reason_for;
 use crate::signals::signal_name;
-use cfi_cores::CoreThread;
+use cfi_cores::{CoreThread, Fault};
 use cfi_processes::Name;
 use cfi_processes::process_code::ProcessCode;
 use cfi_processes::sample_stack::NoFrames;
@@ -56,43 +56,66 @@ fn write_thread_head<W: Write>(
 ) -> io::Result<()>
     ensures { Writes (W.contents output.old) (W.contents output.new) result
         (thread_head (thread_view thread.now).tid (thread_view thread.now).signal
-        (bytes_of name.entry)) }
+        (thread_view thread.now).fault (bytes_of name.entry)) }
 {
-    write_tid_members(output, thread.tid, thread.signal)?;
+    write_tid_members(output, thread.tid, thread.signal, thread.fault)?;
     write_process_member(output, name)?;
     write_text(output, b",\"frames\":[")
 }
 
-/// Writes the number of a thread and its signal.
-fn write_tid_members<W: Write>(output: &mut W, tid: u32, signal: u16) -> io::Result<()>
+/// Writes the number of a thread and its signal, with the fault for which it got that.
+fn write_tid_members<W: Write>(
+    output: &mut W,
+    tid: u32,
+    signal: u16,
+    fault: Option<Fault>,
+) -> io::Result<()>
     ensures { Writes (W.contents output.old) (W.contents output.new) result
-        (tid_members tid signal) }
+        (tid_members tid signal fault) }
 {
     let mut text = Text::new();
-    push_tid_members(&mut text, tid, signal)?;
+    push_tid_members(&mut text, tid, signal, fault)?;
     write_text(output, text.as_slice())
 }
 
 /// Appends what `write_tid_members` writes. Fails where there is no room.
-fn push_tid_members(text: &mut Text, tid: u32, signal: u16) -> fmt::Result
-    ensures { OnOk result (text.new.items ≡ text.old.items ++ tid_members tid signal) }
+fn push_tid_members(text: &mut Text, tid: u32, signal: u16, fault: Option<Fault>) -> fmt::Result
+    ensures { OnOk result (text.new.items ≡ text.old.items ++ tid_members tid signal fault) }
 {
     push(text, b"{\"tid\":")?;
     push_number(text, u64::from(tid))?;
-    push_signal_members(text, signal)
+    push_signal_members(text, signal, fault)
 }
 
-/// Appends the signal that a thread got, if it got one: its number, and its name if it has one.
-/// Fails where there is no room.
-fn push_signal_members(text: &mut Text, signal: u16) -> fmt::Result
-    ensures { OnOk result (text.new.items ≡ text.old.items ++ signal_members signal) }
+/// Appends the signal that a thread got, if it got one: its number, its name if it has one, and the
+/// fault. Fails where there is no room.
+fn push_signal_members(text: &mut Text, signal: u16, fault: Option<Fault>) -> fmt::Result
+    ensures { OnOk result (text.new.items ≡ text.old.items ++ signal_members signal fault) }
 {
     if signal == 0 {
         return Ok(());
     }
     push(text, b",\"signal\":")?;
     push_number(text, u64::from(signal))?;
-    push_signal_name(text, signal_name(signal))
+    push_signal_name(text, signal_name(signal))?;
+    push_fault(text, fault)
+}
+
+/// Appends the fault for which a thread got a signal, if it is known: its code and its address.
+/// Fails where there is no room.
+fn push_fault(text: &mut Text, fault: Option<Fault>) -> fmt::Result
+    ensures { OnOk result (text.new.items ≡ text.old.items ++ fault_members fault) }
+{
+    match fault {
+        None => Ok(()),
+        Some(fault) => {
+            push(text, b",\"code\":")?;
+            push_number(text, u64::from(fault.code))?;
+            push(text, b",\"fault\":\"")?;
+            push_address(text, fault.address)?;
+            push(text, b"\"")
+        }
+    }
 }
 
 /// Appends the name of a signal, if it has one. Fails where there is no room.

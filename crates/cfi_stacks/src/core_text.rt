@@ -11,8 +11,8 @@ ghost use Rattle.cfi_processes.specs.Modules.{module_view};
 ghost use Rattle.cfi_processes.specs.ThreadNames.{bytes_of};
 ghost use Rattle.cfi_stacks.specs.CoreOutputs.{IsThreadText, thread_in, thread_text};
 ghost use Rattle.cfi_stacks.specs.Rooms.{IsRoomFor};
-ghost use Rattle.cfi_stacks.specs.StackTexts.{process_text, signal_name_text, signal_text};
-ghost use Rattle.cfi_stacks.specs.StackTexts.{thread_line, thread_start};
+ghost use Rattle.cfi_stacks.specs.StackTexts.{fault_text, process_text, signal_name_text};
+ghost use Rattle.cfi_stacks.specs.StackTexts.{signal_text, thread_line, thread_start};
 
 use crate::core_frames::print_core_walk;
 use crate::core_object::write_thread_object;
@@ -22,14 +22,14 @@ use crate::sample_text::{REGISTERS, Room};
 use crate::signals::signal_name;
 use crate::stack_lines::LineRoom;
 use crate::thread_stack::unwind_thread;
-use cfi_cores::{CoreMemory, CoreThread};
+use cfi_cores::{CoreMemory, CoreThread, Fault};
 use cfi_processes::Name;
 use cfi_processes::process_code::{FileModule, ProcessCode};
 use cfi_processes::registers::SampleMachine;
 use cfi_processes::sample_stack::NoFrames;
 use cfi_programs::lines::write_text;
 use cfi_programs::style::Format;
-use cfi_programs::text::{Text, push, push_decimal};
+use cfi_programs::text::{Text, push, push_address, push_decimal};
 use cfi_step::{Modules, StackFrame, Walk};
 use std::io::Write;
 use std::{fmt, io};
@@ -95,7 +95,7 @@ pub fn print_thread<W: Write>(
 }
 
 /// Prints what was found of a thread's stack.
-fn print_found<W: Write>(
+pub(crate) fn print_found<W: Write>(
     listing: ThreadListing,
     code: &ProcessCode<'_, '_, '_>,
     name: Option<Name<'_>>,
@@ -140,8 +140,8 @@ fn print_lines<W: Write>(
     write_text(output, b"\n")
 }
 
-/// Writes the line of a thread: its number, the signal that it got, if it got one, and the name of
-/// its process, if it is known.
+/// Writes the line of a thread: its number, the signal that it got, if it got one, with the fault,
+/// and the name of its process, if it is known.
 fn write_thread<W: Write>(
     output: &mut W,
     thread: &CoreThread<'_>,
@@ -149,43 +149,65 @@ fn write_thread<W: Write>(
 ) -> io::Result<()>
     ensures { Writes (W.contents output.old) (W.contents output.new) result
         (thread_line (thread_view thread.now).tid (thread_view thread.now).signal
-        (bytes_of name.entry)) }
+        (thread_view thread.now).fault (bytes_of name.entry)) }
 {
-    write_start(output, thread.tid, thread.signal)?;
+    write_start(output, thread.tid, thread.signal, thread.fault)?;
     write_process(output, name)?;
     write_text(output, b"\n")
 }
 
-/// Writes the number of a thread and its signal.
-fn write_start<W: Write>(output: &mut W, tid: u32, signal: u16) -> io::Result<()>
+/// Writes the number of a thread and its signal, with the fault for which it got that.
+fn write_start<W: Write>(
+    output: &mut W,
+    tid: u32,
+    signal: u16,
+    fault: Option<Fault>,
+) -> io::Result<()>
     ensures { Writes (W.contents output.old) (W.contents output.new) result
-        (thread_start tid signal) }
+        (thread_start tid signal fault) }
 {
     let mut text = Text::new();
-    push_start(&mut text, tid, signal)?;
+    push_start(&mut text, tid, signal, fault)?;
     write_text(output, text.as_slice())
 }
 
 /// Appends what `write_start` writes. Fails where there is no room.
-fn push_start(text: &mut Text, tid: u32, signal: u16) -> fmt::Result
-    ensures { OnOk result (text.new.items ≡ text.old.items ++ thread_start tid signal) }
+fn push_start(text: &mut Text, tid: u32, signal: u16, fault: Option<Fault>) -> fmt::Result
+    ensures { OnOk result (text.new.items ≡ text.old.items ++ thread_start tid signal fault) }
 {
     push(text, b"thread ")?;
     push_decimal(text, u64::from(tid))?;
-    push_signal(text, signal)
+    push_signal(text, signal, fault)
 }
 
-/// Appends the signal that a thread got, if it got one: its number, and its name if it has one.
-/// Fails where there is no room.
-fn push_signal(text: &mut Text, signal: u16) -> fmt::Result
-    ensures { OnOk result (text.new.items ≡ text.old.items ++ signal_text signal) }
+/// Appends the signal that a thread got, if it got one: its number, its name if it has one, and the
+/// fault. Fails where there is no room.
+fn push_signal(text: &mut Text, signal: u16, fault: Option<Fault>) -> fmt::Result
+    ensures { OnOk result (text.new.items ≡ text.old.items ++ signal_text signal fault) }
 {
     if signal == 0 {
         return Ok(());
     }
     push(text, b" signal ")?;
     push_decimal(text, u64::from(signal))?;
-    push_signal_name(text, signal_name(signal))
+    push_signal_name(text, signal_name(signal))?;
+    push_fault(text, fault)
+}
+
+/// Appends the fault for which a thread got a signal, if it is known: its code and its address.
+/// Fails where there is no room.
+fn push_fault(text: &mut Text, fault: Option<Fault>) -> fmt::Result
+    ensures { OnOk result (text.new.items ≡ text.old.items ++ fault_text fault) }
+{
+    match fault {
+        None => Ok(()),
+        Some(fault) => {
+            push(text, b" code ")?;
+            push_decimal(text, u64::from(fault.code))?;
+            push(text, b" address ")?;
+            push_address(text, fault.address)
+        }
+    }
 }
 
 /// Appends the name of a signal behind a space, if it has one. Fails where there is no room.

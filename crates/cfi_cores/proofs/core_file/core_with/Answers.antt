@@ -4,6 +4,7 @@ use Rattle.cfi_elf.specs.Options.{or_this}
 use Rattle.cfi_cores.specs.Contents.{Contents}
 use Rattle.cfi_cores.specs.CoreFiles.{with_vdso}
 use Rattle.cfi_cores.specs.CoreSegments.{segment_view}
+use Rattle.cfi_cores.specs.Faults.{fault_by, with_fault}
 use Rattle.cfi_cores.specs.Vdso.{vdso_by}
 use Rattle.cfi_cores.proofs.core_file.core_with.Goals as goal
 
@@ -12,7 +13,7 @@ returns-clause-core c =
     let keys = answers_always _ _ _ (λ f a r next called. search rules) in record {
       machine = refl;
       name = ap (λ (contents : Contents). contents.name) c.in_ok-contents.ensures;
-      threads = ap (λ (contents : Contents). contents.threads) c.in_ok-contents.ensures;
+      threads = c.with_fault.ensures ∙ ap₂ with_fault (c.fault_by.ensures ∙ ap (λ (contents : Contents). fault_by contents.siginfo) c.in_ok-contents.ensures) (ap (λ (contents : Contents). contents.threads) c.in_ok-contents.ensures);
       mapped = c.in_ok-with_vdso.ensures ∙ ap₂ with_vdso (c.or_none.ensures ∙ ap (λ (contents : Contents). or_this [] contents.mapped) c.in_ok-contents.ensures)
           (c.vdso_by-vdso.ensures ∙ ap₂ vdso_by (ap (map segment_view) c.as_slice.ensures.value ∙ c.in_ok-segments.ensures) (ap (λ (contents : Contents). contents.vector) c.in_ok-contents.ensures));
       segments = record {

@@ -9,14 +9,14 @@ use Rattle.cfi_stacks.proofs.core_object.write_thread_object.Goals as goal
 
 pub returns-in_err-write_thread_head : goal.returns-in_err-write_thread_head
 returns-in_err-write_thread_head g c =
-    let head = thread_head c.args.thread.now.tid c.args.thread.now.signal (bytes_of c.args.name) in
+    let head = thread_head c.args.thread.now.tid c.args.thread.now.signal c.args.thread.now.fault (bytes_of c.args.name) in
     let frames = listed (core_walk_objects c.args.raw (map known_view c.args.code.now.files.now) c.args.code.now.mappings.now c.args.found c.args.frames.now) in
     let end = object_end (reason_for c.args.found) in
     first_refused _ _ _ head (frames ++ (end)) c.from_residual.ensures.0 c.in_err-write_thread_head.ensures
 
 pub returns-in_err-write_core_walk : goal.returns-in_err-write_core_walk
 returns-in_err-write_core_walk g c =
-    let head = thread_head c.args.thread.now.tid c.args.thread.now.signal (bytes_of c.args.name) in
+    let head = thread_head c.args.thread.now.tid c.args.thread.now.signal c.args.thread.now.fault (bytes_of c.args.name) in
     let frames = listed (core_walk_objects c.args.raw (map known_view c.args.code.now.files.now) c.args.code.now.mappings.now c.args.found c.args.frames.now) in
     let end = object_end (reason_for c.args.found) in
     last_written _ _ _ _ head (frames ++ (end)) c.in_ok-write_thread_head.ensures
@@ -24,7 +24,7 @@ returns-in_err-write_core_walk g c =
 
 pub returns : goal.returns
 returns g c =
-    let head = thread_head c.args.thread.now.tid c.args.thread.now.signal (bytes_of c.args.name) in
+    let head = thread_head c.args.thread.now.tid c.args.thread.now.signal c.args.thread.now.fault (bytes_of c.args.name) in
     let frames = listed (core_walk_objects c.args.raw (map known_view c.args.code.now.files.now) c.args.code.now.mappings.now c.args.found c.args.frames.now) in
     let end = object_end (reason_for c.args.found) in
     last_written _ _ _ _ head (frames ++ (end)) c.in_ok-write_thread_head.ensures

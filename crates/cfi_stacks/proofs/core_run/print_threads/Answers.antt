@@ -1,4 +1,4 @@
-use Rattle.std.proofs.Common.{◌≡◌, ◌∙◌, ◌+◌, ◌∷◌, ◌++◌, [], List, ap, ap₂, get_or, map, subst, sym, take}
+use Rattle.std.proofs.Common.{None, ◌≡◌, ◌∙◌, ◌+◌, ◌∷◌, ◌++◌, [], List, ap, ap₂, get_or, map, subst, sym, take}
 use Rattle.cfi_cores.specs.CoreFiles.{core_view}
 use Rattle.cfi_cores.specs.CoreMemories.{memory_view}
 use Rattle.cfi_cores.specs.declared.thread.CoreThread.{CoreThread as ThreadOfCode}
@@ -15,7 +15,7 @@ use Rattle.cfi_stacks.proofs.ThreadLemmas.{Printed, all_threads, broken, next_th
 use Rattle.cfi_stacks.proofs.core_run.print_threads.Goals as goal
 
 no_thread : ThreadOfCode
-no_thread = record { tid = 0; signal = 0; registers = record { ref_ptr = (0, 0); now = [] } }
+no_thread = record { tid = 0; signal = 0; fault = None; registers = record { ref_ptr = (0, 0); now = [] } }
 
 pub loop-thread-init : goal.loop-thread-init
 loop-thread-init g c =

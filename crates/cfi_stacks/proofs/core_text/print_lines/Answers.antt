@@ -9,16 +9,16 @@ use Rattle.cfi_stacks.proofs.core_text.print_lines.Goals as goal
 pub returns-in_err-write_thread : goal.returns-in_err-write_thread
 returns-in_err-write_thread g c =
     let walk = core_walk_text c.args.raw (map known_view c.args.code.now.files.now) c.args.code.now.mappings.now c.args.found c.args.frames.now in
-    first_refused _ _ _ (thread_line c.args.thread.now.tid c.args.thread.now.signal (bytes_of c.args.name)) (walk ++ 10 ∷ []) c.from_residual.ensures.0 c.in_err-write_thread.ensures
+    first_refused _ _ _ (thread_line c.args.thread.now.tid c.args.thread.now.signal c.args.thread.now.fault (bytes_of c.args.name)) (walk ++ 10 ∷ []) c.from_residual.ensures.0 c.in_err-write_thread.ensures
 
 pub returns-in_err-print_core_walk : goal.returns-in_err-print_core_walk
 returns-in_err-print_core_walk g c =
     let walk = core_walk_text c.args.raw (map known_view c.args.code.now.files.now) c.args.code.now.mappings.now c.args.found c.args.frames.now in
-    last_written _ _ _ _ (thread_line c.args.thread.now.tid c.args.thread.now.signal (bytes_of c.args.name)) (walk ++ 10 ∷ []) c.in_ok-write_thread.ensures
+    last_written _ _ _ _ (thread_line c.args.thread.now.tid c.args.thread.now.signal c.args.thread.now.fault (bytes_of c.args.name)) (walk ++ 10 ∷ []) c.in_ok-write_thread.ensures
     (first_refused _ _ _ walk (10 ∷ []) c.from_residual-in_err-print_core_walk.ensures.0 c.in_err-print_core_walk.ensures)
 
 pub returns : goal.returns
 returns g c =
     let walk = core_walk_text c.args.raw (map known_view c.args.code.now.files.now) c.args.code.now.mappings.now c.args.found c.args.frames.now in
-    last_written _ _ _ _ (thread_line c.args.thread.now.tid c.args.thread.now.signal (bytes_of c.args.name)) (walk ++ 10 ∷ []) c.in_ok-write_thread.ensures
+    last_written _ _ _ _ (thread_line c.args.thread.now.tid c.args.thread.now.signal c.args.thread.now.fault (bytes_of c.args.name)) (walk ++ 10 ∷ []) c.in_ok-write_thread.ensures
     (last_written _ _ _ _ walk (10 ∷ []) c.in_ok-print_core_walk.ensures c.write_text.ensures)

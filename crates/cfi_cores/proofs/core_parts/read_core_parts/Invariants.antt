@@ -1,0 +1,9 @@
+use Rattle.std.proofs.Common.{◌≡◌}
+use Rattle.cfi_object.specs.FileParts.{AreOfInput}
+use Rattle.cfi_cores.specs.CoreParts.{image_of}
+use Rattle.cfi_cores.proofs.core_parts.read_core_parts.Given as goal
+
+abbrev pub invariant-loop-range : goal.invariant-loop-range
+invariant-loop-range g l =
+    let known = g.I.FileInput.bytes in
+    AreOfInput (known l.fn.input) (image_of l.parts) × (known l.input ≡ known l.fn.input)
