@@ -1,0 +1,76 @@
+-- Names as they are printed: characters of UTF-8 as they are, but for control characters, which are
+-- escaped, as is each byte that isn't UTF-8. So no name moves a terminal's cursor or breaks a line.
+--     parts name      the characters of a name, and its bytes that are none
+--     shown name      what is printed of it in a text
+use Rattle.std.specs.Prelude.{ℕ, ◌-◌, ◌/◌, ◌%◌, ◌==◌, ◌&&◌, ◌||◌, Bool, List, [], ◌∷◌, ◌++◌}
+use Rattle.std.specs.Prelude.{codes, false, flat_map, length, nat_le, nat_lt, suc, take, zero}
+use Rattle.std.specs.Prelude.{if◌then◌else◌}
+use Rattle.std.specs.Fmt.{digit_glyph}
+use Rattle.cfi_names.specs.declared.Kind.{Kind}
+use Rattle.cfi_names.specs.declared.Kind.TheVariants.{Shown, Control, Stray}
+use Rattle.cfi_names.specs.declared.Part.{Part as PartOfCode}
+use Rattle.cfi_names.specs.Utf8.{scalar, sequence_length}
+
+-- ---- the parts of a name
+
+-- A character, or a byte that is none.
+pub record Part : Type 0 where
+  pub kind : Kind
+  pub bytes : List ℕ
+
+abbrev pub part_view : PartOfCode → Part
+part_view part = record { kind = part.kind; bytes = part.bytes.now }
+
+-- the control characters (general category Cc): U+0000 to U+001F, U+007F to U+009F
+abbrev pub is_control : ℕ → Bool
+is_control c = nat_lt c 0x20 || (nat_le 0x7f c && nat_le c 0x9f)
+
+abbrev pub kind_of : List ℕ → Kind
+kind_of character = if is_control (scalar character) then Control else Shown
+
+-- a byte with which no character begins is a part of its own
+abbrev pub first_part : List ℕ → Part
+first_part bytes =
+    if sequence_length bytes == 0 then record { kind = Stray; bytes = take 1 bytes }
+    else record {
+      kind = kind_of (take (sequence_length bytes) bytes);
+      bytes = take (sequence_length bytes) bytes;
+    }
+
+-- those behind so many bytes, which are the rest of a part
+abbrev pub parts_behind : ℕ → List ℕ → List Part
+parts_behind k [] = []
+parts_behind zero (b ∷ bytes) =
+    first_part (b ∷ bytes)
+    ∷ parts_behind (length (first_part (b ∷ bytes)).bytes - 1) bytes
+parts_behind (suc k) (b ∷ bytes) = parts_behind k bytes
+
+abbrev pub parts : List ℕ → List Part
+parts name = parts_behind 0 name
+
+-- ---- what is printed
+
+-- two lower-case hexadecimal digits
+abbrev pub hexadecimal : ℕ → List ℕ
+hexadecimal b = digit_glyph false (b / 16) ∷ digit_glyph false (b % 16) ∷ []
+
+abbrev pub byte_escape : ℕ → List ℕ
+byte_escape b = codes "\\x" ++ hexadecimal b
+
+-- of a control character each byte, and a stray one
+abbrev pub shown_kind : Kind → List ℕ → List ℕ
+shown_kind Shown bytes = bytes
+shown_kind Control bytes = flat_map byte_escape bytes
+shown_kind Stray bytes = flat_map byte_escape bytes
+
+abbrev pub shown_part : Part → List ℕ
+shown_part part = shown_kind part.kind part.bytes
+
+abbrev pub shown : List ℕ → List ℕ
+shown name = flat_map shown_part (parts name)
+
+-- ---- most names
+
+-- printable ASCII, which is shown as it is
+abbrev pub is_printable : ℕ → Bool
+is_printable b = nat_le 0x20 b && nat_lt b 0x7f

@@ -1,0 +1,171 @@
+//! Names of functions, files and threads, as they are printed: UTF-8 as it is, but for control
+//! characters, which are escaped as `\x1b`, as is each byte that isn't UTF-8. So no name moves a
+//! terminal's cursor or breaks a line.
+#![tactic(auto)]
+
+ghost use Rattle.std.specs.Prelude.{◌≡◌, ◌<◌, ◌++◌, IfOk, OnOk, false, flat_map, length};
+ghost use Rattle.std.specs.Fmt.{digit_glyph};
+ghost use Rattle.std.specs.List.{list_all};
+ghost use Rattle.cfi_names.specs.Utf8.{scalar, sequence_length};
+ghost use Rattle.cfi_names.specs.Names.{byte_escape, first_part, is_control};
+ghost use Rattle.cfi_names.specs.Names.{is_printable, kind_of, part_view, shown, shown_part};
+
+use std::alloc::{AllocError, Global};
+
+/// What a part of a name is.
+#[derive(Clone, Copy, Debug, PartialEq, Eq)]
+pub enum Kind {
+    /// A character that is shown as it is.
+    Shown,
+    /// A control character: U+0000 to U+001F, or U+007F to U+009F.
+    Control,
+    /// A byte with which no character of UTF-8 begins.
+    Stray,
+}
+
+/// A character of a name, or a byte that is none.
+#[derive(Clone, Copy, Debug)]
+pub struct Part<'name> {
+    /// What it is.
+    pub kind: Kind,
+    /// Its bytes, of which there is at least one.
+    pub bytes: &'name [u8],
+}
+
+/// Returns what the bytes of a name, or what is left of them, begin with. Does not allocate.
+pub fn first_part(bytes: &[u8]) -> Part<'_>
+    requires { 0 < length bytes.now }
+    ensures { part_view result ≡ first_part bytes.now }
+{
+    let length = sequence_length(bytes);
+    if length == 0 {
+        return Part {
+            kind: Kind::Stray,
+            bytes: &bytes[..1],
+        };
+    }
+    let character = &bytes[..length];
+    Part {
+        kind: kind_of(character),
+        bytes: character,
+    }
+}
+
+/// Returns how many bytes the character of UTF-8 has that the bytes begin with, 0 where they begin
+/// with none (The Unicode Standard, Table 3-7).
+fn sequence_length(bytes: &[u8]) -> usize
+    ensures { result ≡ sequence_length bytes.now }
+{
+    match bytes {
+        [0x00..=0x7f, ..] => 1,
+        [0xc2..=0xdf, 0x80..=0xbf, ..] => 2,
+        [0xe0, 0xa0..=0xbf, 0x80..=0xbf, ..] => 3,
+        [0xe1..=0xec, 0x80..=0xbf, 0x80..=0xbf, ..] => 3,
+        [0xed, 0x80..=0x9f, 0x80..=0xbf, ..] => 3,
+        [0xee..=0xef, 0x80..=0xbf, 0x80..=0xbf, ..] => 3,
+        [0xf0, 0x90..=0xbf, 0x80..=0xbf, 0x80..=0xbf, ..] => 4,
+        [0xf1..=0xf3, 0x80..=0xbf, 0x80..=0xbf, 0x80..=0xbf, ..] => 4,
+        [0xf4, 0x80..=0x8f, 0x80..=0xbf, 0x80..=0xbf, ..] => 4,
+        _ => 0,
+    }
+}
+
+/// Returns whether a character is shown as it is.
+fn kind_of(character: &[u8]) -> Kind
+    ensures { result ≡ kind_of character.now }
+{
+    if is_control(scalar(character)) {
+        Kind::Control
+    } else {
+        Kind::Shown
+    }
+}
+
+/// Returns whether this is the number of a control character.
+fn is_control(number: u32) -> bool
+    ensures { result ≡ is_control number }
+{
+    number < 0x20 || 0x7f <= number && number <= 0x9f
+}
+
+/// Returns the number of the character of UTF-8 that these bytes are, and of one byte alone its
+/// value (The Unicode Standard, Table 3-6).
+pub fn scalar(character: &[u8]) -> u32
+    ensures { result ≡ scalar character.now }
+{
+    match character {
+        [a] => *a as u32,
+        [a, b] => *a as u32 % 32 * 64 + *b as u32 % 64,
+        [a, b, c] => (*a as u32 % 16 * 64 + *b as u32 % 64) * 64 + *c as u32 % 64,
+        [a, b, c, d] => {
+            ((*a as u32 % 8 * 64 + *b as u32 % 64) * 64 + *c as u32 % 64) * 64 + *d as u32 % 64
+        }
+        _ => 0,
+    }
+}
+
+/// Returns whether each byte of a name is printable ASCII. Such a name is shown as it is.
+pub fn is_plain(name: &[u8]) -> bool
+    ensures { result ≡ list_all is_printable name.now }
+{
+    let mut is_plain = true;
+    for byte in name {
+        is_plain = is_plain & (0x20 <= *byte && *byte < 0x7f);
+    }
+    is_plain
+}
+
+/// Returns the name as it is printed in a text. Allocates for it.
+pub fn shown_name(alloc: Global, name: &[u8]) -> Result<Vec<u8>, AllocError>
+    ensures { IfOk result (λ text. text.items ≡ shown name.now) }
+{
+    let mut text = Vec::new(alloc);
+    let mut left = name;
+    while !left.is_empty() {
+        let part = first_part(left);
+        push_part(&mut text, part)?;
+        left = &left[part.bytes.len()..];
+    }
+    Ok(text)
+}
+
+/// Appends what is printed of a part of a name in a text. Fails where memory is refused.
+pub fn push_part(text: &mut Vec<u8>, part: Part<'_>) -> Result<(), AllocError>
+    ensures { OnOk result
+        (text.new.items ≡ text.old.items ++ shown_part (part_view part.entry)) }
+{
+    match part.kind {
+        Kind::Shown => text.extend_from_slice(part.bytes),
+        Kind::Control | Kind::Stray => push_escapes(text, part.bytes),
+    }
+}
+
+/// Appends what stands for the bytes where they aren't shown. Fails where memory is refused.
+pub fn push_escapes(text: &mut Vec<u8>, bytes: &[u8]) -> Result<(), AllocError>
+    ensures { OnOk result
+        (text.new.items ≡ text.old.items ++ flat_map byte_escape bytes.now) }
+{
+    for byte in bytes {
+        text.extend_from_slice(&byte_escape(*byte))?;
+    }
+    Ok(())
+}
+
+/// Returns what stands for a byte in a text, as `\x1b`.
+pub fn byte_escape(byte: u8) -> [u8; 4]
+    ensures { result ≡ byte_escape byte }
+{
+    [b'\\', b'x', digit(byte / 16), digit(byte % 16)]
+}
+
+/// The lower-case hexadecimal digits, by their values.
+const DIGITS: [u8; 16] = *b"0123456789abcdef";
+
+/// Returns the lower-case hexadecimal digit of the value.
+#[inline(always)]
+pub fn digit(value: u8) -> u8
+    requires { value < 16 }
+    ensures { result ≡ digit_glyph false value }
+{
+    DIGITS[value as usize]
+}
