@@ -204,7 +204,6 @@ static uint64_t file_of(const CfiModule *module, const CfiMemory *memory) {
 static CfiCache cache;
 static unsigned held; /* how many steps were made in place */
 
-/* Whether the step with a cache is that without: by none, by an empty one, and by the row that it then has. */
 /* Whether the step in place is the one that is due, or isn't made because no row is kept. */
 static int is_held(uint64_t file, const CfiMemory *memory, const CfiFrame *frame, const CfiValue *registers, size_t count,
                    const Step *due) {
@@ -231,6 +230,7 @@ static int is_held(uint64_t file, const CfiMemory *memory, const CfiFrame *frame
     return is_step(&step, due);
 }
 
+/* Whether the step with a cache is that without: by none, by an empty one, and by the row that it then has. */
 static int is_cached(CfiContext *context, uint64_t file, const CfiModule *module, const CfiMemory *memory, const CfiFrame *frame,
                      const CfiValue *registers, size_t count) {
     CfiCache none = {0}, *caches[4] = {NULL, &none, &cache, &cache};
@@ -243,15 +243,19 @@ static int is_cached(CfiContext *context, uint64_t file, const CfiModule *module
     return same && (!context->live || is_held(file, memory, frame, registers, count, &steps[0]));
 }
 
-/* A CIE as the first one, and an FDE 0x1000 to 0x1010 whose row has seven rules, with a CFA of r7 and a number that is to come. */
+/* A CIE as the first one, and an FDE 0x1000 to 0x1010 whose row has 13 rules, with a CFA of r7 and a number that is to come; and two
+ * nops, or one more rule. */
 static const char *const MANY_RULES = "1000000000000000 0100017810 0c0708 9001 0000"
                                       "3000000018000000 0010000000000000 1000000000000000 0e%s"
-                                      "8002 8103 8204 8305 8606 8e07 0000 0000 0000 0000 0000 0000 0000";
+                                      "8002 8103 8204 8305 8406 8507 8608 8809 890a 8a0b 8b0c 8c0d %s";
 
-/* Rows with as many rules as are kept, of two modules, which have one address but other numbers of their files; and no memory for a cache. */
+/* Rows with as many rules as are kept, of two modules, which have one address but other numbers of their files; a row with one more,
+ * which isn't kept; and no memory for a cache. */
+enum { MANY = 3 };
+
 static void check_many_rules(CfiContext *context) {
-    static uint8_t sections[2][128], bytes[128];
-    CfiModule modules[2];
+    static uint8_t sections[MANY][128], bytes[128];
+    CfiModule modules[MANY];
     CfiWindow window = {0x7000, bytes, sizeof bytes};
     CfiMemory memory = {&window, 1, 0, 100, 7, false, 8};
     CfiFrame frame = {.pc = 0x1008, .is_interrupted = true};
@@ -261,19 +265,21 @@ static void check_many_rules(CfiContext *context) {
         bytes[i] = i;
     for (size_t k = 0; k < REGISTERS; k++)
         registers[k] = (CfiValue){k == 7 ? 0x7000 : 2 * k, k != 9};
-    for (size_t i = 0; i < 2; i++) {
+    for (size_t i = 0; i < MANY; i++) {
         char text[256];
-        sprintf(text, MANY_RULES, i ? "70" : "78");
+        sprintf(text, MANY_RULES, i == 1 ? "70" : "78", i == 2 ? "8d0e" : "0000");
         memset(&modules[i], 0, sizeof modules[i]);
         modules[i].start = 0x1000, modules[i].end = 0x1010, modules[i].eh_frame = sections[i];
         modules[i].eh_frame_len = unhex(text, sections[i]), modules[i].bases.section = 0x8000;
     }
-    for (uint64_t round = 0; round < 4; round++) {
-        const CfiModule *module = &modules[round % 2];
-        Step step = step_of(context, &cache, 8 + round % 2, module, &memory, &frame, registers, REGISTERS);
-        uint64_t cfa = round % 2 ? 0x7070 : 0x7078;
+    for (uint64_t round = 0; round < 2 * MANY; round++) {
+        uint64_t file = 8 + round % MANY;
+        const CfiModule *module = &modules[round % MANY];
+        Step step = step_of(context, &cache, file, module, &memory, &frame, registers, REGISTERS);
+        uint64_t cfa = round % MANY == 1 ? 0x7070 : 0x7078;
+        unsigned more = held + (round % MANY < 2);
         stacks++;
-        if (!is_cached(context, 8 + round % 2, module, &memory, &frame, registers, REGISTERS) || step.caller.cfa != cfa ||
+        if (!is_cached(context, file, module, &memory, &frame, registers, REGISTERS) || held != more || step.caller.cfa != cfa ||
             step.kind != CFI_END_NONE || step.registers[7].value != cfa || step.registers[14].known != true) {
             failures++;
             printf("c library: many rules, round %d: cfa %#" PRIx64 "\n", (int)round, step.caller.cfa);

@@ -384,8 +384,9 @@ void cfi_cache_clear(CfiCache *cache);
 
 /* As cfi_step in all that it returns and writes, with a cache of rows: a frame whose row the cache has is stepped from without
  * its FDE, its header or an instruction; else the row is found as by cfi_step, and kept if it is a plain one, as compilers
- * write them: at most 7 rules, of registers that are undefined or saved at the CFA plus -1024 to 1016 bytes, a multiple of 8; the
- * CFA a register plus a multiple of 8. Which row is replaced is open. Without a cache it is cfi_step.
+ * write them: at most 13 rules, of registers that are undefined, saved at the CFA plus -1000 to 1016 bytes, a multiple of 8, or 0
+ * or 1, as the sign state of AArch64; the CFA a register plus a multiple of 8; pushed arguments of up to 504 bytes, a multiple of
+ * 8. Which row is replaced is open. Without a cache it is cfi_step.
  *
  * file is the caller's number for the module's file: all modules that are passed with this cache and this number have the same
  * eh_frame, header and bases, and the size of an address is the same with all numbers. Whoever closes a module, and then uses

@@ -23,6 +23,7 @@ use Rattle.cfi_step.specs.declared.step.Caller.{Caller}
 use Rattle.cfi_step.specs.Callers.{AreRecovered}
 use Rattle.cfi_step.specs.Functions.{function_of}
 use Rattle.cfi_step.specs.PackedRows.{AreEmpty, IsKept, KeepsFound, SaysRowOf, function_packed, parts_packed, rows_in}
+use Rattle.cfi_step.specs.Marks.{is_trampoline as marked}
 use Rattle.cfi_step.specs.PackedRules.{numbered}
 use Rattle.cfi_step.specs.Steps.{caller_by}
 use Rattle.cfi_step.proofs.KeptRows.{same_caller}
@@ -68,7 +69,7 @@ module _ (memory : CfiMemory) (loaded : CfiModule) (a : ℕ) (registers new : Li
             Ok of_row,
             is_row,
             (
-              same_caller (λ (n : ℕ). n) frame bytes abi (parts_packed row) step (numbered row.numbers.return_address) fde.cie.return_address_register row.is_signal_trampoline (is_trampoline fde.cie.augmentation)
+              same_caller (λ (n : ℕ). n) frame bytes abi (parts_packed row) step (numbered row.numbers.return_address) fde.cie.return_address_register (marked row.numbers.marks) (is_trampoline fde.cie.augmentation)
                   (is bytes) (ap (λ f. f.return_address) same) (ap (λ f. f.is_signal_trampoline) same)
                   ∙ ap (caller_by frame bytes abi (λ (n : ℕ). n) fde.cie.return_address_register (is_trampoline fde.cie.augmentation)) parts,
               if_ok_then step (λ c. AreOfCaller memory (take 256 registers) row c.cfa new) (λ c. AreRecovered frame bytes abi (λ (n : ℕ). n) of_row.parts c.cfa (length (values_of new)) (values_of new))

@@ -8,8 +8,8 @@ use Rattle.cfi_state.specs.Machine.{Parts}
 use Rattle.cfi_step.specs.declared.packed_rules.PackedRule.{PackedRule}
 use Rattle.cfi_step.specs.declared.packed_rows.PackedRow.{PackedRow}
 use Rattle.cfi_step.specs.Callers.{AreRecovered, by_rule, given}
-use Rattle.cfi_step.specs.PackedRows.{parts_packed}
-use Rattle.cfi_step.specs.PackedRules.{listed, pair_of}
+use Rattle.cfi_step.specs.PackedRows.{listed, parts_packed}
+use Rattle.cfi_step.specs.PackedRules.{pair_of}
 use Rattle.cfi_step.proofs.Recovering.{none_yet, one_more, with_rules}
 use Rattle.cfi_c.specs.declared.memory.CfiMemory.{CfiMemory}
 use Rattle.cfi_c.specs.declared.stack.CfiValue.{CfiValue}
@@ -53,8 +53,8 @@ module _ (memory : CfiMemory) (registers : List CfiValue) (parts : Parts ℕ) (c
     )
 
 -- all rules are those of the row
-pub by_all : (memory : CfiMemory) (registers : List CfiValue) (row : PackedRow) (cfa index : ℕ) (rules : List PackedRule) (new : List CfiValue) → index ≡ 0 → rules ≡ listed row.rules
+pub by_all : (memory : CfiMemory) (registers : List CfiValue) (row : PackedRow) (cfa index : ℕ) (rules : List PackedRule) (new : List CfiValue) → index ≡ 0 → rules ≡ listed row.numbers
     → AreWrittenBy memory registers (parts_packed row) cfa (drop index rules) new → AreOfCaller memory registers row cfa new
 by_all memory registers row cfa index rules new none same written =
-    let all : drop index rules ≡ listed row.rules = ap (λ (n : ℕ). drop n rules) none ∙ same in
+    let all : drop index rules ≡ listed row.numbers = ap (λ (n : ℕ). drop n rules) none ∙ same in
     subst (λ (l : List PackedRule). AreWrittenBy memory registers (parts_packed row) cfa l new) all written

@@ -7,8 +7,9 @@
 --     IsSteppedBy memory registers row old new function old_caller caller end      what C gets
 --     IsSteppedByHeld .. file a rows ..      the same by one of these rows, that of an address of a
 --         file
-use Rattle.std.specs.Prelude.{◌≡◌, ℕ, false, List, length, map, Option, Some, None, Result, Ok}
-use Rattle.std.specs.Prelude.{Err, IfOk, OnErr}
+use Rattle.std.specs.Prelude.{◌≡◌, ℕ, ◌<◌, ◌^◌, Bool, List, length, map, Option, Some, None}
+use Rattle.std.specs.Prelude.{Result, Ok, Err, IfOk, OnErr, bit_and}
+use Rattle.std.specs.Int.{w64, bit_not}
 use Rattle.std.specs.FinMap as map
 use Rattle.std.specs.List.{Contains}
 use Rattle.cfi_read_core.specs.declared.common.Register.{Register}
@@ -21,9 +22,12 @@ use Rattle.cfi_expression.specs.Frames.{Frame}
 use Rattle.cfi_expression.specs.Stacks.{map_value}
 use Rattle.cfi_step.specs.declared.packed_rows.PackedRow.{PackedRow}
 use Rattle.cfi_step.specs.declared.step.Caller.{Caller}
-use Rattle.cfi_step.specs.Callers.{AreRecovered, is_signed, return_address, return_by}
+use Rattle.cfi_step.specs.declared.packed_rules.SmallRule.{SmallRule}
+use Rattle.cfi_step.specs.Callers.{AreRecovered, by_rule, given, is_signed, on_ok, pc_of}
+use Rattle.cfi_step.specs.Callers.{return_address, return_by, saved_at, unsigned}
+use Rattle.cfi_step.specs.Marks.{is_trampoline}
 use Rattle.cfi_step.specs.PackedRows.{HoldsRow, function_packed, parts_packed}
-use Rattle.cfi_step.specs.PackedRules.{numbered}
+use Rattle.cfi_step.specs.PackedRules.{numbered, rule_by}
 use Rattle.cfi_step.specs.Steps.{caller_by}
 use Rattle.cfi_c.specs.declared.function.CfiFunction.{CfiFunction}
 use Rattle.cfi_c.specs.declared.memory.CfiMemory.{CfiMemory}
@@ -45,20 +49,26 @@ values_of registers = map known_value registers
 abbrev pub plain_of : List CfiValue → List CfiValue
 plain_of registers = map (λ register. written_value (known_value register)) registers
 
--- the pc that a register holds, if it is known
-abbrev pub IsPcOf : Option ℕ → Register → Result (Option ℕ) FrameError → Type 0
-IsPcOf (Some a) ra pc = pc ≡ Ok (Some a)
-IsPcOf None ra pc = pc ≡ Err (UnknownRegister ra)
+-- without these bits an address is as it is without its signature, where it has one
+abbrev pub Clears : ℕ → Bool → ℕ → Type 0
+Clears mask signed bits =
+    (a : ℕ) → a < 2 ^ 64 → bit_and a (bit_not w64 bits) ≡ unsigned mask signed a
+
+-- the pc that a register holds, if it is known, without its signature
+abbrev pub IsPcOf : ℕ → Bool → Option ℕ → Register → Result (Option ℕ) FrameError → Type 0
+IsPcOf mask signed (Some a) ra pc = pc ≡ Ok (Some (unsigned mask signed a))
+IsPcOf mask signed None ra pc = pc ≡ Err (UnknownRegister ra)
 
 module _ (memory : CfiMemory) (registers : List CfiValue) where
   abbrev pub frame_of : Frame
   frame_of = frame_in memory (values_of registers)
 
-  -- the pc by the rule of its register, where no rule says that it is signed
+  -- the pc by the rule of its register, where the row says with these bits that it is signed
   abbrev pub IsPcBy :
-      ℕ → ℕ → Option (RegisterRule ℕ) → Result (Option ℕ) FrameError → Type 0
-  IsPcBy cfa ra given pc =
-      (bytes : Position) (parts : Parts ℕ) → is_signed (map.get parts.rules 34) ≡ false → pc
+      ℕ → ℕ → ℕ → Option (RegisterRule ℕ) → Result (Option ℕ) FrameError → Type 0
+  IsPcBy cfa ra bits given pc =
+      (bytes : Position) (parts : Parts ℕ) →
+      Clears memory.signature_mask (is_signed (map.get parts.rules 34)) bits → pc
       ≡ return_by frame_of bytes (abi_in memory) (λ (n : ℕ). n) parts cfa (numbered ra) given
 
   module _ (row : PackedRow) where
@@ -66,7 +76,8 @@ module _ (memory : CfiMemory) (registers : List CfiValue) where
     IsCallerBy caller =
         (bytes : Position) → caller
         ≡ caller_by frame_of bytes (abi_in memory) (λ (n : ℕ). n)
-        (numbered row.numbers.return_address) row.is_signal_trampoline (parts_packed row)
+        (numbered row.numbers.return_address) (is_trampoline row.numbers.marks)
+        (parts_packed row)
 
     -- the same from the CFA on
     abbrev pub IsCallerFrom : ℕ → Result Caller FrameError → Type 0
@@ -76,7 +87,7 @@ module _ (memory : CfiMemory) (registers : List CfiValue) where
         (λ pc. record {
           cfa = cfa;
           pc = pc;
-          is_interrupted = row.is_signal_trampoline;
+          is_interrupted = is_trampoline row.numbers.marks;
           args_size = (parts_packed row).args_size;
         })
         (return_address frame_of bytes (abi_in memory) (λ (n : ℕ). n) (parts_packed row) cfa
@@ -101,6 +112,26 @@ module _ (memory : CfiMemory) (registers : List CfiValue) where
         × (function ≡ written_function (Some (function_packed row)))
         × (caller ≡ caller_or old_caller step)
         × (end ≡ end_by step)
+
+-- ---- what is read
+
+module _ (memory : CfiMemory) where
+  -- the pc that is saved at an address, without these bits
+  abbrev pub IsSavedPc : ℕ → ℕ → Result (Option ℕ) FrameError → Type 0
+  IsSavedPc a bits pc =
+      (registers : List CfiValue) (bytes : Position) (signed : Bool) (ra : Register) →
+      Clears memory.signature_mask signed bits → pc
+      ≡ on_ok (pc_of (frame_of memory registers) bytes (abi_in memory) (λ (n : ℕ). n) signed ra)
+      (saved_at (frame_of memory registers) a)
+
+  -- the value that a register has in the caller, by its rule
+  abbrev pub IsValueBy : ℕ → SmallRule → Option ℕ → Type 0
+  IsValueBy cfa rule value =
+      (registers : List CfiValue) (bytes : Position) (k : ℕ) → value
+      ≡ given (by_rule (frame_of memory registers) bytes (abi_in memory) (λ (n : ℕ). n) cfa k
+      (rule_by rule))
+
+-- ---- by a row that a cache holds
 
 abbrev pub IsSteppedByHeld :
     CfiMemory → ℕ → ℕ → List PackedRow → List CfiValue → List CfiValue → List CfiValue →

@@ -1,18 +1,20 @@
 //! The caller of one frame, by a packed row, from C's values to C's values.
-ghost use Rattle.std.specs.Prelude.{◌≡◌, ◌≤◌, ℕ, List, Ok, length, slice_set};
+ghost use Rattle.std.specs.Prelude.{◌≡◌, ◌≤◌, ℕ, Bool, List, Ok, length, slice_set};
+ghost use Rattle.std.specs.FinMap.{get};
 ghost use Rattle.std.specs.Option.{option_map};
 ghost use Rattle.cfi_read_core.specs.Addresses.{IsAddressSize};
 ghost use Rattle.cfi_read_core.specs.ReadFunctions.{Position};
 ghost use Rattle.cfi_expression.specs.Arithmetic.{displaced};
 ghost use Rattle.cfi_expression.specs.Frames.{known};
 ghost use Rattle.cfi_expression.specs.declared.error.FrameError.TheVariants.{UnknownRegister};
-ghost use Rattle.cfi_step.specs.Callers.{by_rule, cfa_of, given, return_address, saved_at};
+ghost use Rattle.cfi_step.specs.Callers.{by_rule, cfa_of, given, is_signed, return_address};
 ghost use Rattle.cfi_step.specs.Callers.{without_rule};
 ghost use Rattle.cfi_step.specs.PackedRows.{parts_packed};
-ghost use Rattle.cfi_step.specs.PackedRules.{eightfold, numbered, pair_of};
+ghost use Rattle.cfi_step.specs.PackedRules.{eightfold, numbered, pair_of, rule_by};
 ghost use Rattle.cfi_c.specs.FirstWindows.{IsFirst};
 ghost use Rattle.cfi_c.specs.declared.stack.CfiValue.{CfiValue};
-ghost use Rattle.cfi_c.specs.PackedSteps.{AreOfCaller, IsCallerBy, IsCallerFrom, IsPcBy, IsPcOf};
+ghost use Rattle.cfi_c.specs.PackedSteps.{AreOfCaller, Clears, IsCallerBy, IsCallerFrom, IsPcBy};
+ghost use Rattle.cfi_c.specs.PackedSteps.{IsPcOf, IsSavedPc, IsValueBy};
 ghost use Rattle.cfi_c.specs.PackedSteps.{IsSteppedBy, frame_of, plain_of, values_of};
 ghost use Rattle.cfi_c.specs.PassedMemories.{abi_in, number_in_memory};
 ghost use Rattle.cfi_c.specs.PassedStacks.{known_value};
@@ -25,8 +27,11 @@ use crate::memory::CfiMemory;
 use crate::stack::{CfiEnd, CfiValue, failed_end, known_value};
 use crate::step::{CfiCaller, NONE};
 use cfi_step::packed_rules::{eightfold, rule_of};
-use cfi_step::{Caller, FrameError, Memory, PackedRow, PackedRule};
+use cfi_step::{Caller, FrameError, Memory, PackedRow, PackedRule, SmallRule};
 use gimli_cfi::{ReaderAddress, Register};
+
+/// The number of `RA_SIGN_STATE`.
+const SIGN_STATE: u8 = 34;
 
 /// Writes the caller of a frame by a packed row, its registers, and what the row says of the
 /// function.
@@ -184,56 +189,94 @@ fn caller_pc(
 {
     let register = row.return_address();
     let rule = rule_of(row.rules(), register);
+    let signature = signature_of(row, memory);
     // most rules
-    if let Some(PackedRule::Offset(_register, words)) = rule {
+    if let Some(SmallRule::Offset(words)) = rule {
         if let Some(pc) = first.number_at(cfa, words) {
-            return Ok(Some(pc));
+            return Ok(Some(pc & !signature));
         }
     }
-    pc_by_rule(rule, memory, registers, cfa, register)
+    pc_by_rule(rule, memory, registers, cfa, register, signature)
 }
 
-/// The pc of the caller, by the rule of the register that holds it.
+/// The bits of the return address that hold its signature; 0 if the row doesn't say that there is
+/// one.
+#[inline(always)]
+fn signature_of(row: &PackedRow, memory: &CfiMemory<'_>) -> u64
+    ensures { Clears memory.now.signature_mask
+        (is_signed (get (parts_packed row.now).rules 34)) result }
+{
+    let mask = memory.signature_mask;
+    // where no address is ever signed, the rule is not looked up
+    if mask == 0 {
+        return 0;
+    }
+    if is_signed(rule_of(row.rules(), SIGN_STATE)) {
+        mask
+    } else {
+        0
+    }
+}
+
+/// Whether the rule of `RA_SIGN_STATE` says that the return address is signed.
+fn is_signed(rule: Option<SmallRule>) -> bool
+    ensures { result ≡ is_signed (option_map rule_by rule) }
+{
+    match rule {
+        Some(SmallRule::Constant(state)) => state == 1,
+        _ => false,
+    }
+}
+
+/// The pc of the caller, by the rule of the register that holds it, without the bits of its
+/// signature.
 #[inline(never)]
 fn pc_by_rule(
-    rule: Option<PackedRule>,
+    rule: Option<SmallRule>,
     memory: &CfiMemory<'_>,
     registers: &[CfiValue],
     cfa: u64,
     register: u8,
+    signature: u64,
 ) -> Result<Option<u64>, FrameError>
     requires size { IsAddressSize memory.now.address_size }
-    ensures { IsPcBy memory.now registers.now cfa register
-        (option_map (λ rule. (pair_of rule).1) rule) result }
+    ensures { IsPcBy memory.now registers.now cfa register signature
+        (option_map rule_by rule) result }
 {
     match rule {
-        Some(PackedRule::Undefined(_register)) => Ok(None),
-        Some(PackedRule::Offset(_register, words)) => saved_at(
+        Some(SmallRule::Undefined) => Ok(None),
+        Some(SmallRule::Offset(words)) => saved_pc(
             memory,
             displaced(cfa, eightfold(words), memory.address_size),
+            signature,
         ),
-        None => pc_of(without_rule(memory, registers, cfa, register), register),
+        Some(SmallRule::Constant(constant)) => Ok(Some(u64::from(constant) & !signature)),
+        None => pc_of(
+            without_rule(memory, registers, cfa, register),
+            register,
+            signature,
+        ),
     }
 }
 
-/// The pc of the caller, if the register that holds it is known.
-fn pc_of(value: Option<u64>, register: u8) -> Result<Option<u64>, FrameError>
-    ensures { IsPcOf value (numbered register) result }
+/// The pc of the caller, if the register that holds it is known, without these bits.
+fn pc_of(value: Option<u64>, register: u8, signature: u64) -> Result<Option<u64>, FrameError>
+    ensures { (mask : ℕ) (signed : Bool) → Clears mask signed signature →
+        IsPcOf mask signed value (numbered register) result }
 {
     match value {
-        Some(pc) => Ok(Some(pc)),
+        Some(pc) => Ok(Some(pc & !signature)),
         None => Err(unknown(register)),
     }
 }
 
-/// The address that is saved at an address.
-fn saved_at(memory: &CfiMemory<'_>, address: u64) -> Result<Option<u64>, FrameError>
+/// The pc that is saved at an address, without these bits.
+fn saved_pc(memory: &CfiMemory<'_>, address: u64, signature: u64) -> Result<Option<u64>, FrameError>
     requires size { IsAddressSize memory.now.address_size }
-    ensures { (registers : List CfiValue) → result
-        ≡ saved_at (frame_of memory.now registers) address }
+    ensures { IsSavedPc memory.now address signature result }
 {
     match memory.read(address, memory.address_size) {
-        Some(value) => Ok(Some(value)),
+        Some(pc) => Ok(Some(pc & !signature)),
         None => Err(FrameError::UnreadableMemory(address)),
     }
 }
@@ -293,14 +336,14 @@ fn write_ruled(
     // from the last rule to the first, which is the one that holds if a register has two
     let rules = row.rules();
     for index in (0..rules.len()).rev() {
-        write_by_rule(&rules[index], memory, first, cfa, caller);
+        write_by_rule(rules[index], memory, first, cfa, caller);
     }
 }
 
 /// Writes the value that a register has in the caller, by its rule, if there is room.
 #[inline(always)]
 fn write_by_rule(
-    rule: &PackedRule,
+    packed: PackedRule,
     memory: &CfiMemory<'_>,
     first: &FirstWindow<'_>,
     cfa: u64,
@@ -309,34 +352,32 @@ fn write_by_rule(
     requires size { IsAddressSize memory.now.address_size }
     requires first { IsFirst memory.now first.now }
     ensures { (registers : List CfiValue) (bytes : Position) → caller.new
-        ≡ slice_set caller.old (pair_of rule.now).0.0
+        ≡ slice_set caller.old packed.register
         (written_value (given (by_rule (frame_of memory.now registers) bytes
-        (abi_in memory.now) (λ (n : ℕ). n) cfa (pair_of rule.now).0.0 (pair_of rule.now).1))) }
+        (abi_in memory.now) (λ (n : ℕ). n) cfa packed.register (pair_of packed).1))) }
 {
-    let register = rule.register();
+    let register = packed.register();
     if usize::from(register) >= caller.len() {
         return;
     }
-    let value = value_of(rule, memory, first, cfa);
+    let value = value_of(&packed.rule(), memory, first, cfa);
     write_value(caller, register, value);
 }
 
 /// The value that a register has in the caller, by its rule; `None` also if it can't be read.
 #[inline(always)]
 fn value_of(
-    rule: &PackedRule,
+    rule: &SmallRule,
     memory: &CfiMemory<'_>,
     first: &FirstWindow<'_>,
     cfa: u64,
 ) -> Option<u64>
     requires size { IsAddressSize memory.now.address_size }
     requires first { IsFirst memory.now first.now }
-    ensures { (registers : List CfiValue) (bytes : Position) → result
-        ≡ given (by_rule (frame_of memory.now registers) bytes (abi_in memory.now) (λ (n : ℕ). n)
-        cfa (pair_of rule.now).0.0 (pair_of rule.now).1) }
+    ensures { IsValueBy memory.now cfa rule.now result }
 {
     // most rules
-    if let PackedRule::Offset(_register, words) = *rule {
+    if let SmallRule::Offset(words) = *rule {
         if let Some(number) = first.number_at(cfa, words) {
             return Some(number);
         }
@@ -346,15 +387,14 @@ fn value_of(
 
 /// The same, whatever the rule is.
 #[inline(never)]
-fn value_by_rule(rule: &PackedRule, memory: &CfiMemory<'_>, cfa: u64) -> Option<u64>
+fn value_by_rule(rule: &SmallRule, memory: &CfiMemory<'_>, cfa: u64) -> Option<u64>
     requires size { IsAddressSize memory.now.address_size }
-    ensures { (registers : List CfiValue) (bytes : Position) → result
-        ≡ given (by_rule (frame_of memory.now registers) bytes (abi_in memory.now) (λ (n : ℕ). n)
-        cfa (pair_of rule.now).0.0 (pair_of rule.now).1) }
+    ensures { IsValueBy memory.now cfa rule.now result }
 {
     match *rule {
-        PackedRule::Undefined(_register) => None,
-        PackedRule::Offset(_register, words) => saved_value(memory, cfa, words),
+        SmallRule::Undefined => None,
+        SmallRule::Offset(words) => saved_value(memory, cfa, words),
+        SmallRule::Constant(constant) => Some(u64::from(constant)),
     }
 }
 

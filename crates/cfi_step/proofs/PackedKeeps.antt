@@ -1,5 +1,6 @@
 -- A packed row that may have been kept is the row of an FDE.
-use Rattle.std.proofs.Common.{◌≡◌, ◌∙◌, ℕ, Bool, List, Option, Ok, inl, inr}
+use Rattle.std.proofs.Common.{◌≡◌, ◌∙◌, ℕ, Bool, List, Option, Ok, inl, inr, sym}
+use Rattle.cfi_state.specs.Machine.{Parts}
 use Rattle.cfi_state.specs.MappedStates.{map_row}
 use Rattle.cfi_state.specs.Row.{Row}
 use Rattle.cfi_entry.specs.Fdes.{Fde}
@@ -8,7 +9,13 @@ use Rattle.cfi_unwind.specs.AddressRow.{IsRowOfFde}
 use Rattle.cfi_step.specs.declared.function.Function.{Function}
 use Rattle.cfi_step.specs.declared.packed_rows.PackedRow.{PackedRow}
 use Rattle.cfi_step.specs.Functions.{function_of}
-use Rattle.cfi_step.specs.PackedRows.{KeepsRow, KeepsRowOf}
+use Rattle.cfi_step.specs.PackedRows.{AreNumbersOf, HoldsAtMost, KeepsRow, KeepsRowOf, function_packed}
+
+-- a row with the numbers of this row and of this function is the one that says both
+pub packed_at_most : (file a : ℕ) (parts : Parts ℕ) (function : Function) (row : PackedRow) → row.file ≡ file → row.address ≡ a → AreNumbersOf parts function row.numbers → function_packed row ≡ function
+    → HoldsAtMost file a parts function row
+packed_at_most file a parts function row of at (cfa, rules, args_size, ra, fde) same other b (kept, of_other, at_b) =
+    (sym of_other ∙ of, sym at_b ∙ at, ((λ i. record { cfa = cfa i; rules = rules i; args_size = args_size i }), same))
 
 module _ (rule_limit stack_limit : Option ℕ) (copies_free : Bool) (section : Section) (a : ℕ) (fde : Fde) where
   pub keeps_of : (file : ℕ) (row : Row ℕ) (function : Function) (old new : List PackedRow) →

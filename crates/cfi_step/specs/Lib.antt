@@ -5,6 +5,7 @@ pub mod CodeRanges
 pub mod Modules
 pub mod Functions
 pub mod ModuleLists
+pub mod Marks
 pub mod PackedRules
 pub mod PackedRows
 pub mod Slots

@@ -12,7 +12,7 @@
 --         file has may have been kept
 --     AreEmpty rows      none is a row
 use Rattle.std.specs.Prelude.{◌≡◌, ◌⊎◌, ℕ, ℤ, Bool, false, true, List, map, Option, Some, None}
-use Rattle.std.specs.Prelude.{Result, Ok, Err, IfOk, slice_set}
+use Rattle.std.specs.Prelude.{Result, Ok, Err, IfOk, slice_set, take}
 use Rattle.std.specs.List.{All}
 use Rattle.cfi_read_core.specs.declared.error.Error.{Error}
 use Rattle.cfi_read_core.specs.ReadFunctions.{Position}
@@ -30,21 +30,27 @@ use Rattle.cfi_expression.specs.Arithmetic.{displaced}
 use Rattle.cfi_step.specs.declared.function.Function.{Function}
 use Rattle.cfi_step.specs.declared.module.LoadedModule.{LoadedModule}
 use Rattle.cfi_step.specs.declared.packed_rows.PackedRow.{PackedRow}
-use Rattle.cfi_step.specs.declared.packed_rows.PointerKind.{PointerKind}
-use Rattle.cfi_step.specs.declared.packed_rows.PointerKind.TheVariants as pointer
+use Rattle.cfi_step.specs.declared.packed_rules.PackedRule.{PackedRule}
+use Rattle.cfi_step.specs.declared.marks.PointerKind.{PointerKind}
+use Rattle.cfi_step.specs.declared.marks.PointerKind.TheVariants as pointer
 use Rattle.cfi_step.specs.declared.packed_rows.SmallNumbers.{SmallNumbers}
 use Rattle.cfi_step.specs.declared.row_cache.RowCache.{RowCache}
 use Rattle.cfi_step.specs.Functions.{function_of}
 use Rattle.cfi_step.specs.Modules.{IsFoundIn, module_section}
-use Rattle.cfi_step.specs.PackedRules.{eightfold, listed, numbered, pair_of}
+use Rattle.cfi_step.specs.Marks.{args_size, has_row, is_trampoline, lsda_kind, personality_kind}
+use Rattle.cfi_step.specs.Marks.{rule_count}
+use Rattle.cfi_step.specs.PackedRules.{eightfold, numbered, pair_of}
 
 -- ---- a packed row
+
+abbrev pub listed : SmallNumbers → List PackedRule
+listed n = take (rule_count n.marks) n.rules
 
 abbrev pub parts_packed : PackedRow → Parts ℕ
 parts_packed row = record {
   cfa = cfa.RegisterAndOffset (numbered row.numbers.cfa_register) (eightfold row.numbers.cfa_words);
-  rules = rules_of (map pair_of (listed row.rules));
-  args_size = row.numbers.args_size;
+  rules = rules_of (map pair_of (listed row.numbers));
+  args_size = args_size row.numbers.marks;
 }
 
 abbrev pub pointer_of : PointerKind → ℕ → Option Pointer
@@ -52,16 +58,12 @@ pointer_of pointer.Absent a = None
 pointer_of pointer.Direct a = Some (Direct a)
 pointer_of pointer.Indirect a = Some (Indirect a)
 
-abbrev pub kind_of : Option Pointer → PointerKind
-kind_of None = pointer.Absent
-kind_of (Some (Direct a)) = pointer.Direct
-kind_of (Some (Indirect a)) = pointer.Indirect
-
 -- the small numbers are those of the row and of the function
 abbrev pub AreNumbersOf : Parts ℕ → Function → SmallNumbers → Type 0
 AreNumbersOf parts function n =
     (cfa.RegisterAndOffset (numbered n.cfa_register) (eightfold n.cfa_words) ≡ parts.cfa)
-    × (n.args_size ≡ parts.args_size) × (numbered n.return_address ≡ function.return_address)
+    × (rules_of (map pair_of (listed n)) ≡ parts.rules)
+    × (args_size n.marks ≡ parts.args_size) × (numbered n.return_address ≡ function.return_address)
     × (n.fde ≡ function.offset)
 
 -- an address of the function, by its distance from that of the row
@@ -72,16 +74,20 @@ abbrev pub function_packed : PackedRow → Function
 function_packed row = record {
   start = near row row.distances.start;
   end = near row row.distances.end;
-  lsda = pointer_of row.numbers.lsda_kind (near row row.distances.lsda);
-  personality = pointer_of row.numbers.personality_kind (near row row.distances.personality);
+  lsda = pointer_of (lsda_kind row.numbers.marks) (near row row.distances.lsda);
+  personality =
+      pointer_of (personality_kind row.numbers.marks) (near row row.distances.personality);
   return_address = numbered row.numbers.return_address;
-  is_signal_trampoline = row.is_signal_trampoline;
+  is_signal_trampoline = is_trampoline row.numbers.marks;
   offset = row.numbers.fde;
 }
 
+abbrev pub is_kept : PackedRow → Bool
+is_kept row = has_row row.numbers.marks
+
 -- the address is one that the file has
 abbrev pub HoldsRow : ℕ → ℕ → PackedRow → Type 0
-HoldsRow file a row = (row.is_kept ≡ true) × (row.file ≡ file) × (row.address ≡ a)
+HoldsRow file a row = (is_kept row ≡ true) × (row.file ≡ file) × (row.address ≡ a)
 
 -- ---- a row is kept
 
@@ -127,7 +133,7 @@ abbrev pub rows_in : RowCache → List PackedRow
 rows_in cache = cache.rows.items
 
 abbrev pub AreEmpty : List PackedRow → Type 0
-AreEmpty rows = All (λ row. row.is_kept ≡ false) rows
+AreEmpty rows = All (λ row. is_kept row ≡ false) rows
 
 -- the row of the FDE that the module has for an address of the file may have been kept
 module _ {R : Type 0} (position : R → Position) (size : ℕ) (rule_limit stack_limit : Option ℕ)

@@ -1,11 +1,13 @@
 //! Rows in 64 bytes, with what their FDEs say of their functions.
-ghost use Rattle.std.specs.Prelude.{◌≡◌, IfSome};
+ghost use Rattle.std.specs.Prelude.{◌≡◌, IfSome, true};
 ghost use Rattle.cfi_expression.specs.Arithmetic.{displaced};
-ghost use Rattle.cfi_step.specs.PackedRows.{AreNumbersOf, kind_of, pointer_of};
+ghost use Rattle.cfi_step.specs.Marks.{HasCounts};
+ghost use Rattle.cfi_step.specs.PackedRows.{AreNumbersOf, pointer_of};
 ghost use Rattle.cfi_step.specs.PackedRules.{eightfold};
 
 use crate::function::Function;
-use crate::packed_rules::{PackedRule, PackedRules};
+use crate::marks::{Marks, PointerKind, kind_of};
+use crate::packed_rules::{PackedRule, RULES, no_rules, packed_rules};
 use gimli_cfi::{
     ArrayLike, CfaRule, Pointer, ReaderAddress, Register, RegisterRule, UnwindTableRow,
 };
@@ -13,34 +15,21 @@ use gimli_cfi::{
 /// The address of what is no row: no code begins there.
 const NOWHERE: u64 = u64::MAX;
 
-/// What a pointer leads to.
-#[derive(Clone, Copy, Debug, PartialEq, Eq)]
-pub enum PointerKind {
-    /// There is none.
-    Absent,
-    /// The address that it has.
-    Direct,
-    /// The one that stands at the address that it has.
-    Indirect,
-}
-
-/// The numbers of a row and of its function that are mostly small.
+/// What a row and its function have but for the addresses.
 #[derive(Clone, Copy, Debug)]
 pub struct SmallNumbers {
     /// The offset of the FDE in the section.
     pub fde: u32,
     /// How far the CFA is from the value of a register, in eight bytes.
     pub cfa_words: i16,
-    /// How many bytes of arguments the frame has pushed.
-    pub args_size: u16,
+    /// What takes a few bits each.
+    pub marks: Marks,
     /// The register from which the CFA is counted.
     pub cfa_register: u8,
     /// The register that holds the return address.
     pub return_address: u8,
-    /// What the pointer to the language-specific data area leads to.
-    pub lsda_kind: PointerKind,
-    /// What the pointer to the personality routine leads to.
-    pub personality_kind: PointerKind,
+    /// The rules of registers, as many as the marks say.
+    pub rules: [PackedRule; RULES],
 }
 
 /// How far the addresses of a function are from that of a row.
@@ -57,27 +46,25 @@ pub struct Distances {
 }
 
 /// A row of an unwind table with what its FDE says of the function (DWARF 5 section 6.4.1), or
-/// none. It has at most 7 rules of registers, and is 64 bytes.
+/// none. It has at most 13 rules of registers, and is 64 bytes.
 #[derive(Drop)]
 pub struct PackedRow {
     address: u64,
     file: u32,
     distances: Distances,
     numbers: SmallNumbers,
-    is_signal_trampoline: bool,
-    is_kept: bool,
-    rules: PackedRules,
 }
 
 impl PackedRow {
     ghost use Rattle.std.specs.Prelude.{◌≡◌, ◌↔◌, IsTrue, false};
+    ghost use Rattle.cfi_step.specs.Marks.{has_row, is_trampoline};
     ghost use Rattle.cfi_step.specs.PackedRows.{HoldsAtMost, HoldsRow, function_packed};
-    ghost use Rattle.cfi_step.specs.PackedRows.{parts_packed};
-    ghost use Rattle.cfi_step.specs.PackedRules.{eightfold, listed};
+    ghost use Rattle.cfi_step.specs.PackedRows.{is_kept, listed, parts_packed};
+    ghost use Rattle.cfi_step.specs.PackedRules.{eightfold};
 
     /// No row. Does not allocate.
     pub fn new() -> PackedRow
-        ensures { result.is_kept ≡ false }
+        ensures { is_kept result ≡ false }
     {
         PackedRow {
             address: NOWHERE,
@@ -91,25 +78,21 @@ impl PackedRow {
             numbers: SmallNumbers {
                 fde: 0,
                 cfa_words: 0,
-                args_size: 0,
+                marks: Marks::none(),
                 cfa_register: 0,
                 return_address: 0,
-                lsda_kind: PointerKind::Absent,
-                personality_kind: PointerKind::Absent,
+                rules: no_rules(),
             },
-            is_signal_trampoline: false,
-            is_kept: false,
-            rules: PackedRules::none(),
         }
     }
 
     /// Forgets the row, also that one was refused.
     #[inline]
     pub fn clear(&mut self)
-        ensures { self.new.is_kept ≡ false }
+        ensures { is_kept self.new ≡ false }
     {
         self.address = NOWHERE;
-        self.is_kept = false;
+        self.numbers.marks = Marks::none();
     }
 
     /// Whether it is the row of the address of the file.
@@ -117,20 +100,20 @@ impl PackedRow {
     pub fn is_of(&self, file: u64, address: u64) -> bool
         ensures { IsTrue result ↔ HoldsRow file address self.now }
     {
-        self.address == address && u64::from(self.file) == file && self.is_kept
+        self.address == address && u64::from(self.file) == file && self.is_kept()
     }
 
     /// Whether that row couldn't be kept when it was found last.
     pub fn is_refused(&self, file: u64, address: u64) -> bool {
-        self.address == address && u64::from(self.file) == file && !self.is_kept
+        self.address == address && u64::from(self.file) == file && !self.is_kept()
     }
 
     /// Whether there is a row.
     #[inline(always)]
     pub fn is_kept(&self) -> bool
-        ensures { result ≡ self.now.is_kept }
+        ensures { result ≡ is_kept self.now }
     {
-        self.is_kept
+        self.numbers.marks.has_row()
     }
 
     /// The register from which the CFA is counted.
@@ -152,9 +135,14 @@ impl PackedRow {
     /// The rules of registers. If a register occurs twice, its first rule holds.
     #[inline(always)]
     pub fn rules(&self) -> &[PackedRule]
-        ensures { result.now ≡ listed self.now.rules }
+        ensures { result.now ≡ listed self.now.numbers }
     {
-        self.rules.as_slice()
+        let count = self.numbers.marks.rule_count();
+        if count < RULES {
+            &self.numbers.rules[..count]
+        } else {
+            &self.numbers.rules
+        }
     }
 
     /// The register that holds the return address.
@@ -168,9 +156,9 @@ impl PackedRow {
     /// Whether the function is a signal trampoline.
     #[inline(always)]
     pub fn is_signal_trampoline(&self) -> bool
-        ensures { result ≡ self.now.is_signal_trampoline }
+        ensures { result ≡ is_trampoline self.now.numbers.marks }
     {
-        self.is_signal_trampoline
+        self.numbers.marks.is_signal_trampoline()
     }
 
     /// How many bytes of arguments the frame has pushed (`DW_CFA_GNU_args_size`).
@@ -178,7 +166,7 @@ impl PackedRow {
     pub fn args_size(&self) -> u64
         ensures { result ≡ (parts_packed self.now).args_size }
     {
-        u64::from(self.numbers.args_size)
+        self.numbers.marks.args_size()
     }
 
     /// What the FDE says of the function.
@@ -188,16 +176,17 @@ impl PackedRow {
     {
         let address = self.address;
         let distances = self.distances;
+        let marks = self.numbers.marks;
         Function {
             start: displaced(address, distances.start),
             end: displaced(address, distances.end),
-            lsda: pointer_of(self.numbers.lsda_kind, displaced(address, distances.lsda)),
+            lsda: pointer_of(marks.lsda_kind(), displaced(address, distances.lsda)),
             personality: pointer_of(
-                self.numbers.personality_kind,
+                marks.personality_kind(),
                 displaced(address, distances.personality),
             ),
             return_address: Register(u16::from(self.numbers.return_address)),
-            is_signal_trampoline: self.is_signal_trampoline,
+            is_signal_trampoline: marks.is_signal_trampoline(),
             offset: u64::from(self.numbers.fde),
         }
     }
@@ -213,7 +202,7 @@ impl PackedRow {
     )
         ensures { HoldsAtMost file address row.now.parts function.now self.new }
     {
-        self.is_kept = false;
+        self.numbers.marks = Marks::none();
         let Ok(number) = u32::try_from(file) else {
             return;
         };
@@ -222,16 +211,21 @@ impl PackedRow {
         let Some(numbers) = small_numbers(row, function) else {
             return;
         };
-        let Some(rules) = PackedRules::of(row.registers().as_slice()) else {
-            return;
-        };
         self.distances = distances_of(address, function);
         self.numbers = numbers;
-        self.rules = rules;
-        self.is_signal_trampoline = function.is_signal_trampoline;
-        // whether all of it was near enough
-        self.is_kept = self.function() == *function;
+        // all of it was near enough
+        if is_same(&self.function(), function) {
+            return;
+        }
+        self.numbers.marks = Marks::none();
     }
+}
+
+/// Whether both say the same.
+fn is_same(found: &Function, function: &Function) -> bool
+    ensures { result ≡ true → found.now ≡ function.now }
+{
+    *found == *function
 }
 
 /// How far the addresses of the function are from the address; 0 if one is too far.
@@ -265,8 +259,8 @@ fn bytes_in(words: i16) -> i64
     i64::from(words).wrapping_mul(8)
 }
 
-/// The small numbers of a row and of its function; `None` if one is too large, or if the CFA is
-/// that of an expression.
+/// The small numbers of a row and of its function; `None` if one is too large, if the row has too
+/// many rules or one that can't be packed, or if the CFA is that of an expression.
 fn small_numbers<A: ArrayLike<Item = (Register, RegisterRule<usize>)>>(
     row: &UnwindTableRow<usize, A>,
     function: &Function,
@@ -283,24 +277,46 @@ fn small_numbers<A: ArrayLike<Item = (Register, RegisterRule<usize>)>>(
     if bytes_in(cfa_words) != offset {
         return None;
     }
-    let (Ok(args_size), Ok(fde)) = (
-        u16::try_from(row.saved_args_size()),
+    let rules = row.registers().as_slice();
+    let Some(marks) = marks_of(rules.len(), row.saved_args_size(), function) else {
+        return None;
+    };
+    let (Ok(return_address), Ok(fde)) = (
+        u8::try_from(function.return_address.0),
         u32::try_from(function.offset),
     ) else {
         return None;
     };
-    let Ok(return_address) = u8::try_from(function.return_address.0) else {
+    let Some(rules) = packed_rules(rules) else {
         return None;
     };
     Some(SmallNumbers {
         fde,
         cfa_words,
-        args_size,
+        marks,
         cfa_register,
         return_address,
-        lsda_kind: kind_of(function.lsda),
-        personality_kind: kind_of(function.personality),
+        rules,
     })
+}
+
+/// The marks of a row with so many rules and so many bytes of pushed arguments, and of its
+/// function; `None` if one of these numbers is too large.
+fn marks_of(rules: usize, pushed: u64, function: &Function) -> Option<Marks>
+    ensures { IfSome result (λ marks. HasCounts rules pushed marks) }
+{
+    let marks = Marks::of(
+        rules,
+        kind_of(function.lsda),
+        kind_of(function.personality),
+        function.is_signal_trampoline,
+        pushed,
+    );
+    if marks.rule_count() == rules && marks.args_size() == pushed {
+        Some(marks)
+    } else {
+        None
+    }
 }
 
 /// The pointer of this kind, with this address.
@@ -312,17 +328,6 @@ fn pointer_of(kind: PointerKind, address: u64) -> Option<Pointer>
         PointerKind::Absent => None,
         PointerKind::Direct => Some(Pointer::Direct(address)),
         PointerKind::Indirect => Some(Pointer::Indirect(address)),
-    }
-}
-
-/// What the pointer leads to.
-fn kind_of(pointer: Option<Pointer>) -> PointerKind
-    ensures { result ≡ kind_of pointer }
-{
-    match pointer {
-        None => PointerKind::Absent,
-        Some(Pointer::Direct(_address)) => PointerKind::Direct,
-        Some(Pointer::Indirect(_address)) => PointerKind::Indirect,
     }
 }
 

@@ -1,102 +1,122 @@
-//! Rules of registers in three bytes.
-ghost use Rattle.std.specs.Prelude.{◌≡◌, IfSome, map};
+//! Rules of registers in two bytes.
+ghost use Rattle.std.specs.Prelude.{◌≡◌, IfSome, length, map, take};
 ghost use Rattle.std.specs.Option.{option_map};
 ghost use Rattle.std.specs.FinMap.{get};
 ghost use Rattle.gimli_cfi.specs.Words.{rules_of};
-ghost use Rattle.cfi_step.specs.PackedRules.{eightfold, listed, pair_of};
+ghost use Rattle.cfi_step.specs.PackedRules.{eightfold, pair_of, rule_by, small_rule};
+ghost use Rattle.cfi_state.specs.declared.table.rules.RegisterRule.TheVariants.{Offset};
 
 use gimli_cfi::{Register, RegisterRule};
 
-/// The most rules of registers that a row may have that is packed: those of the six registers that
-/// calls preserve on x86-64, and that of the return address.
-const RULES: usize = 7;
+/// The most rules of registers that a row may have that is packed: those of x19 to x30, which
+/// calls preserve on AArch64, and that of its RA_SIGN_STATE.
+pub const RULES: usize = 13;
 
-/// The rule of a register (DWARF 5 section 6.4.1): most that compilers write. The first number is
-/// the register's.
+/// The rule of a register (DWARF 5 section 6.4.1): most that compilers write.
 #[derive(Clone, Copy, Debug)]
-pub enum PackedRule {
-    /// It is lost.
-    Undefined(u8),
+pub enum SmallRule {
+    /// The register is lost.
+    Undefined,
     /// It is saved at the CFA plus eight times this number.
-    Offset(u8, i8),
+    Offset(i8),
+    /// It is this number, as RA_SIGN_STATE of AArch64 is 0 or 1.
+    Constant(u8),
+}
+
+/// A register with its rule.
+#[derive(Clone, Copy, Debug)]
+pub struct PackedRule {
+    register: u8,
+    /// From -125 on the number of `Offset`; below it the other rules have their numbers.
+    words: i8,
 }
 
 impl PackedRule {
+    ghost use Rattle.std.specs.Prelude.{◌≡◌};
+    ghost use Rattle.cfi_step.specs.PackedRules.{small_rule};
+
     /// The register.
     #[inline(always)]
     pub fn register(self) -> u8
-        ensures { result ≡ (pair_of self).0.0 }
+        ensures { result ≡ self.register }
     {
-        match self {
-            PackedRule::Undefined(register) => register,
-            PackedRule::Offset(register, _words) => register,
-        }
-    }
-}
-
-/// The rules of registers of a row, at most 7, in 22 bytes.
-#[derive(Clone, Copy, Debug)]
-pub struct PackedRules {
-    list: [PackedRule; RULES],
-    count: u8,
-}
-
-impl PackedRules {
-    /// No rules.
-    pub(crate) fn none() -> PackedRules {
-        PackedRules {
-            list: [PackedRule::Undefined(0); RULES],
-            count: 0,
-        }
+        self.register
     }
 
-    /// These rules; `None` if there are more, or if one can't be packed.
-    pub(crate) fn of(rules: &[(Register, RegisterRule<usize>)]) -> Option<PackedRules>
-        ensures { IfSome result (λ packed. map pair_of (listed packed) ≡ rules.now) }
-    {
-        if rules.len() > RULES {
-            return None;
-        }
-        let mut list = [PackedRule::Undefined(0); RULES];
-        for index in 0..rules.len() {
-            let Some(rule) = packed(rules[index].0, rules[index].1) else {
-                return None;
-            };
-            list[index] = rule;
-        }
-        Some(PackedRules {
-            list,
-            count: rules.len() as u8,
-        })
-    }
-
-    /// The rules.
+    /// Its rule.
     #[inline(always)]
-    pub(crate) fn as_slice(&self) -> &[PackedRule]
-        ensures { result.now ≡ listed self.now }
+    pub fn rule(self) -> SmallRule
+        ensures { result ≡ small_rule self.words }
     {
-        let count = usize::from(self.count);
-        if count < self.list.len() {
-            &self.list[..count]
+        if self.words > -126 {
+            SmallRule::Offset(self.words)
+        } else if self.words > -127 {
+            SmallRule::Constant(1)
+        } else if self.words > -128 {
+            SmallRule::Constant(0)
         } else {
-            &self.list
+            SmallRule::Undefined
         }
     }
 }
 
-/// The rule in three bytes; `None` if it is not one of these, or if a number is too large.
+/// No rules.
+pub(crate) fn no_rules() -> [PackedRule; RULES] {
+    [PackedRule {
+        register: 0,
+        words: 0,
+    }; RULES]
+}
+
+/// These rules; `None` if there are more than 13, or if one can't be packed.
+pub(crate) fn packed_rules(rules: &[(Register, RegisterRule<usize>)]) -> Option<[PackedRule; RULES]>
+    ensures { IfSome result (λ list. map pair_of (take (length rules.now) list) ≡ rules.now) }
+{
+    if rules.len() > RULES {
+        return None;
+    }
+    let mut list = no_rules();
+    for index in 0..rules.len() {
+        let Some(rule) = packed(rules[index].0, rules[index].1) else {
+            return None;
+        };
+        list[index] = rule;
+    }
+    Some(list)
+}
+
+/// The rule in two bytes; `None` if it is not one of these, or if a number is too large.
 fn packed(register: Register, rule: RegisterRule<usize>) -> Option<PackedRule>
     ensures { IfSome result (λ packed. pair_of packed ≡ (register, rule)) }
 {
     let Ok(register) = u8::try_from(register.0) else {
         return None;
     };
+    match number_of(rule) {
+        Some(words) => Some(PackedRule { register, words }),
+        None => None,
+    }
+}
+
+/// The number of the rule; `None` if it has none.
+fn number_of(rule: RegisterRule<usize>) -> Option<i8>
+    ensures { IfSome result (λ words. rule_by (small_rule words) ≡ rule) }
+{
     match rule {
-        RegisterRule::Undefined => Some(PackedRule::Undefined(register)),
-        RegisterRule::Offset(offset) => match i8::try_from(offset / 8) {
-            Ok(words) if eightfold(words) == offset => Some(PackedRule::Offset(register, words)),
-            _ => None,
-        },
+        RegisterRule::Undefined => Some(-128),
+        RegisterRule::Offset(offset) => words_in(offset),
+        RegisterRule::Constant(0) => Some(-127),
+        RegisterRule::Constant(1) => Some(-126),
+        _ => None,
+    }
+}
+
+/// The words of eight bytes that make an offset; `None` if they are none of `SmallRule::Offset`.
+fn words_in(offset: i64) -> Option<i8>
+    ensures { IfSome result (λ words. rule_by (small_rule words) ≡ Offset offset) }
+{
+    match i8::try_from(offset / 8) {
+        Ok(words) if words > -126 && eightfold(words) == offset => Some(words),
         _ => None,
     }
 }
@@ -111,13 +131,12 @@ pub fn eightfold(words: i8) -> i64
 
 /// The register's rule: the first that it has.
 #[inline(always)]
-pub fn rule_of(rules: &[PackedRule], register: u8) -> Option<PackedRule>
-    ensures { option_map (λ rule. (pair_of rule).1) result
-        ≡ get (rules_of (map pair_of rules.now)) register }
+pub fn rule_of(rules: &[PackedRule], register: u8) -> Option<SmallRule>
+    ensures { option_map rule_by result ≡ get (rules_of (map pair_of rules.now)) register }
 {
-    for rule in rules {
-        if rule.register() == register {
-            return Some(*rule);
+    for packed in rules {
+        if packed.register() == register {
+            return Some(packed.rule());
         }
     }
     None

@@ -1,10 +1,19 @@
 use Rattle.std.proofs.Common.{◌∙◌, ℕ, Option, ap}
 use Rattle.std.specs.Prelude.{slice_set}
-use Rattle.cfi_step.specs.PackedRules.{pair_of}
+use Rattle.cfi_read_core.specs.ReadFunctions.{Position}
+use Rattle.cfi_expression.specs.Frames.{Frame}
+use Rattle.cfi_step.specs.declared.packed_rules.SmallRule.{SmallRule}
+use Rattle.cfi_step.specs.Callers.{by_rule, given}
+use Rattle.cfi_step.specs.PackedRules.{rule_by}
+use Rattle.cfi_c.specs.PackedSteps.{frame_of}
+use Rattle.cfi_c.specs.PassedMemories.{abi_in}
 use Rattle.cfi_c.specs.SteppedFrames.{written_value}
 use Rattle.cfi_c.proofs.packed_step.write_by_rule.Goals as goal
 
 pub returns : goal.returns
 returns c = λ registers bytes.
+    let memory = c.args.memory.now in
+    let k = c.args.packed.register in
     c.write_value.ensures ∙ (ap (λ (k : ℕ). slice_set c.args.caller.now k (written_value c.value_of-value.result)) c.register-register.ensures
-    ∙ ap (λ (o : Option ℕ). slice_set c.args.caller.now (pair_of c.args.rule.now).0.0 (written_value o)) (c.value_of-value.ensures registers bytes))
+    ∙ (ap (λ (o : Option ℕ). slice_set c.args.caller.now k (written_value o)) (c.value_of-value.ensures registers bytes k)
+    ∙ ap (λ (r : SmallRule). slice_set c.args.caller.now k (written_value (given (by_rule (frame_of memory registers) bytes (abi_in memory) (λ (n : ℕ). n) c.args.cfa k (rule_by r))))) c.rule.ensures))

@@ -1,7 +1,7 @@
-use Rattle.std.proofs.Common.{◌≡◌, ◌+◌, ◌-◌, ◌∙◌, ◌∷◌, ℕ, Some, ap, arith, drop, get_or, length, sym}
+use Rattle.std.proofs.Common.{◌≡◌, ◌+◌, ◌-◌, ◌∙◌, ◌∷◌, ℕ, Some, ap, arith, drop, get_or, length, pos, sym}
 use Rattle.std.specs.Prelude.{slice_set}
 use Rattle.std.proofs.lemmas.List.{drop_all, drop_more}
-use Rattle.cfi_step.specs.declared.packed_rules.PackedRule.TheVariants.{Undefined}
+use Rattle.cfi_step.specs.declared.packed_rules.PackedRule.{PackedRule}
 use Rattle.cfi_step.specs.PackedRows.{parts_packed}
 use Rattle.cfi_step.specs.PackedRules.{pair_of}
 use Rattle.cfi_c.specs.PackedSteps.{plain_of}
@@ -9,6 +9,9 @@ use Rattle.cfi_c.specs.SteppedFrames.{written_value}
 use Rattle.cfi_c.proofs.PackedValues.{plain_set, plain_values}
 use Rattle.cfi_c.proofs.PackedWrites.{begun, by_all, one_further, value_by}
 use Rattle.cfi_c.proofs.packed_step.write_ruled.Goals as goal
+
+abbrev nothing : PackedRule
+nothing = record { register = 0; words = pos 0 }
 
 pub loop-index-init : goal.loop-index-init
 loop-index-init c =
@@ -28,10 +31,10 @@ loop-index-preserved c =
     let memory = c.args.memory.now in
     let rules = c.rules-rules.result.now in
     let index = c.loop-index.index - 1 in
-    let rule = get_or rules index (Undefined 0) in
+    let rule = get_or rules index nothing in
     let next : c.loop-index.index ≡ index + 1 = omega (arith, c.loop-index-test.true) in
     let here : drop index rules ≡ rule ∷ drop c.loop-index.index rules =
-    drop_more rules index (Undefined 0) (omega (arith, c.loop-index-test.true)) ∙ ap (λ (m : ℕ). rule ∷ drop m rules) (sym next) in
+    drop_more rules index nothing (omega (arith, c.loop-index-test.true)) ∙ ap (λ (m : ℕ). rule ∷ drop m rules) (sym next) in
     let before = c.loop-index.caller in
     let parts = parts_packed c.args.row.now in (
       λ registers are.

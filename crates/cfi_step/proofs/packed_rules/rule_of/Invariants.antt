@@ -5,6 +5,6 @@ use Rattle.cfi_step.specs.PackedRules.{pair_of}
 use Rattle.cfi_step.proofs.packed_rules.rule_of.Given as goal
 
 -- the register's rule is among those that are left
-abbrev pub invariant-loop-rule : goal.invariant-loop-rule
-invariant-loop-rule l =
-    get (rules_of (map pair_of (drop l.rule-index l.rules))) l.register ≡ get (rules_of (map pair_of l.rules)) l.register
+abbrev pub invariant-loop-packed : goal.invariant-loop-packed
+invariant-loop-packed l =
+    get (rules_of (map pair_of (drop l.packed-index l.rules))) l.register ≡ get (rules_of (map pair_of l.rules)) l.register
