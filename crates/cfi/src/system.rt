@@ -18,8 +18,8 @@ const EISDIR: i32 = 21;
 
 /// What a run has of the system. Whatever it gives, `run` prints what is right for it.
 pub trait System {
-    /// An open file. A profile is read from its beginning to its end, and of an ELF file what is
-    /// needed.
+    /// An open file. Of an ELF file what is needed is read; a file of folded stacks is read from
+    /// its beginning to its end.
     type File: FileInput + Read + Drop;
 
     /// What the words of the process may be, the program's name among them; none where they can't
@@ -257,12 +257,12 @@ impl<F: Read + Seek> FileInput for HostFile<F> {
 }
 
 impl<F: Read> HostFile<F> {
-    /// Reads the file to its end, and returns how many bytes it has; of one that doesn't begin as
-    /// an ELF file, which may have no end, as `/dev/zero`, the first bytes alone.
+    /// Reads the file to its end, and returns how many bytes it has; of one that begins neither as
+    /// an ELF file nor as a profile, which may have no end, as `/dev/zero`, the first bytes alone.
     fn read_whole(&mut self, alloc: Global) -> Result<u64, InputError>
         ensures { IfErr result (λ e. e ≢ InputError.NotHexadecimal) }
     {
-        let bytes = read_as(alloc, Beginning::Elf, &mut self.file)?;
+        let bytes = read_as(alloc, Beginning::ElfOrProfile, &mut self.file)?;
         let length = bytes.len() as u64;
         self.bytes = Some(bytes);
         Ok(length)

@@ -1,6 +1,7 @@
 //! Inputs that are read on only if they begin as a file of their format does.
 ghost use Rattle.std.specs.Prelude.{◌≡◌, ◌≢◌, [], IfErr, IfOk, IfSome};
-ghost use Rattle.cfi_inputs.specs.Beginnings.{IsReadOf, begins_as};
+ghost use Rattle.cfi_inputs.specs.Beginnings.{IsReadOf, begins_as, begins_as_elf};
+ghost use Rattle.cfi_inputs.specs.Beginnings.{begins_as_profile};
 
 use cfi_object::InputError;
 use std::alloc::Global;
@@ -12,13 +13,15 @@ const CHUNK: usize = 16384;
 /// How many bytes there is room for before the first read. A system gives memory as it is used.
 const ROOM: usize = 1 << 20;
 
-/// A format of files, each of which begins with the same bytes.
+/// A format of files, each of which begins with the same bytes; or one of two.
 #[derive(Clone, Copy, Debug, PartialEq, Eq)]
 pub enum Beginning {
     /// ELF: 0x7f and `ELF` (`EI_MAG0` to `EI_MAG3`).
     Elf,
     /// Profiles of perf: `PERFILE2`, or in the other byte order `2ELIFREP`.
     Profile,
+    /// Either of these.
+    ElfOrProfile,
 }
 
 impl Beginning {
@@ -28,12 +31,25 @@ impl Beginning {
         ensures { result ≡ begins_as self bytes.now }
     {
         match self {
-            Beginning::Elf => bytes.len() < 4 || bytes.starts_with(b"\x7fELF"),
-            Beginning::Profile => {
-                bytes.len() < 8 || bytes.starts_with(b"PERFILE2") || bytes.starts_with(b"2ELIFREP")
-            }
+            Beginning::Elf => begins_as_elf(bytes),
+            Beginning::Profile => begins_as_profile(bytes),
+            Beginning::ElfOrProfile => begins_as_elf(bytes) || begins_as_profile(bytes),
         }
     }
+}
+
+/// Whether a file that begins with these bytes can be an ELF file.
+fn begins_as_elf(bytes: &[u8]) -> bool
+    ensures { result ≡ begins_as_elf bytes.now }
+{
+    bytes.len() < 4 || bytes.starts_with(b"\x7fELF")
+}
+
+/// Whether a file that begins with these bytes can be a profile.
+fn begins_as_profile(bytes: &[u8]) -> bool
+    ensures { result ≡ begins_as_profile bytes.now }
+{
+    bytes.len() < 8 || bytes.starts_with(b"PERFILE2") || bytes.starts_with(b"2ELIFREP")
 }
 
 /// Reads the input to its end, if it begins as a file of this format does. If it doesn't, no more

@@ -13,7 +13,7 @@ use Rattle.cfi_perf.specs.declared.sample.Sample.{Sample as SampleOfCode}
 use Rattle.cfi_perf.specs.declared.windows.RecordWalk.{RecordWalk}
 use Rattle.cfi_perf.specs.declared.error.PerfError.{PerfError}
 use Rattle.cfi_perf.specs.Events.{Event, OtherEvent, Record, event_view, record_view}
-use Rattle.cfi_perf.specs.Indexes.{kept_bytes, AreAt, AreIndexed, IsAt, IsKeptIn, IsOfBytes, record_by}
+use Rattle.cfi_perf.specs.Indexes.{kept_bytes, kind_of, AreAt, AreIndexed, IsAt, IsKeptIn, IsOfBytes, offset_for, record_by}
 use Rattle.cfi_perf.specs.Windows.{record_alone}
 use Rattle.cfi_perf.proofs.WindowSteps.{front_range}
 
@@ -142,3 +142,26 @@ module _ (old new : RecordIndex) (item : RecordOfCode) (offset : ℕ) (bytes : L
     pub all_kept : (r : Result T E) → kept_bytes (event_view item.event) bytes ≡ bytes → OnOk r (new.kept.items ≡ old.kept.items ++ bytes) → OnOk r (new.kept.items ≡ old.kept.items ++ kept_bytes (event_view item.event) bytes)
     all_kept (Ok x) every more = more ∙ ap (λ (l : List ℕ). old.kept.items ++ l) (sym every)
     all_kept (Err e) every more = tt
+
+-- ---- where it is
+
+abbrev pub is_of_kind : EventOfCode → PlaceKind
+is_of_kind e = kind_of (event_view e)
+
+pub kind_of_sample : (e : EventOfCode) (s : SampleOfCode) → e ≡ events.Sample s → kind_of (event_view e) ≡ InFile
+kind_of_sample e s is = ap is_of_kind is
+
+pub kind_of_other : (e : EventOfCode) → e ≡ events.Other → kind_of (event_view e) ≡ Nothing
+kind_of_other e is = ap is_of_kind is
+
+pub kind_otherwise : (e : EventOfCode) → ((s : SampleOfCode) → e ≡ events.Sample s → ⊥) → (e ≡ events.Other → ⊥) → kind_of (event_view e) ≡ Kept
+kind_otherwise (events.Mapping m) sample other = refl
+kind_otherwise (events.Program p) sample other = refl
+kind_otherwise (events.Fork f) sample other = refl
+kind_otherwise (events.Sample s) sample other = absurd (sample s refl)
+kind_otherwise (events.Lost l) sample other = refl
+kind_otherwise events.Other sample other = absurd (other refl)
+
+pub placed : {T E : Type 0} (r : Result T E) (old new : List RecordPlace) (time offset size kept : ℕ) (kind also : PlaceKind) → also ≡ kind → OnOk r (new ≡ old ++ record { time = time; offset = offset_for kind offset kept; size = size; kind = kind } ∷ []) →
+    OnOk r (new ≡ old ++ record { time = time; offset = offset_for also offset kept; size = size; kind = also } ∷ [])
+placed r old new time offset size kept kind also is of = subst (λ (k : PlaceKind). OnOk r (new ≡ old ++ record { time = time; offset = offset_for k offset kept; size = size; kind = k } ∷ [])) (sym is) of

@@ -7,6 +7,7 @@ pub mod IndexSteps
 pub mod ItemReads
 pub mod LostSums
 pub mod RecordSteps
+pub mod PieceSteps
 pub mod PlaceLemmas
 pub mod WindowSteps
 pub mod SameEvents

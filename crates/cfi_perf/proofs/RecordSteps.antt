@@ -84,7 +84,7 @@ module _ (events : EventTable) (big : Bool) where
   abbrev pub with_frame : Framed → Record → Result First PerfError
   with_frame frame first = Ok (record { first = first; others = frame.others })
 
-  fewer : (bytes : List ℕ) (found : First) → first_record events big bytes ≡ Ok found → length found.others < length bytes
+  pub fewer : (bytes : List ℕ) (found : First) → first_record events big bytes ≡ Ok found → length found.others < length bytes
   unfolding first_record
   fewer bytes found is =
       let frame = gave (split_record big bytes) (λ frame. and_then (record_of events big frame.header frame.body) (with_frame frame)) found is in

@@ -6,7 +6,6 @@ use Rattle.std.proofs.lemmas.Bool.{le-leb, lt-ltb, le-ltb, ltb-false, cases_lt, 
 use Rattle.std.proofs.lemmas.List.{drop-append-le, drop-drop, drop_min, length-append, length-drop, length-take, take-append-le, nil_from_length, take-append-drop}
 use Rattle.cfi_read_core.specs.declared.error.Error.{Error}
 use Rattle.cfi_read_core.specs.ReadFunctions.{Read, Source, Outcome, carry_on, give, ◌>>=◌}
-use Rattle.cfi_read_core.specs.ReaderCalls.{map_ok}
 use Rattle.cfi_read_core.specs.SliceReaders.{slice_over}
 use Rattle.cfi_read_core.specs.Numbers.{unsigned, number_of}
 use Rattle.cfi_perf.specs.declared.error.PerfError.{PerfError}
@@ -16,7 +15,7 @@ use Rattle.cfi_perf.specs.Results.{and_then, or_error, or_missing, part, read_fr
 use Rattle.cfi_perf.specs.Records.{First, Framed, after_record, first_record, record_header, record_of, split_record, without_id}
 use Rattle.cfi_perf.specs.EventTables.{EventTable}
 use Rattle.cfi_perf.specs.Events.{OtherEvent, Record}
-use Rattle.cfi_perf.specs.Windows.{IsWindow, first_of}
+use Rattle.cfi_perf.specs.Windows.{IsWindow, only_record}
 use Rattle.cfi_perf.proofs.Chains.{gave, not_error, not_missing, not_refused}
 use Rattle.cfi_perf.proofs.RecordSteps.{no_more_after, part_fits, sized, with_body, with_frame, with_header, with_others}
 
@@ -68,12 +67,12 @@ front_header big front others h =
 abbrev ok : RecordHeader → Result RecordHeader Error
 ok header = Ok header
 
-same_read : (big : Bool) (front others : List ℕ) → 8 ≤ length front → read_from big (front ++ others) record_header ≡ read_from big front record_header
+pub same_read : (big : Bool) (front others : List ℕ) → 8 ≤ length front → read_from big (front ++ others) record_header ≡ read_from big front record_header
 same_read big front others h =
     let more : 8 ≤ length (front ++ others) = omega (arith, length-append front others) in
     header_read big (front ++ others) more ∙ (ap ok (front_header big front others h) ∙ sym (header_read big front h))
 
-front_part : (front others : List ℕ) (i n : ℕ) → i + n ≤ length front → part (front ++ others) i n ≡ part front i n
+pub front_part : (front others : List ℕ) (i n : ℕ) → i + n ≤ length front → part (front ++ others) i n ≡ part front i n
 front_part front others i n h =
     let more : nat_le (i + n) (length (front ++ others)) ≡ true = le-leb (i + n) (length (front ++ others)) (omega (arith, length-append front others)) in
     let some : nat_le (i + n) (length front) ≡ true = le-leb (i + n) (length front) h in
@@ -85,7 +84,7 @@ split_refused : (big : Bool) (bytes : List ℕ) (e : Error) → read_from big by
 unfolding split_record
 split_refused big bytes e is = ap (λ (r : Result RecordHeader Error). and_then (or_error RecordCut r) (with_header big bytes)) is
 
-split_with : (big : Bool) (bytes : List ℕ) (header : RecordHeader) → read_from big bytes record_header ≡ Ok header → split_record big bytes ≡ with_header big bytes header
+pub split_with : (big : Bool) (bytes : List ℕ) (header : RecordHeader) → read_from big bytes record_header ≡ Ok header → split_record big bytes ≡ with_header big bytes header
 unfolding split_record
 split_with big bytes header is = ap (λ (r : Result RecordHeader Error). and_then (or_error RecordCut r) (with_header big bytes)) is
 
@@ -93,11 +92,11 @@ small : (big : Bool) (bytes : List ℕ) (header : RecordHeader) → header.size 
 small big bytes header less =
     ap (λ (b : Bool). if b then Err (RecordSize header.size) else sized big bytes header) (lt-ltb header.size 8 less)
 
-large : (big : Bool) (bytes : List ℕ) (header : RecordHeader) → 8 ≤ header.size → with_header big bytes header ≡ sized big bytes header
+pub large : (big : Bool) (bytes : List ℕ) (header : RecordHeader) → 8 ≤ header.size → with_header big bytes header ≡ sized big bytes header
 large big bytes header some =
     ap (λ (b : Bool). if b then Err (RecordSize header.size) else sized big bytes header) (le-ltb header.size 8 some)
 
-sized_by : (big : Bool) (bytes : List ℕ) (header : RecordHeader) (body : Option (List ℕ)) → part bytes 8 (header.size - 8) ≡ body → sized big bytes header ≡ and_then (or_missing RecordCut body) (with_body big bytes header)
+pub sized_by : (big : Bool) (bytes : List ℕ) (header : RecordHeader) (body : Option (List ℕ)) → part bytes 8 (header.size - 8) ≡ body → sized big bytes header ≡ and_then (or_missing RecordCut body) (with_body big bytes header)
 sized_by big bytes header body is = ap (λ (o : Option (List ℕ)). and_then (or_missing RecordCut o) (with_body big bytes header)) is
 
 -- ---- of a window, of all bytes
@@ -243,7 +242,7 @@ module _ (big : Bool) (bytes : List ℕ) (n : ℕ) where
   record_found r = Ok r
 
   module _ (events : EventTable) where
-    pub first_alone : (found : First) → Ok found ≡ first_record events big bytes → found.others ≡ drop n bytes → map_ok first_of (first_record events big front) ≡ Ok found.first
+    pub first_alone : (found : First) → Ok found ≡ first_record events big bytes → found.others ≡ drop n bytes → and_then (first_record events big front) only_record ≡ Ok found.first
     unfolding first_record
     first_alone found is ends =
         let frame = gave (split_record big bytes) (λ frame. and_then (record_of events big frame.header frame.body) (with_frame events big frame)) found (sym is) in
@@ -251,8 +250,8 @@ module _ (big : Bool) (bytes : List ℕ) (n : ℕ) where
         let same : record { first = first.value; others = frame.value.others } ≡ found = let e = first.gives in cc in
         let alone = framed_alone frame.value frame.was (ap (λ (f : First). f.others) same ∙ ends) in
         let kept : Framed = record { header = frame.value.header; body = frame.value.body; others = [] } in
-        ap (λ (r : Result Framed PerfError). map_ok first_of (and_then r (λ frame. and_then (record_of events big frame.header frame.body) (with_frame events big frame)))) alone
-        ∙ (ap (λ (r : Result Record PerfError). map_ok first_of (and_then r (with_frame events big kept))) first.was ∙ ap (λ (f : First). record_found f.first) same)
+        ap (λ (r : Result Framed PerfError). and_then (and_then r (λ frame. and_then (record_of events big frame.header frame.body) (with_frame events big frame))) only_record) alone
+        ∙ (ap (λ (r : Result Record PerfError). and_then (and_then r (with_frame events big kept)) only_record) first.was ∙ ap (λ (f : First). record_found f.first) same)
 
 -- ---- what a walk passed
 

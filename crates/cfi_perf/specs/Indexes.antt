@@ -4,6 +4,7 @@
 --     AreIndexed walk all index records      the places of an index are those of these records, in
 --         this order
 --     AreIndexedSorted walk all index records      they are those of these records by time
+--     place_for record offset size kept      the place of a record that is added
 --     IsOfBytes walk all record offset bytes      a record is the one that these bytes are, which
 --         are those at the offset; or it says nothing
 use Rattle.std.specs.Prelude.{◌≡◌, ◌⊎◌, ◌≤◌, ℕ, ◌+◌, List, [], ◌∷◌, length, slice_range, Result}
@@ -66,6 +67,24 @@ abbrev pub kept_bytes : Event → List ℕ → List ℕ
 kept_bytes (SampleEvent s) bytes = []
 kept_bytes OtherEvent bytes = []
 kept_bytes _ bytes = bytes
+
+-- where its bytes are, and the place that it is given: its own, or that behind those that were kept
+abbrev pub kind_of : Event → PlaceKind
+kind_of (SampleEvent s) = InFile
+kind_of OtherEvent = Nothing
+kind_of _ = Kept
+
+abbrev pub offset_for : PlaceKind → ℕ → ℕ → ℕ
+offset_for Kept offset kept = kept
+offset_for _ offset kept = offset
+
+abbrev pub place_for : Record → ℕ → ℕ → ℕ → RecordPlace
+place_for r offset size kept = record {
+  time = r.time;
+  offset = offset_for (kind_of r.event) offset kept;
+  size = size;
+  kind = kind_of r.event;
+}
 
 abbrev pub IsOfBytes : RecordWalk → List ℕ → Record → ℕ → List ℕ → Type 0
 IsOfBytes walk all r offset bytes =

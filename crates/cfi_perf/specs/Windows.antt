@@ -3,13 +3,14 @@
 --         of the bytes that are left to read the first record
 --     bytes_left walk, place_in walk      how many bytes are left, and where the next record is
 --     records_in walk bytes      those that a walk of the code finds in the bytes that it has left
---     record_alone walk bytes      the record that these bytes are
+--     record_alone walk bytes      the record that these bytes are, with nothing behind it
 --     framed_in, first_in      what the code finds in a window, of all bytes
 use Rattle.std.specs.Prelude.{◌≡◌, ◌⊎◌, ◌≤◌, ℕ, ◌+◌, ◌-◌, List, drop, length, min, Option, Some}
-use Rattle.std.specs.Prelude.{Result, Ok}
+use Rattle.std.specs.Prelude.{Result, Ok, Err, ◌==◌, if◌then◌else◌}
 use Rattle.cfi_read_core.specs.ByteOrder.{is_big}
-use Rattle.cfi_read_core.specs.ReaderCalls.{map_ok}
 use Rattle.cfi_perf.specs.declared.error.PerfError.{PerfError}
+use Rattle.cfi_perf.specs.declared.error.PerfError.TheVariants.{RecordCut}
+use Rattle.cfi_perf.specs.Results.{and_then}
 use Rattle.cfi_perf.specs.declared.windows.RecordWalk.{RecordWalk}
 use Rattle.cfi_perf.specs.declared.windows.FramedIn.{FramedIn}
 use Rattle.cfi_perf.specs.declared.windows.FirstIn.{FirstIn}
@@ -47,12 +48,18 @@ place_in walk = walk.end - walk.left
 abbrev pub passed : RecordWalk → RecordWalk → ℕ
 passed old new = old.left - new.left
 
-abbrev pub first_of : First → Record
-first_of found = found.first
+-- the first record, if no bytes follow it
+abbrev pub only_record : First → Result Record PerfError
+only_record found = if length found.others == 0 then Ok found.first else Err RecordCut
 
 abbrev pub record_alone : RecordWalk → List ℕ → Result Record PerfError
 record_alone walk bytes =
-    map_ok first_of (first_record (table_view walk.events) (is_big walk.endian) bytes)
+    and_then (first_record (table_view walk.events) (is_big walk.endian) bytes) only_record
+
+-- that the records are read on as before, where one was found
+abbrev pub IsSameWalk : RecordWalk → RecordWalk → Result (Option Record) PerfError → Type 0
+IsSameWalk old new (Ok (Some r)) = (bytes : List ℕ) → records_in new bytes ≡ records_in old bytes
+IsSameWalk old new _ = Unit {0}
 
 -- that a record is the one that these bytes are
 abbrev pub IsAlone : RecordWalk → List ℕ → Result (Option Record) PerfError → Type 0

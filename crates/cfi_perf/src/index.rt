@@ -1,11 +1,13 @@
 //! The places of a profile's records: samples stay in the file, and the bytes of other records are
 //! kept.
 ghost use Rattle.std.specs.Prelude.{◌≡◌, ◌∷◌, ◌++◌, ℕ, [], List, OnOk, length};
+ghost use Rattle.std.specs.List.Sorted.{IsPermutation, IsSortedByKey};
+ghost use Rattle.std.specs.Ordering.{nat_cmp};
 ghost use Rattle.cfi_perf.specs.declared.windows.RecordWalk.{RecordWalk};
 ghost use Rattle.cfi_perf.specs.Events.{Record as RecordOfProfile};
 ghost use Rattle.cfi_perf.specs.Events.{record_view};
 ghost use Rattle.cfi_perf.specs.Indexes.{AreIndexed, AreIndexedSorted, IsOfBytes, kept_bytes};
-ghost use Rattle.cfi_perf.specs.Indexes.{kept_of, places_of};
+ghost use Rattle.cfi_perf.specs.Indexes.{kept_of, place_for, places_of};
 
 use crate::record::{Event, Record};
 use std::alloc::{AllocError, Global};
@@ -77,6 +79,9 @@ impl RecordIndex {
             (records : List RecordOfProfile) → AreIndexed walk all self.old records
             → IsOfBytes walk all (record_view item.now) offset bytes.now
             → AreIndexed walk all self.new (records ++ record_view item.now ∷ [])) }
+        ensures places { OnOk result (places_of self.new ≡ places_of self.old
+            ++ place_for (record_view item.now) offset (length bytes.now)
+            (length (kept_of self.old)) ∷ []) }
         ensures kept { OnOk result (kept_of self.new
             ≡ kept_of self.old ++ kept_bytes (record_view item.now).event bytes.now) }
     {
@@ -93,6 +98,9 @@ impl RecordIndex {
         ensures indexed { OnOk result ((walk : RecordWalk) (all : List ℕ)
             (records : List RecordOfProfile) → AreIndexed walk all self.old records
             → AreIndexedSorted walk all self.new records) }
+        ensures moved { IsPermutation (places_of self.old) (places_of self.new) }
+        ensures by_time { OnOk result
+            (IsSortedByKey (λ p. p.time) nat_cmp (places_of self.new)) }
         ensures kept { kept_of self.new ≡ kept_of self.old }
     {
         self.places.sort_by_key(|place| place.time)?;

@@ -8,8 +8,9 @@ ghost use Rattle.cfi_perf.specs.EventTables.{table_view};
 ghost use Rattle.cfi_perf.specs.Events.{OtherEvent, record_view};
 ghost use Rattle.cfi_perf.specs.Records.{Meets, after_record, first_record, no_records};
 ghost use Rattle.cfi_perf.specs.Records.{records_of, split_record, until_cut};
-ghost use Rattle.cfi_perf.specs.Windows.{IsAlone, IsWindow, IsWithin, bytes_left, first_in};
-ghost use Rattle.cfi_perf.specs.Windows.{framed_in, passed, place_in, record_alone, records_in};
+ghost use Rattle.cfi_perf.specs.Windows.{IsAlone, IsSameWalk, IsWindow, IsWithin, bytes_left};
+ghost use Rattle.cfi_perf.specs.Windows.{first_in, framed_in, passed, place_in, record_alone};
+ghost use Rattle.cfi_perf.specs.Windows.{records_in};
 
 use crate::bytes::part;
 use crate::error::PerfError;
@@ -107,6 +108,7 @@ impl<'input> RecordWalk<'input> {
         ensures fewer { bytes_left self.new ≤ bytes_left self.old }
         ensures same { (bytes : List ℕ)
             → record_alone self.new bytes ≡ record_alone self.old bytes }
+        ensures walk { IsSameWalk self.old self.new (map_ok (option_map record_view) result) }
     {
         if self.left == 0 {
             if self.is_cut {
@@ -131,16 +133,18 @@ impl<'input> RecordWalk<'input> {
 
     /// Reads a record again that `next` has returned, by its own bytes alone.
     ///
-    /// Of other bytes it is their first record, and fails as `Records::next` does. Does not
+    /// Fails as `Records::next` does, and with `RecordCut` where bytes follow the record. Does not
     /// allocate.
     pub fn read_again<'w>(&self, bytes: &'w [u8]) -> Result<Record<'w>, PerfError>
     where
         'input: 'w,
         ensures { map_ok record_view result ≡ record_alone self.now bytes.now }
     {
-        match first_record(&self.events, self.endian, bytes) {
-            Ok(found) => Ok(found.first),
-            Err(error) => Err(error),
+        let found = first_record(&self.events, self.endian, bytes)?;
+        if found.others.is_empty() {
+            Ok(found.first)
+        } else {
+            Err(PerfError::RecordCut)
         }
     }
 }

@@ -78,6 +78,30 @@ impl<'a, 'run, 'names> Replay<'a, 'run, 'names> {
         }
     }
 
+    /// Makes the modules those of a process, as before a sample of it. Fails where memory is
+    /// refused. Allocates for the modules.
+    pub fn load(&mut self, pid: u32) -> Result<(), AllocError>
+        ensures modules { OnOk result (map module_view (loaded_in self.new)
+            ≡ modules_in (files_in self.new) (replayed self.new pid)) }
+        ensures own { HasOwnModules self.old → HasOwnModules self.new }
+        ensures processes { (pid : ℕ) → replayed self.new pid ≡ replayed self.old pid }
+        ensures names { (tid : ℕ) → named self.new tid ≡ named self.old tid }
+        ensures files { files_of self.new ≡ files_of self.old }
+    {
+        if self.pid == Some(pid) {
+            return Ok(());
+        }
+        self.pid = None;
+        self.modules.clear();
+        let code = ProcessCode {
+            mappings: self.processes.mappings(pid),
+            files: self.files,
+        };
+        code.push_modules(&mut self.modules)?;
+        self.pid = Some(pid);
+        Ok(())
+    }
+
     /// What is mapped in a process, with the files.
     pub fn code(&self, pid: u32) -> ProcessCode<'_, 'a, 'run>
         ensures mappings { result.mappings.now ≡ replayed self.now pid }
@@ -187,28 +211,5 @@ impl<'a, 'run, 'names> Replay<'a, 'run, 'names> {
         } else {
             None
         }
-    }
-
-    /// Makes the modules of a process, unless they are here.
-    fn load(&mut self, pid: u32) -> Result<(), AllocError>
-        ensures modules { OnOk result (map module_view (loaded_in self.new)
-            ≡ modules_in (files_in self.new) (replayed self.new pid)) }
-        ensures own { HasOwnModules self.old → HasOwnModules self.new }
-        ensures processes { self.new.processes ≡ self.old.processes }
-        ensures names { self.new.threads ≡ self.old.threads }
-        ensures files { files_of self.new ≡ files_of self.old }
-    {
-        if self.pid == Some(pid) {
-            return Ok(());
-        }
-        self.pid = None;
-        self.modules.clear();
-        let code = ProcessCode {
-            mappings: self.processes.mappings(pid),
-            files: self.files,
-        };
-        code.push_modules(&mut self.modules)?;
-        self.pid = Some(pid);
-        Ok(())
     }
 }

@@ -26,7 +26,8 @@ use crate::choice::{Choice, is_left_out, left_after};
 use crate::folding::print_folded;
 use crate::listing::{Listing, StackStyle};
 use crate::sample_text::{Room, print_sample};
-use cfi_object::input::{InputError, read_all};
+use cfi_object::input::{FileInput, InputError};
+use cfi_object::parts::read_whole;
 use cfi_perf::{Event, PerfError, Profile, Record, Records, lacks_stacks, lost_in};
 use cfi_processes::process_code::KERNEL;
 use cfi_processes::profile_files::{
@@ -40,11 +41,10 @@ use cfi_programs::style::Format;
 use gimli_cfi::Error;
 use std::alloc::{AllocError, Global};
 use std::io;
-use std::io::{Read, Write};
+use std::io::Write;
 
-/// Reads the profile to its end, and prints the stacks of the samples that are chosen: one after
-/// the other, in the order of their times, or folded. Other samples are neither unwound nor
-/// printed.
+/// Reads the profile whole, and prints the stacks of the samples that are chosen: one after the
+/// other, in the order of their times, or folded. Other samples are neither unwound nor printed.
 ///
 /// For each sample there is a line with the thread, its name, the processor, the time, the period
 /// and the event, a line for each frame of the kernel and of user space, where there is a reason
@@ -73,21 +73,21 @@ use std::io::{Read, Write};
 /// Allocates for the input, the records, the files and what is mapped, and for folded stacks: one
 /// text for each different one, and the lines of all. Unwinding doesn't allocate, nor does printing
 /// one stack after the other.
-pub fn list_profile<O: Opener, R: Read, W: Write>(
+pub fn list_profile<O: Opener, I: FileInput, W: Write>(
     alloc: Global,
     listing: Listing,
     choice: &Choice<'_>,
     opener: &O,
-    input: &mut R,
+    input: &mut I,
     output: &mut W,
 ) -> io::Result<u8>
-    ensures { (bytes : List ℕ) × AreLeft (R.remaining input.old) bytes
+    ensures { (bytes : List ℕ) × AreLeft (I.bytes input.old) bytes
         × PrintsSome (λ line. IsListingOwed listing (choice_view choice.now)
         (O.may_open opener.now) O.File.remaining
         bytes line)
         (W.contents output.old) (W.contents output.new) result }
 {
-    match read_all(alloc, input) {
+    match read_whole(alloc, input) {
         Ok(bytes) => print_bytes(alloc, listing, choice, opener, bytes.as_slice(), output),
         Err(InputError::OutOfMemory) => write_refusal_in(
             output,
@@ -100,14 +100,14 @@ pub fn list_profile<O: Opener, R: Read, W: Write>(
 
 /// Prints the stacks of the samples one after the other, as `list_profile` does; without functions
 /// if they are `raw`.
-pub fn unwind_profile<O: Opener, R: Read, W: Write>(
+pub fn unwind_profile<O: Opener, I: FileInput, W: Write>(
     alloc: Global,
     raw: bool,
     opener: &O,
-    input: &mut R,
+    input: &mut I,
     output: &mut W,
 ) -> io::Result<u8>
-    ensures { (bytes : List ℕ) × AreLeft (R.remaining input.old) bytes
+    ensures { (bytes : List ℕ) × AreLeft (I.bytes input.old) bytes
         × PrintsSome (λ line. IsOwed raw (O.may_open opener.now) O.File.remaining bytes line)
         (W.contents output.old) (W.contents output.new) result }
 {

@@ -1,4 +1,5 @@
-use Rattle.std.proofs.Common.{ℕ}
+use Rattle.std.proofs.Common.{ℕ, List, Option, subst, sym}
+use Rattle.cfi_object.specs.FileParts.{AreLeft}
 use Rattle.cfi_stacks.specs.Choices.{choice_view}
 use Rattle.cfi.specs.Folders.{folders_view}
 use Rattle.cfi.specs.Process.{disk_of}
@@ -10,9 +11,10 @@ returns-in-Some g c =
     let may_open = g.S.System.may_open c.args.system.now in
     let left = g.S.File.Read.remaining in
     let old = g.W.Write.contents c.args.output.now in
+    let (bytes, are, prints) = c.list_profile.ensures in
     same_stacks may_open left g.S.File.FileInput.bytes g.met.S.System.same_bytes c.args.listing (choice_view c.args.choice.now) (folders_view c.args.folders) c.args.file.now old _ c.list_profile.result
     (stacks_of (disk_of may_open left) c.args.listing (choice_view c.args.choice.now) (folders_view c.args.folders) c.args.file.now _ old _ c.list_profile.result
-    c.in-Some.ensures c.list_profile.ensures)
+    c.in-Some.ensures (bytes, subst (λ (known : Option (List ℕ)). AreLeft known bytes) (sym (g.met.S.System.same_bytes c.in-Some.input)) are, prints))
 
 pub returns-in-None : goal.returns-in-None
 returns-in-None g c =

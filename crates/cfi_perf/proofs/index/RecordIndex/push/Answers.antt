@@ -1,4 +1,5 @@
-use Rattle.cfi_perf.proofs.IndexSteps.{all_kept, kept_added, kept_of_other, kept_of_sample, kept_otherwise, none_kept, other_added, sample_added}
+use Rattle.cfi_perf.proofs.IndexSteps.{all_kept, kept_added, kept_of_other, kept_of_sample, kept_otherwise, kind_of_other, kind_of_sample, kind_otherwise, none_kept, other_added, placed, sample_added}
+use Rattle.cfi_perf.specs.declared.index.PlaceKind.TheVariants.{InFile, Kept, Nothing}
 use Rattle.cfi_perf.proofs.index.RecordIndex.push.Goals as goal
 
 pub returns-in-Sample-clause-indexed : goal.returns-in-Sample-clause-indexed
@@ -24,3 +25,15 @@ returns-in-Other-clause-kept c =
 pub returns-in_default-clause-kept : goal.returns-in_default-clause-kept
 returns-in_default-clause-kept c =
     all_kept c.args.self.now c.keep.new.self c.args.item.now c.args.offset c.args.bytes.now c.keep.result (kept_otherwise c.args.item.now.event c.args.bytes.now c.in_default.not-Sample c.in_default.not-Other) c.keep.ensures.kept
+
+pub returns-in-Sample-clause-places : goal.returns-in-Sample-clause-places
+returns-in-Sample-clause-places c =
+    placed c.push_place.result c.args.self.now.places.items c.push_place.new.self.places.items c.args.item.now.time c.args.offset _ _ InFile _ (kind_of_sample c.args.item.now.event c.in-Sample.field-0 c.in-Sample.is) c.push_place.ensures.places
+
+pub returns-in-Other-clause-places : goal.returns-in-Other-clause-places
+returns-in-Other-clause-places c =
+    placed c.push_place-in-Other.result c.args.self.now.places.items c.push_place-in-Other.new.self.places.items c.args.item.now.time c.args.offset _ _ Nothing _ (kind_of_other c.args.item.now.event c.in-Other.is) c.push_place-in-Other.ensures.places
+
+pub returns-in_default-clause-places : goal.returns-in_default-clause-places
+returns-in_default-clause-places c =
+    placed c.keep.result c.args.self.now.places.items c.keep.new.self.places.items c.args.item.now.time c.args.offset _ _ Kept _ (kind_otherwise c.args.item.now.event c.in_default.not-Sample c.in_default.not-Other) c.keep.ensures.places
