@@ -22,7 +22,7 @@ use Rattle.cfi_perf.proofs.RecordSteps.{no_more_after, part_fits, sized, with_bo
 
 -- ---- numbers at a place
 
-number_read : (w : Width) (s : Source) (place : ℕ) → nat_le (byte_len w) (s.last - place) ≡ true →
+pub number_read : (w : Width) (s : Source) (place : ℕ) → nat_le (byte_len w) (s.last - place) ≡ true →
     unsigned w s place ≡ record { value = Ok (number_of w s.big_endian (slice_range s.whole place (place + byte_len w))); place = place + byte_len w }
 unfolding unsigned
 number_read w s place fits = rw fits refl
@@ -73,7 +73,7 @@ same_read big front others h =
     let more : 8 ≤ length (front ++ others) = omega (arith, length-append front others) in
     header_read big (front ++ others) more ∙ (ap ok (front_header big front others h) ∙ sym (header_read big front h))
 
-front_part : (front others : List ℕ) (i n : ℕ) → i + n ≤ length front → part (front ++ others) i n ≡ part front i n
+pub front_part : (front others : List ℕ) (i n : ℕ) → i + n ≤ length front → part (front ++ others) i n ≡ part front i n
 front_part front others i n h =
     let more : nat_le (i + n) (length (front ++ others)) ≡ true = le-leb (i + n) (length (front ++ others)) (omega (arith, length-append front others)) in
     let some : nat_le (i + n) (length front) ≡ true = le-leb (i + n) (length front) h in

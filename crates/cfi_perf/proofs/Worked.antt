@@ -1,6 +1,6 @@
 -- A small profile of three records by computation, as perf script -D prints it: its header, its event, its records, and its architecture, in both byte orders.
 use Rattle.std.proofs.Common.{◌≡◌, ℕ, ◌+◌, ◌-◌, ◌*◌, List, [], ◌∷◌, ◌++◌, codes, true, false, Option, Some, None, Ok, Err, refl}
-use Rattle.std.specs.Prelude.{Bool, nat_lt, if◌then◌else◌, take, replicate}
+use Rattle.std.specs.Prelude.{Bool, nat_lt, if◌then◌else◌, drop, map, take, replicate}
 use Rattle.cfi_read_core.specs.declared.endianity.RunTimeEndian.TheVariants.{Little, Big}
 use Rattle.cfi_read_core.specs.Numbers.{unsigned}
 use Rattle.cfi_perf.specs.declared.error.PerfError.TheVariants.{NotPerf, PipeMode, HeaderCut, HeaderSize, AttributesOutOfBounds, DataOutOfBounds, NoEvents, MixedEvents, FeatureOutOfBounds, RecordSize, RecordCut, Compressed}
@@ -9,17 +9,20 @@ use Rattle.cfi_perf.specs.declared.attribute.EventLayout.{EventLayout}
 use Rattle.cfi_perf.specs.Results.{items, entries, header_text}
 use Rattle.cfi_perf.specs.Layouts.{sample_format, sample_id_all, chosen, attribute, event, events, first_event}
 use Rattle.cfi_perf.specs.EventNames.{behind_others, described, described_name, description, generic_name}
-use Rattle.cfi_perf.specs.EventTables.{EventTable, event_of_id}
+use Rattle.cfi_perf.specs.EventTables.{EventTable, event_of_id, known_event}
+use Rattle.cfi_perf.specs.FileParts.{parts_of}
 use Rattle.cfi_perf.specs.FileHeaders.{byte_order, file_section, feature_bits, header_fields, file_header}
 use Rattle.cfi_perf.specs.CallChains.{PERF_CONTEXT_KERNEL, PERF_CONTEXT_USER}
 use Rattle.cfi_perf.specs.Samples.{Sample, UserRegisters, kernel_frames, user_frames, register_of, thread, sample_numbers, processor, later_numbers, group_values, single_value, call_chain, raw_data, branch_stack, lists, registers, copied_stack, stack, user_state, sample}
 use Rattle.cfi_perf.specs.Events.{LostEvent, lost, lost_samples, Mapping, own_build_id, MappingEvent, ProgramEvent, ForkEvent, SampleEvent, OtherEvent, mapped_range, mapping, mapping2, program, fork}
 use Rattle.cfi_perf.specs.Records.{record_header, split_record, id_of, id_up_to, with_build_id, sample_id_time, without_id, record_of, first_record, records_up_to, records_of}
-use Rattle.cfi_perf.specs.Profiles.{EventSection, Profile, events_by, profile, architecture, build_ids, descriptions, event_table, machine_by, profile_records}
+use Rattle.cfi_perf.specs.Sections.{EventSection, Sections, architecture_in, build_ids, descriptions, event_table, events_by, machine_by}
+use Rattle.cfi_perf.specs.Profiles.{Profile, head_of, profile, profile_records}
+use Rattle.cfi_perf.specs.ProfilesAround.{profile_around}
 
 -- to name it on an `unfolding` line is to open all these
 unfoldable computing : ℕ
-unfolding unsigned items entries sample_format sample_id_all chosen attribute event file_section feature_bits header_fields file_header thread sample_numbers processor later_numbers group_values single_value call_chain raw_data branch_stack lists registers copied_stack stack user_state sample mapped_range mapping mapping2 program fork lost lost_samples record_header split_record sample_id_time without_id record_of first_record id_up_to records_up_to behind_others described description events_by profile architecture descriptions build_ids event_table header_text lib.Count.ones
+unfolding unsigned items entries sample_format sample_id_all chosen attribute event file_section feature_bits header_fields file_header thread sample_numbers processor later_numbers group_values single_value call_chain raw_data branch_stack lists registers copied_stack stack user_state sample mapped_range mapping mapping2 program fork lost lost_samples record_header split_record sample_id_time without_id record_of first_record id_up_to records_up_to behind_others described description events_by profile profile_around architecture_in descriptions build_ids event_table header_text lib.Count.ones
 computing = 0
 
 -- the bytes of hexadecimal text, whose letters are small
@@ -86,7 +89,7 @@ worked_event = record { attribute = record { kind = 1; config = 0; layout = work
 
 -- it is cpu-clock, alone
 abbrev worked_table : Bool → EventTable
-worked_table big = record { big_endian = big; bytes = []; descriptions = []; entries = worked_event ∷ []; first = record { layout = worked_layout; name = codes "cpu-clock" }; is_alone = true; build_ids = [] }
+worked_table big = record { big_endian = big; descriptions = []; entries = map (known_event big (parts_of [])) (worked_event ∷ []); first = record { layout = worked_layout; name = codes "cpu-clock" }; is_alone = true; build_ids = [] }
 
 abbrev little_event : List ℕ
 little_event = hex (codes "01000000600000000000000000000000102700000000000027310000000000000000000000000000000004000000000000000000000000000000000000000000000000000000000000000000000000008101000000000000100000000000000000000000000000000000000000000000")
@@ -279,30 +282,47 @@ abbrev worked_section : EventSection
 worked_section = record { size = 112; count = 1; attrs = little_event; first = worked_event }
 
 -- with the sections of bits 3 and 6, whose places begin with those of the whole file
-abbrev worked_profile : ℕ → Profile
-worked_profile features = record { bytes = little_header ++ (little_event ++ (little_program ++ (little_mapping ++ (little_sample ++ behind)))); endian = Little; events = worked_section; features = features; records = []; is_cut = false; behind = behind }
+abbrev worked_file : List ℕ
+worked_file = little_header ++ (little_event ++ (little_program ++ (little_mapping ++ (little_sample ++ behind))))
 
-its_architecture : architecture (worked_profile 0x48) ≡ Ok (Some (codes "x86_64"))
+abbrev worked_sections : ℕ → Sections
+worked_sections features = record { parts = parts_of worked_file; endian = Little; events = worked_section; features = features; is_cut = false; end = 472; behind = behind }
+
+its_architecture : architecture_in (worked_sections 0x48) ≡ Ok (Some (codes "x86_64"))
 unfolding computing
 its_architecture = refl
 
-its_first_section : architecture (worked_profile 0x40) ≡ Ok (Some (codes "host"))
+its_first_section : architecture_in (worked_sections 0x40) ≡ Ok (Some (codes "host"))
 unfolding computing
 its_first_section = refl
 
-no_architecture : architecture (worked_profile 0x8) ≡ Ok None
+no_architecture : architecture_in (worked_sections 0x8) ≡ Ok None
 unfolding computing
 no_architecture = refl
 
-no_third_section : architecture (worked_profile 0x58) ≡ Err FeatureOutOfBounds
+no_third_section : architecture_in (worked_sections 0x58) ≡ Err FeatureOutOfBounds
 unfolding computing
 no_third_section = refl
 
 -- ---- the whole
 
-its_parts : profile (worked_profile 0x48).bytes ≡ Ok (record { bytes = (worked_profile 0x48).bytes; endian = Little; events = worked_section; features = 0x48; records = little_program ++ (little_mapping ++ little_sample); is_cut = false; behind = behind })
+its_parts : profile worked_file ≡ Ok (record { head = head_of (worked_sections 0x48) 256; records = little_program ++ (little_mapping ++ little_sample) })
 unfolding computing
 its_parts = refl
+
+-- the same without the bytes of its records
+its_head : profile_around (little_header ++ little_event) behind 528 ≡ Ok (Some (head_of (worked_sections 0x48) 256))
+unfolding computing
+its_head = refl
+
+-- with a byte of them, and without one behind them
+a_byte_more : profile_around (little_header ++ (little_event ++ take 1 little_program)) behind 528 ≡ Ok None
+unfolding computing
+a_byte_more = refl
+
+a_byte_less : profile_around (little_header ++ little_event) (drop 1 behind) 528 ≡ Ok None
+unfolding computing
+a_byte_less = refl
 
 -- ---- a call chain, as perf record left it with -g
 
@@ -392,7 +412,7 @@ told_apart : first_event (clock ∷ faults ∷ []) ≡ Ok clock
 told_apart = refl
 
 abbrev two : EventTable
-two = record { big_endian = false; bytes = two_ids; descriptions = two_names; entries = clock ∷ faults ∷ []; first = record { layout = clock_layout; name = codes "cpu-clock/call-graph=dwarf,stack-size=8/" }; is_alone = false; build_ids = [] }
+two = record { big_endian = false; descriptions = two_names; entries = map (known_event false (parts_of two_ids)) (clock ∷ faults ∷ []); first = record { layout = clock_layout; name = codes "cpu-clock/call-graph=dwarf,stack-size=8/" }; is_alone = false; build_ids = [] }
 
 by_its_id : event_of_id two 214 ≡ Some (record { layout = faults_layout; name = codes "page-faults" })
 unfolding computing
@@ -466,9 +486,12 @@ build_of_the_table = refl
 -- ---- the same cut within its sample, as by a full disk
 
 abbrev cut_profile : Profile
-cut_profile = record { bytes = take 400 (worked_profile 0x48).bytes; endian = Little; events = worked_section; features = 0x48; records = little_program ++ (little_mapping ++ take 48 little_sample); is_cut = true; behind = [] }
+cut_profile = record {
+  head = head_of (record { parts = parts_of (take 400 worked_file); endian = Little; events = worked_section; features = 0x48; is_cut = true; end = 400; behind = [] }) 184;
+  records = little_program ++ (little_mapping ++ take 48 little_sample);
+}
 
-its_cut_parts : profile cut_profile.bytes ≡ Ok cut_profile
+its_cut_parts : profile (take 400 worked_file) ≡ Ok cut_profile
 unfolding computing
 its_cut_parts = refl
 

@@ -1,6 +1,7 @@
 pub mod ErrorNames
 pub mod Results
 pub mod FileHeaders
+pub mod FileParts
 pub mod Layouts
 pub mod EventNames
 pub mod EventTables
@@ -9,6 +10,8 @@ pub mod Samples
 pub mod Events
 pub mod Records
 pub mod Recordings
+pub mod Sections
 pub mod Profiles
+pub mod ProfilesAround
 pub mod Windows
 pub mod Indexes

@@ -9,7 +9,7 @@ use crate::error::PerfError;
 use cfi_read_core::{EndianSlice, Reader, Result, RunTimeEndian};
 
 /// The size of the header of a file.
-const FILE_HEADER_SIZE: u64 = 104;
+pub(crate) const FILE_HEADER_SIZE: u64 = 104;
 
 /// The size of the header of a pipe.
 const PIPE_HEADER_SIZE: u64 = 16;
