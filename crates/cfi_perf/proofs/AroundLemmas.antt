@@ -83,10 +83,10 @@ after_front front back o s past =
     let count : (o + s) - o ≡ (n + s) - n = omega arith in
     let range : slice_range (front ++ back) o (o + s) ≡ slice_range back n (n + s) = ap (λ (l : List ℕ). take ((o + s) - o) l) rest ∙ ap (λ (k : ℕ). take k (drop n back)) count in
     let fits : nat_le (o + s) (length (front ++ back)) ≡ nat_le (n + s) (length back) =
-        ⊎_elim
-        (λ (past : length back < n + s). lt-leb (o + s) (length (front ++ back)) (omega arith) ∙ sym (lt-leb (n + s) (length back) past))
-        (λ (within : n + s ≤ length back). le-leb (o + s) (length (front ++ back)) (omega arith) ∙ sym (le-leb (n + s) (length back) within))
-        (cases_lt (length back) (n + s)) in
+    ⊎_elim
+    (λ (past : length back < n + s). lt-leb (o + s) (length (front ++ back)) (omega arith) ∙ sym (lt-leb (n + s) (length back) past))
+    (λ (within : n + s ≤ length back). le-leb (o + s) (length (front ++ back)) (omega arith) ∙ sym (le-leb (n + s) (length back) within))
+    (cases_lt (length back) (n + s)) in
     ap (λ (b : Bool). if b then Some (slice_range (front ++ back) o (o + s)) else None) fits
     ∙ ap (λ (l : List ℕ). if nat_le (n + s) (length back) then Some l else None) range
 

@@ -2,7 +2,8 @@
 -- PERF_SAMPLE_IDENTIFIER).
 --     event_of_sample events body      the event of a sample; none where no event has its id
 --     layout_of_other events body      the layout of the event of another record
-use Rattle.std.specs.Prelude.{ℕ, ◌+◌, ◌-◌, ◌*◌, ◌/◌, Bool, not, ◌||◌, List, [], ◌∷◌, drop, length, map}
+use Rattle.std.specs.Prelude.{ℕ, ◌+◌, ◌-◌, ◌*◌, ◌/◌, Bool, not, ◌||◌, List, [], ◌∷◌, drop, length}
+use Rattle.std.specs.Prelude.{map}
 use Rattle.std.specs.Prelude.{Option, Some, None, Result, Ok, Err, count_ones, bit_and, ◌==◌}
 use Rattle.std.specs.Prelude.{if◌then◌else◌}
 use Rattle.std.specs.List.{list_any}

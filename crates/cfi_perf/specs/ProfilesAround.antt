@@ -32,7 +32,8 @@ abbrev pub profile_of : List ℕ → ProfileHead → Profile
 profile_of bytes head = record { head = head; records = take head.size (drop head.place bytes) }
 
 -- what was read is this; nothing where a part isn't at hand
-abbrev pub IsReadAs : List ℕ → Result Profile PerfError → Result (Option ProfileHead) PerfError → Type 0
+abbrev pub IsReadAs :
+    List ℕ → Result Profile PerfError → Result (Option ProfileHead) PerfError → Type 0
 IsReadAs bytes p (Ok (Some head)) = p ≡ Ok (profile_of bytes head)
 IsReadAs bytes p (Ok None) = Unit {0}
 IsReadAs bytes p (Err e) = p ≡ Err e

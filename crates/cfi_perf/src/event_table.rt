@@ -11,9 +11,7 @@ ghost use Rattle.cfi_perf.specs.EventTables.{first_with_id, has_id, id_place, kn
 ghost use Rattle.cfi_perf.specs.EventTables.{layout_of_other};
 ghost use Rattle.cfi_perf.specs.EventTables.{numbered_event, table_view};
 
-use crate::attribute::{
-    Attribute, EventEntry, EventLayout, PERF_SAMPLE_IDENTIFIER, read_event,
-};
+use crate::attribute::{Attribute, EventEntry, EventLayout, PERF_SAMPLE_IDENTIFIER, read_event};
 use crate::bytes::bytes_from;
 use crate::event_names::event_name;
 use crate::file_bytes::FileBytes;

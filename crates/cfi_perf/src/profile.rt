@@ -44,12 +44,12 @@ impl<'input> ProfileHead<'input> {
         is_cut: bool,
     ) -> Self
         ensures { head_view result ≡ record {
-            endian = endian;
-            events = table_view events.entry;
-            architecture = map_ok (option_map (λ name. name.now)) architecture.entry;
-            place = end - size;
-            size = size;
-            is_cut = is_cut;
+          endian = endian;
+          events = table_view events.entry;
+          architecture = map_ok (option_map (λ name. name.now)) architecture.entry;
+          place = end - size;
+          size = size;
+          is_cut = is_cut;
         } }
     {
         ProfileHead {
