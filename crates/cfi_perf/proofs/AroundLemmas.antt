@@ -17,13 +17,15 @@ use Rattle.cfi_perf.specs.declared.attribute.EventEntry.{EventEntry}
 use Rattle.cfi_perf.specs.declared.file_header.FileHeader.{FileHeader}
 use Rattle.cfi_perf.specs.declared.file_header.FileSection.{FileSection}
 use Rattle.cfi_perf.specs.Results.{and_then, entries, or_error, or_missing, part, read_from}
-use Rattle.cfi_perf.specs.declared.error.PerfError.TheVariants.{AttributeSize, AttributesOutOfBounds, FeatureOutOfBounds, HeaderCut, HeaderSize, PipeMode}
+use Rattle.cfi_perf.specs.declared.error.PerfError.TheVariants.{AttributeSize, AttributesOutOfBounds, FeatureOutOfBounds, HeaderCut, HeaderSize}
 use Rattle.cfi_perf.specs.EventNames.{event_name}
 use Rattle.cfi_perf.specs.EventTables.{EventTable, KnownEvent, known_event, known_events, numbers_in}
-use Rattle.cfi_perf.specs.Layouts.{event, events, first_event}
-use Rattle.cfi_perf.specs.Profiles.{Profile, ProfileHead, head_of, profile, profile_by}
+use Rattle.cfi_perf.specs.Layouts.{entry, events, first_event}
+use Rattle.cfi_perf.specs.declared.attribute.EntryForm.TheVariants.{Sized}
+use Rattle.cfi_perf.specs.Pipes.{is_pipe, is_size}
+use Rattle.cfi_perf.specs.Profiles.{Profile, file_profile, pipe_profile, profile, profile_by}
 use Rattle.cfi_perf.specs.ProfilesAround.{IsAround, IsProfileAround, IsReadAs, has_all, has_feature, has_place, head_if, lies_between, profile_around, profile_of, sections_around}
-use Rattle.cfi_perf.specs.Sections.{EventSection, Sections, architecture_in, behind_records, build_ids, descriptions, event_table, events_by, feature_place, feature_section, machine_by, or_nothing, records_at, sections_by, text_in}
+use Rattle.cfi_perf.specs.Sections.{EventSection, ProfileHead, Sections, architecture_in, behind_records, build_ids, descriptions, event_table, events_by, feature_place, feature_section, head_of, machine_by, or_nothing, records_at, sections_by, text_in}
 use Rattle.cfi_perf.specs.FileHeaders.{byte_order, file_header, header_fields}
 use Rattle.cfi_perf.specs.FileParts.{Parts, or_other, part_behind, parts_around, parts_of}
 use Rattle.cfi_perf.proofs.FixedReads.{fixed_header, fixed_size, same_from}
@@ -63,7 +65,7 @@ module _ (front others : List ℕ) (some : 104 ≤ length front) where
       ∙ same_from header_fields 88 fixed_header big (drop 16 front) others (omega (arith, length-drop 16 front))
 
   abbrev by_size : Result FileHeader Error → ℕ → Result FileHeader PerfError
-  by_size fields size = if size == 16 then Err PipeMode else if not (size == 104) then Err (HeaderSize size) else or_error HeaderCut fields
+  by_size fields size = if not (size == 104) then Err (HeaderSize size) else or_error HeaderCut fields
 
   same_header : (endian : RunTimeEndian) → file_header endian (front ++ others) ≡ file_header endian front
   unfolding file_header
@@ -202,10 +204,10 @@ module _ (s : Sections) (p : Parts) (agree : (place : FileSection) → is_some (
       let first = both _ _ has in
       let second = both _ _ first.1 in
       let third = both _ _ second.1 in
-      let entries = same_events (is_big s.endian) (entries s.events.count (event s.events.size) (slice_over s.events.attrs (is_big s.endian)).source 0) first.0 in
-      ap (λ (d : List ℕ). table_by d (known_events (is_big s.endian) p s.events.count s.events.size s.events.attrs) (build_ids moved)) (same_descriptions third.1)
+      let entries = same_events (is_big s.endian) (entries s.events.count (entry s.events.form) (slice_over s.events.attrs (is_big s.endian)).source 0) first.0 in
+      ap (λ (d : List ℕ). table_by d (known_events (is_big s.endian) p s.events.count s.events.form s.events.attrs) (build_ids moved)) (same_descriptions third.1)
       ∙ (ap (λ (es : List KnownEvent). table_by (descriptions s) es (build_ids moved)) entries
-      ∙ ap (λ (b : List ℕ). table_by (descriptions s) (known_events (is_big s.endian) s.parts s.events.count s.events.size s.events.attrs) b) (same_builds second.0))
+      ∙ ap (λ (b : List ℕ). table_by (descriptions s) (known_events (is_big s.endian) s.parts s.events.count s.events.form s.events.attrs) b) (same_builds second.0))
 
   abbrev head_by : ℕ → EventTable → Result (Option (List ℕ)) PerfError → ProfileHead
   head_by size events architecture = record { endian = s.endian; events = events; architecture = architecture; place = s.end - size; size = size; is_cut = s.is_cut }
@@ -224,7 +226,7 @@ by_attrs endian header attrs =
     if nat_lt header.attr_size 112 then Err (AttributeSize header.attr_size)
     else and_then (or_missing AttributesOutOfBounds attrs) (λ attrs.
     and_then (first_event (events (is_big endian) header.attr_size attrs)) (λ first.
-    Ok (record { size = header.attr_size; count = length attrs / header.attr_size; attrs = attrs; first = first })))
+    Ok (record { form = Sized header.attr_size; count = length attrs / header.attr_size; attrs = attrs; first = first })))
 
 found_part : (o : Option (List ℕ)) → is_some o ≡ true → (l : List ℕ) × (o ≡ Some l)
 found_part (Some l) is = (l, refl)
@@ -239,6 +241,10 @@ same_section before others endian header is =
 if_none : (bytes : List ℕ) (p : Result Profile PerfError) (q : Result (Option ProfileHead) PerfError) (b : Bool) → (b ≡ false → IsReadAs bytes p q) → IsReadAs bytes p (if b then Ok None else q)
 if_none bytes p q true read = tt
 if_none bytes p q false read = read refl
+
+if_either : (bytes : List ℕ) (p r : Result Profile PerfError) (q : Result (Option ProfileHead) PerfError) (b : Bool) → IsReadAs bytes r q → IsReadAs bytes (if b then p else r) (if b then Ok None else q)
+if_either bytes p r q true read = tt
+if_either bytes p r q false read = read
 
 if_head : (bytes : List ℕ) (p : Profile) (head : ProfileHead) (b : Bool) → (b ≡ true → p ≡ profile_of bytes head) → IsReadAs bytes (Ok p) (Ok (if b then Some head else None))
 if_head bytes p head true is = ap (λ (p : Profile). let r : Result Profile PerfError = Ok p in r) (is refl)
@@ -323,20 +329,44 @@ module _ (before among behind : List ℕ) where
       (then_read bytes (events_by endian before header) (λ events. Ok (profile_by endian bytes header events)) (λ events. Ok (head_if (around endian header events) size))
       (λ (events : EventSection). if_head bytes (profile_by endian bytes header events) (head_of (around endian header events) size) (has_all (around endian header events)) (is_whole endian header events lies))))
 
-  profile_read : 104 ≤ length before → profile bytes ≡ and_then (byte_order before) (λ endian. and_then (file_header endian before) (λ header. whole_of endian header))
+  module _ (some : 104 ≤ length before) (endian : RunTimeEndian) where
+    same_pipe : is_pipe endian bytes ≡ is_pipe endian before
+    same_pipe = ap (λ (r : Result ℕ Error). is_size r 16) (same_size before (among ++ behind) some (is_big endian))
+
+    same_file : file_profile endian bytes ≡ and_then (file_header endian before) (whole_of endian)
+    unfolding file_profile
+    same_file = ap (λ (r : Result FileHeader PerfError). and_then r (whole_of endian)) (same_header before (among ++ behind) some endian)
+
+    same_kind : (if is_pipe endian bytes then pipe_profile endian bytes else file_profile endian bytes)
+        ≡ (if is_pipe endian before then pipe_profile endian bytes else and_then (file_header endian before) (whole_of endian))
+    same_kind =
+        ap (λ (b : Bool). if b then pipe_profile endian bytes else file_profile endian bytes) same_pipe
+        ∙ ap (λ (r : Result Profile PerfError). if is_pipe endian before then pipe_profile endian bytes else r) same_file
+
+  abbrev kind_of : RunTimeEndian → Result Profile PerfError
+  kind_of endian = if is_pipe endian before then pipe_profile endian bytes else and_then (file_header endian before) (whole_of endian)
+
+  abbrev around_kind : RunTimeEndian → Result (Option ProfileHead) PerfError
+  around_kind endian = if is_pipe endian before then Ok None else and_then (file_header endian before) (around_of endian)
+
+  profile_read : 104 ≤ length before → profile bytes ≡ and_then (byte_order before) kind_of
   unfolding profile
   profile_read some =
-      ap (λ (r : Result RunTimeEndian PerfError). and_then r (λ endian. and_then (file_header endian bytes) (λ header. whole_of endian header))) (same_order before (among ++ behind) some)
-      ∙ ap (λ (f : RunTimeEndian → Result FileHeader PerfError). and_then (byte_order before) (λ endian. and_then (f endian) (λ header. whole_of endian header))) (λ i endian. same_header before (among ++ behind) some endian i)
+      ap (λ (r : Result RunTimeEndian PerfError). and_then r (λ endian. if is_pipe endian bytes then pipe_profile endian bytes else file_profile endian bytes)) (same_order before (among ++ behind) some)
+      ∙ ap (λ (f : RunTimeEndian → Result Profile PerfError). and_then (byte_order before) f) (λ i endian. same_kind some endian i)
+
+  by_kind : (endian : RunTimeEndian) → IsReadAs bytes (kind_of endian) (around_kind endian)
+  by_kind endian =
+      if_either bytes (pipe_profile endian bytes) (and_then (file_header endian before) (whole_of endian)) (and_then (file_header endian before) (around_of endian)) (is_pipe endian before)
+      (then_read bytes (file_header endian before) (whole_of endian) (around_of endian) (λ (header : FileHeader). by_header endian header))
 
   around_joined : IsReadAs bytes (profile bytes) (profile_around before behind count)
   unfolding profile_around
   around_joined =
-      if_none bytes (profile bytes) (and_then (byte_order before) (λ endian. and_then (file_header endian before) (λ header. around_of endian header))) (nat_lt (length before) 104)
+      if_none bytes (profile bytes) (and_then (byte_order before) around_kind) (nat_lt (length before) 104)
       (λ (large : nat_lt (length before) 104 ≡ false).
-      subst (λ (p : Result Profile PerfError). IsReadAs bytes p (and_then (byte_order before) (λ endian. and_then (file_header endian before) (λ header. around_of endian header)))) (sym (profile_read (ltb-false (length before) 104 large)))
-      (then_read bytes (byte_order before) (λ endian. and_then (file_header endian before) (λ header. whole_of endian header)) (λ endian. and_then (file_header endian before) (λ header. around_of endian header))
-      (λ (endian : RunTimeEndian). then_read bytes (file_header endian before) (whole_of endian) (around_of endian) (λ (header : FileHeader). by_header endian header))))
+      subst (λ (p : Result Profile PerfError). IsReadAs bytes p (and_then (byte_order before) around_kind)) (sym (profile_read (ltb-false (length before) 104 large)))
+      (then_read bytes (byte_order before) kind_of around_kind (λ (endian : RunTimeEndian). by_kind endian)))
 
 -- what is read of the first and the last bytes is the profile
 pub is_around : (before behind : List ℕ) (count : ℕ) (bytes : List ℕ) → IsAround before behind count bytes → IsProfileAround bytes (profile_around before behind count)

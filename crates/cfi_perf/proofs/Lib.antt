@@ -10,6 +10,7 @@ pub mod IndexSteps
 pub mod ItemReads
 pub mod LostSums
 pub mod RecordSteps
+pub mod PipeSteps
 pub mod PlaceLemmas
 pub mod WindowSteps
 pub mod SortSteps

@@ -13,7 +13,8 @@ use Rattle.cfi_perf.specs.declared.error.PerfError.{PerfError}
 use Rattle.cfi_perf.specs.declared.error.PerfError.TheVariants.{RecordCut, RecordSize}
 use Rattle.cfi_perf.specs.declared.records.RecordHeader.{RecordHeader}
 use Rattle.cfi_perf.specs.Results.{and_then, or_error, or_missing, part, read_from}
-use Rattle.cfi_perf.specs.Records.{First, Framed, after_record, first_record, record_header, record_of, split_record, without_id}
+use Rattle.cfi_perf.specs.RecordHeaders.{record_header}
+use Rattle.cfi_perf.specs.Records.{First, Framed, after_record, first_record, record_of, split_record, without_id}
 use Rattle.cfi_perf.specs.EventTables.{EventTable}
 use Rattle.cfi_perf.specs.Events.{OtherEvent, Record}
 use Rattle.cfi_perf.specs.Windows.{IsWindow, first_of}

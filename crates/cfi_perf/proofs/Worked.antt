@@ -7,7 +7,7 @@ use Rattle.cfi_perf.specs.declared.error.PerfError.TheVariants.{NotPerf, PipeMod
 use Rattle.cfi_perf.specs.declared.attribute.EventEntry.{EventEntry}
 use Rattle.cfi_perf.specs.declared.attribute.EventLayout.{EventLayout}
 use Rattle.cfi_perf.specs.Results.{items, entries, header_text}
-use Rattle.cfi_perf.specs.Layouts.{sample_format, sample_id_all, chosen, attribute, event, events, first_event}
+use Rattle.cfi_perf.specs.Layouts.{sample_format, sample_id_all, chosen, sized_attribute, attribute, event, pipe_event, events, first_event}
 use Rattle.cfi_perf.specs.EventNames.{behind_others, described, described_name, description, generic_name}
 use Rattle.cfi_perf.specs.EventTables.{EventTable, event_of_id, known_event}
 use Rattle.cfi_perf.specs.FileParts.{parts_of}
@@ -15,14 +15,17 @@ use Rattle.cfi_perf.specs.FileHeaders.{byte_order, file_section, feature_bits, h
 use Rattle.cfi_perf.specs.CallChains.{PERF_CONTEXT_KERNEL, PERF_CONTEXT_USER}
 use Rattle.cfi_perf.specs.Samples.{Sample, UserRegisters, kernel_frames, user_frames, register_of, thread, sample_numbers, processor, later_numbers, group_values, single_value, call_chain, raw_data, branch_stack, lists, registers, copied_stack, stack, user_state, sample}
 use Rattle.cfi_perf.specs.Events.{LostEvent, lost, lost_samples, Mapping, own_build_id, MappingEvent, ProgramEvent, ForkEvent, SampleEvent, OtherEvent, mapped_range, mapping, mapping2, program, fork}
-use Rattle.cfi_perf.specs.Records.{record_header, split_record, id_of, id_up_to, with_build_id, sample_id_time, without_id, record_of, first_record, records_up_to, records_of}
-use Rattle.cfi_perf.specs.Sections.{EventSection, Sections, architecture_in, build_ids, descriptions, event_table, events_by, machine_by}
-use Rattle.cfi_perf.specs.Profiles.{Profile, head_of, profile, profile_records}
+use Rattle.cfi_perf.specs.RecordHeaders.{record_header}
+use Rattle.cfi_perf.specs.Records.{split_record, id_of, id_up_to, with_build_id, sample_id_time, without_id, record_of, first_record, records_up_to, records_of}
+use Rattle.cfi_perf.specs.Sections.{EventSection, ProfileHead, Sections, head_of, architecture_in, build_ids, descriptions, event_table, events_by, machine_by}
+use Rattle.cfi_perf.specs.Pipes.{attributes_up_to, feature_up_to, pipe_head}
+use Rattle.cfi_perf.specs.Profiles.{Profile, file_profile, profile, profile_records}
+use Rattle.cfi_perf.specs.declared.attribute.EntryForm.TheVariants.{Sized}
 use Rattle.cfi_perf.specs.ProfilesAround.{profile_around}
 
 -- to name it on an `unfolding` line is to open all these
 unfoldable computing : ℕ
-unfolding unsigned items entries sample_format sample_id_all chosen attribute event file_section feature_bits header_fields file_header thread sample_numbers processor later_numbers group_values single_value call_chain raw_data branch_stack lists registers copied_stack stack user_state sample mapped_range mapping mapping2 program fork lost lost_samples record_header split_record sample_id_time without_id record_of first_record id_up_to records_up_to behind_others described description events_by profile profile_around architecture_in descriptions build_ids event_table header_text lib.Count.ones
+unfolding unsigned items entries sample_format sample_id_all chosen sized_attribute attribute event pipe_event file_section feature_bits header_fields file_header thread sample_numbers processor later_numbers group_values single_value call_chain raw_data branch_stack lists registers copied_stack stack user_state sample mapped_range mapping mapping2 program fork lost lost_samples record_header split_record sample_id_time without_id record_of first_record id_up_to records_up_to behind_others described description events_by attributes_up_to feature_up_to pipe_head file_profile profile profile_around architecture_in descriptions build_ids event_table header_text lib.Count.ones
 computing = 0
 
 -- the bytes of hexadecimal text, whose letters are small
@@ -66,10 +69,6 @@ empty_file = refl
 a_header_less_a_byte : file_header Little (take 103 little_header) ≡ Err HeaderCut
 unfolding computing
 a_header_less_a_byte = refl
-
-of_a_pipe : file_header Little (hex (codes "50455246494c45321000000000000000")) ≡ Err PipeMode
-unfolding computing
-of_a_pipe = refl
 
 of_another_size : file_header Little (hex (codes "50455246494c45324800000000000000")) ≡ Err (HeaderSize 72)
 unfolding computing
@@ -279,7 +278,7 @@ abbrev behind : List ℕ
 behind = hex (codes "f8010000000000000c0000000000000004020000000000000c0000000000000008000000686f737400000000080000007838365f36340000")
 
 abbrev worked_section : EventSection
-worked_section = record { size = 112; count = 1; attrs = little_event; first = worked_event }
+worked_section = record { form = Sized 112; count = 1; attrs = little_event; first = worked_event }
 
 -- with the sections of bits 3 and 6, whose places begin with those of the whole file
 abbrev worked_file : List ℕ
@@ -323,6 +322,31 @@ a_byte_more = refl
 a_byte_less : profile_around (little_header ++ little_event) (drop 1 behind) 528 ≡ Ok None
 unfolding computing
 a_byte_less = refl
+
+-- ---- the same records of a pipe, behind records with the event and the architecture
+
+abbrev piped_records : List ℕ
+piped_records = hex (codes "4000000000006800") ++ (take 96 little_event ++ (hex (codes "5000000000001c000600000000000000080000007838365f36340000") ++ (little_program ++ (little_mapping ++ little_sample))))
+
+abbrev piped_head : ProfileHead
+piped_head = record { endian = Little; events = worked_table false; architecture = Ok (Some (codes "x86_64")); place = 16; size = 388; is_cut = false }
+
+its_pipe : profile (hex (codes "50455246494c45321000000000000000") ++ piped_records) ≡ Ok (record { head = piped_head; records = piped_records })
+unfolding computing
+its_pipe = refl
+
+-- with the event behind another record
+a_later_event : pipe_head Little (little_program ++ piped_records) ≡ Err NoEvents
+unfolding computing
+a_later_event = refl
+
+another_later_event : pipe_head Little (piped_records ++ piped_records) ≡ Err PipeMode
+unfolding computing
+another_later_event = refl
+
+no_event_of_a_pipe : profile (hex (codes "50455246494c45321000000000000000")) ≡ Err NoEvents
+unfolding computing
+no_event_of_a_pipe = refl
 
 -- ---- a call chain, as perf record left it with -g
 

@@ -13,13 +13,14 @@ use Rattle.cfi_read_core.specs.ByteOrder.{is_big}
 use Rattle.cfi_read_core.specs.Numbers.{unsigned}
 use Rattle.cfi_read_core.specs.SliceReaders.{slice_over}
 use Rattle.cfi_perf.specs.declared.attribute.Attribute.{Attribute}
+use Rattle.cfi_perf.specs.declared.attribute.EntryForm.{EntryForm}
 use Rattle.cfi_perf.specs.declared.attribute.EventEntry.{EventEntry}
 use Rattle.cfi_perf.specs.declared.attribute.EventLayout.{EventLayout}
 use Rattle.cfi_perf.specs.declared.event_table.EventTable.{EventTable as EventTableOfCode}
 use Rattle.cfi_perf.specs.declared.event_table.ProfileEvent.{ProfileEvent as EventOfCode}
 use Rattle.cfi_perf.specs.FileParts.{Parts, parts_in}
 use Rattle.cfi_perf.specs.Results.{entries, read_from}
-use Rattle.cfi_perf.specs.Layouts.{has, event, PERF_SAMPLE_IDENTIFIER}
+use Rattle.cfi_perf.specs.Layouts.{has, entry, PERF_SAMPLE_IDENTIFIER}
 use Rattle.cfi_perf.specs.EventNames.{event_name}
 
 pub record ProfileEvent : Type 0 where
@@ -49,13 +50,13 @@ numbers_in big (Some bytes) =
     entries (length bytes / 8) (unsigned w64) (slice_over bytes big).source 0
 
 abbrev pub known_event : Bool → Parts → EventEntry → KnownEvent
-known_event big parts entry =
-    record { attribute = entry.attribute; ids = numbers_in big (parts entry.ids) }
+known_event big parts e =
+    record { attribute = e.attribute; ids = numbers_in big (parts e.ids) }
 
--- n events of this size, in these bytes
-abbrev pub known_events : Bool → Parts → ℕ → ℕ → List ℕ → List KnownEvent
-known_events big parts n size attrs =
-    map (known_event big parts) (entries n (event size) (slice_over attrs big).source 0)
+-- n events of this form, in these bytes
+abbrev pub known_events : Bool → Parts → ℕ → EntryForm → List ℕ → List KnownEvent
+known_events big parts n form attrs =
+    map (known_event big parts) (entries n (entry form) (slice_over attrs big).source 0)
 
 -- ---- what these are in the code
 
@@ -67,7 +68,7 @@ table_view table = record {
   big_endian = is_big table.endian;
   descriptions = table.descriptions.now;
   entries =
-      known_events (is_big table.endian) (parts_in table.bytes) table.count table.size
+      known_events (is_big table.endian) (parts_in table.bytes) table.count table.form
       table.attrs.now;
   first = event_view table.first;
   is_alone = table.count == 1;

@@ -2,6 +2,7 @@ pub mod ErrorNames
 pub mod Results
 pub mod FileHeaders
 pub mod FileParts
+pub mod RecordHeaders
 pub mod Layouts
 pub mod EventNames
 pub mod EventTables
@@ -11,6 +12,7 @@ pub mod Events
 pub mod Records
 pub mod Recordings
 pub mod Sections
+pub mod Pipes
 pub mod Profiles
 pub mod ProfilesAround
 pub mod Windows

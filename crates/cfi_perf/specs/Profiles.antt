@@ -1,7 +1,8 @@
 -- A profile (perf.data-file-format.txt).
 --     profile bytes      the profile of these bytes, or the first error
 --     profile_view p      what a `Profile` of the code is
-use Rattle.std.specs.Prelude.{ℕ, ◌-◌, Bool, List, length, Option, Result, Ok, option_map}
+use Rattle.std.specs.Prelude.{ℕ, ◌-◌, List, drop, length, Option, Result, Ok, option_map}
+use Rattle.std.specs.Prelude.{if◌then◌else◌}
 use Rattle.cfi_read_core.specs.declared.endianity.RunTimeEndian.{RunTimeEndian}
 use Rattle.cfi_read_core.specs.ByteOrder.{is_big}
 use Rattle.cfi_read_core.specs.ReaderCalls.{map_ok}
@@ -10,20 +11,12 @@ use Rattle.cfi_perf.specs.declared.file_header.FileHeader.{FileHeader}
 use Rattle.cfi_perf.specs.declared.profile.Profile.{Profile as ProfileOfCode}
 use Rattle.cfi_perf.specs.declared.profile.ProfileHead.{ProfileHead as HeadOfCode}
 use Rattle.cfi_perf.specs.Results.{and_then}
-use Rattle.cfi_perf.specs.EventTables.{EventTable, table_view}
+use Rattle.cfi_perf.specs.EventTables.{table_view}
 use Rattle.cfi_perf.specs.FileHeaders.{byte_order, file_header}
 use Rattle.cfi_perf.specs.Records.{Records, records_of, until_cut}
-use Rattle.cfi_perf.specs.Sections.{EventSection, Sections, architecture_in, event_table, events_by}
-use Rattle.cfi_perf.specs.Sections.{records_at, sections_by}
-
--- What a profile says before its records.
-pub record ProfileHead : Type 0 where
-  pub endian : RunTimeEndian
-  pub events : EventTable
-  pub architecture : Result (Option (List ℕ)) PerfError
-  pub place : ℕ  -- where the records are in the file
-  pub size : ℕ  -- how many bytes they have
-  pub is_cut : Bool  -- whether the file ends before they do
+use Rattle.cfi_perf.specs.Pipes.{is_pipe, pipe_head}
+use Rattle.cfi_perf.specs.Sections.{EventSection, ProfileHead, events_by, head_of, records_at}
+use Rattle.cfi_perf.specs.Sections.{sections_by}
 
 pub record Profile : Type 0 where
   pub head : ProfileHead
@@ -45,17 +38,6 @@ profile_view p = record { head = head_view p.head; records = p.records.now }
 
 -- ---- reading it
 
--- by the parts of the file, of whose records so many bytes are there
-abbrev pub head_of : Sections → ℕ → ProfileHead
-head_of s size = record {
-  endian = s.endian;
-  events = event_table s;
-  architecture = architecture_in s;
-  place = s.end - size;
-  size = size;
-  is_cut = s.is_cut;
-}
-
 abbrev pub profile_by : RunTimeEndian → List ℕ → FileHeader → EventSection → Profile
 profile_by endian bytes header events = record {
   head =
@@ -63,12 +45,24 @@ profile_by endian bytes header events = record {
   records = records_at header.records bytes;
 }
 
+unfoldable pub file_profile : RunTimeEndian → List ℕ → Result Profile PerfError
+file_profile endian bytes =
+    and_then (file_header endian bytes) (λ header.
+    and_then (events_by endian bytes header) (λ events.
+    Ok (profile_by endian bytes header events)))
+
+-- of a pipe the records stand behind the header
+abbrev pub with_head : List ℕ → ProfileHead → Profile
+with_head records head = record { head = head; records = records }
+
+abbrev pub pipe_profile : RunTimeEndian → List ℕ → Result Profile PerfError
+pipe_profile endian bytes =
+    map_ok (with_head (drop 16 bytes)) (pipe_head endian (drop 16 bytes))
+
 unfoldable pub profile : List ℕ → Result Profile PerfError
 profile bytes =
     and_then (byte_order bytes) (λ endian.
-    and_then (file_header endian bytes) (λ header.
-    and_then (events_by endian bytes header) (λ events.
-    Ok (profile_by endian bytes header events))))
+    if is_pipe endian bytes then pipe_profile endian bytes else file_profile endian bytes)
 
 -- ---- what it says
 

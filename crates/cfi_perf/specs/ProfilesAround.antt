@@ -14,11 +14,13 @@ use Rattle.cfi_perf.specs.declared.error.PerfError.{PerfError}
 use Rattle.cfi_perf.specs.declared.file_header.FileHeader.{FileHeader}
 use Rattle.cfi_perf.specs.declared.file_header.FileSection.{FileSection}
 use Rattle.cfi_perf.specs.Results.{and_then, entries}
-use Rattle.cfi_perf.specs.Layouts.{event}
+use Rattle.cfi_perf.specs.Layouts.{entry}
 use Rattle.cfi_perf.specs.FileHeaders.{byte_order, file_header}
 use Rattle.cfi_perf.specs.FileParts.{parts_around, parts_of}
-use Rattle.cfi_perf.specs.Sections.{EventSection, Sections, events_by, feature_place}
-use Rattle.cfi_perf.specs.Profiles.{Profile, ProfileHead, head_of, profile}
+use Rattle.cfi_perf.specs.Pipes.{is_pipe}
+use Rattle.cfi_perf.specs.Sections.{EventSection, ProfileHead, Sections, events_by, feature_place}
+use Rattle.cfi_perf.specs.Sections.{head_of}
+use Rattle.cfi_perf.specs.Profiles.{Profile, profile}
 
 -- These bytes, so many, begin and end so.
 pub record IsAround (before behind : List ℕ) (count : ℕ) (bytes : List ℕ) : Type 0 where
@@ -54,7 +56,7 @@ lies_between header before behind count =
 abbrev pub has_ids : Sections → Bool
 has_ids s =
     list_all (λ e. is_some (s.parts e.ids))
-    (entries s.events.count (event s.events.size)
+    (entries s.events.count (entry s.events.form)
     (slice_over s.events.attrs (is_big s.endian)).source 0)
 
 abbrev pub has_place : Sections → Result FileSection PerfError → Bool
@@ -96,7 +98,8 @@ unfoldable pub profile_around :
 profile_around before behind count =
     if nat_lt (length before) 104 then Ok None
     else and_then (byte_order before) (λ endian.
-    and_then (file_header endian before) (λ header.
+    if is_pipe endian before then Ok None
+    else and_then (file_header endian before) (λ header.
     if not (lies_between header before behind count) then Ok None
     else and_then (events_by endian before header) (λ events.
     Ok (head_if (sections_around endian before behind count header events)

@@ -13,6 +13,8 @@ use Rattle.cfi_perf.specs.declared.error.PerfError.{PerfError}
 use Rattle.cfi_perf.specs.declared.error.PerfError.TheVariants.{AttributeSize}
 use Rattle.cfi_perf.specs.declared.error.PerfError.TheVariants.{AttributesOutOfBounds}
 use Rattle.cfi_perf.specs.declared.error.PerfError.TheVariants.{FeatureOutOfBounds}
+use Rattle.cfi_perf.specs.declared.attribute.EntryForm.{EntryForm}
+use Rattle.cfi_perf.specs.declared.attribute.EntryForm.TheVariants.{Sized}
 use Rattle.cfi_perf.specs.declared.attribute.EventEntry.{EventEntry}
 use Rattle.cfi_perf.specs.declared.file_header.FileHeader.{FileHeader}
 use Rattle.cfi_perf.specs.declared.file_header.FileSection.{FileSection}
@@ -28,7 +30,7 @@ use Rattle.cfi_perf.specs.FileHeaders.{file_section}
 
 -- The part of the file with the events.
 pub record EventSection : Type 0 where
-  pub size : ℕ  -- of each
+  pub form : EntryForm  -- of each
   pub count : ℕ
   pub attrs : List ℕ  -- the bytes of all
   pub first : EventEntry
@@ -45,7 +47,7 @@ pub record Sections : Type 0 where
 
 -- what these are in the code
 abbrev pub section_view : EventSectionOfCode → EventSection
-section_view s = record { size = s.size; count = s.count; attrs = s.attrs.now; first = s.first }
+section_view s = record { form = s.form; count = s.count; attrs = s.attrs.now; first = s.first }
 
 abbrev pub sections_view : SectionsOfCode → Sections
 sections_view s = record {
@@ -71,7 +73,7 @@ events_by endian bytes header =
     and_then (first_event (events (is_big endian) header.attr_size attrs))
     (λ first.
     Ok (record {
-      size = header.attr_size;
+      form = Sized header.attr_size;
       count = length attrs / header.attr_size;
       attrs = attrs;
       first = first;
@@ -156,11 +158,32 @@ event_table s = record {
   big_endian = is_big s.endian;
   descriptions = descriptions s;
   entries =
-      known_events (is_big s.endian) s.parts s.events.count s.events.size s.events.attrs;
+      known_events (is_big s.endian) s.parts s.events.count s.events.form s.events.attrs;
   first = record {
     layout = s.events.first.attribute.layout;
     name = event_name (is_big s.endian) (descriptions s) 0 s.events.first.attribute;
   };
   is_alone = s.events.count == 1;
   build_ids = build_ids s;
+}
+
+-- ---- what the profile says before its records
+
+pub record ProfileHead : Type 0 where
+  pub endian : RunTimeEndian
+  pub events : EventTable
+  pub architecture : Result (Option (List ℕ)) PerfError
+  pub place : ℕ  -- where the records are in the file
+  pub size : ℕ  -- how many bytes they have
+  pub is_cut : Bool  -- whether the file ends before they do
+
+-- by the parts of the file, of whose records so many bytes are there
+abbrev pub head_of : Sections → ℕ → ProfileHead
+head_of s size = record {
+  endian = s.endian;
+  events = event_table s;
+  architecture = architecture_in s;
+  place = s.end - size;
+  size = size;
+  is_cut = s.is_cut;
 }

@@ -6,11 +6,12 @@ ghost use Rattle.cfi_perf.specs.ProfilesAround.{has_all, has_feature, has_ids, h
 ghost use Rattle.cfi_perf.specs.ProfilesAround.{lies_between, profile_around};
 ghost use Rattle.cfi_perf.specs.Sections.{sections_view};
 
-use crate::attribute::read_event;
+use crate::attribute::read_entry;
 use crate::bytes::part;
 use crate::error::PerfError;
 use crate::file_bytes::FileBytes;
 use crate::file_header::{FILE_HEADER_SIZE, FileHeader, byte_order, file_header};
+use crate::pipe::is_pipe;
 use crate::profile::ProfileHead;
 use crate::sections::{HEADER_ARCH, HEADER_BUILD_ID, HEADER_EVENT_DESC, Sections, events_by};
 use cfi_read_core::{EndianSlice, Reader};
@@ -29,6 +30,9 @@ pub(crate) fn head_around<'input>(
         return Ok(None);
     }
     let endian = byte_order(before)?;
+    if is_pipe(endian, before) {
+        return Ok(None);
+    }
     let header = file_header(endian, before)?;
     if !lies_between(&header, before, behind, length) {
         return Ok(None);
@@ -88,7 +92,7 @@ impl<'input> Sections<'input> {
     {
         let mut entries = EndianSlice::new(self.events.attrs, self.endian);
         for index in 0..self.events.count {
-            let Ok(entry) = read_event(self.events.size, &mut entries) else {
+            let Ok(entry) = read_entry(self.events.form, &mut entries) else {
                 return true;
             };
             if self.bytes.part(entry.ids).is_none() {

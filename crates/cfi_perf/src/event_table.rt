@@ -11,7 +11,9 @@ ghost use Rattle.cfi_perf.specs.EventTables.{first_with_id, has_id, id_place, kn
 ghost use Rattle.cfi_perf.specs.EventTables.{layout_of_other};
 ghost use Rattle.cfi_perf.specs.EventTables.{numbered_event, table_view};
 
-use crate::attribute::{Attribute, EventEntry, EventLayout, PERF_SAMPLE_IDENTIFIER, read_event};
+use crate::attribute::{
+    Attribute, EntryForm, EventEntry, EventLayout, PERF_SAMPLE_IDENTIFIER, read_entry,
+};
 use crate::bytes::bytes_from;
 use crate::event_names::event_name;
 use crate::file_bytes::FileBytes;
@@ -41,8 +43,8 @@ pub(crate) struct EventTable<'input> {
     pub(crate) attrs: &'input [u8],
     /// How many events the attributes are.
     pub(crate) count: u64,
-    /// The size of each.
-    pub(crate) size: u64,
+    /// How each is written.
+    pub(crate) form: EntryForm,
     pub(crate) first: ProfileEvent<'input>,
     /// The section with the builds of files.
     pub(crate) build_ids: &'input [u8],
@@ -93,7 +95,7 @@ impl<'input> EventTable<'input> {
     {
         let mut entries = EndianSlice::new(self.attrs, self.endian);
         for index in 0..self.count {
-            let Ok(entry) = read_event(self.size, &mut entries) else {
+            let Ok(entry) = read_entry(self.form, &mut entries) else {
                 return None;
             };
             if self.has_id(&entry, id) {

@@ -24,6 +24,7 @@ mod event_table;
 mod file_bytes;
 mod file_header;
 pub mod index;
+mod pipe;
 pub mod profile;
 pub mod record;
 mod record_fields;

@@ -2,7 +2,8 @@
 ghost use Rattle.std.specs.Prelude.{◌≡◌, ◌-◌, ℕ, List, option_map};
 ghost use Rattle.cfi_read_core.specs.ReaderCalls.{map_ok};
 ghost use Rattle.cfi_perf.specs.EventTables.{table_view};
-ghost use Rattle.cfi_perf.specs.Profiles.{architecture, head_view, profile, profile_records};
+ghost use Rattle.cfi_perf.specs.Profiles.{architecture, file_profile, head_view, pipe_profile};
+ghost use Rattle.cfi_perf.specs.Profiles.{profile, profile_records};
 ghost use Rattle.cfi_perf.specs.Profiles.{profile_view, records_by, records_place};
 ghost use Rattle.cfi_perf.specs.ProfilesAround.{IsAround, IsProfileAround, profile_around};
 ghost use Rattle.cfi_perf.specs.Records.{records_left};
@@ -14,7 +15,8 @@ use crate::bytes::{bytes_from, first_bytes};
 use crate::error::PerfError;
 use crate::event_table::EventTable;
 use crate::file_bytes::FileBytes;
-use crate::file_header::{byte_order, file_header};
+use crate::file_header::{PIPE_HEADER_SIZE, byte_order, file_header};
+use crate::pipe::{is_pipe, pipe_head};
 use crate::records::Records;
 use crate::sections::{Sections, events_by};
 use crate::windows::RecordWalk;
@@ -121,17 +123,39 @@ pub struct Profile<'input> {
 }
 
 impl<'input> Profile<'input> {
-    /// Reads the header of the profile that these bytes are, and its events. The records are read
-    /// one by one, by the iterator that `records` returns.
+    /// Reads the header of the profile that these bytes are, and its events; of one that was
+    /// written to a pipe, the records that say what these do. The records are read one by one, by
+    /// the iterator that `records` returns.
     ///
-    /// Fails with `NotPerf`, `HeaderCut`, `PipeMode` or `HeaderSize` for the header, with
-    /// `AttributeSize`, `AttributesOutOfBounds`, `NoEvents` or `MixedEvents` for the events. Does
-    /// not allocate (`perf.data-file-format.txt`).
+    /// Fails with `NotPerf`, `HeaderCut` or `HeaderSize` for the header, with `AttributeSize`,
+    /// `AttributesOutOfBounds`, `NoEvents`, `MixedEvents` or, of a pipe, `PipeMode` for the events.
+    /// Does not allocate (`perf.data-file-format.txt`).
     #[tactic(auto, unfolding(crate::specs::Profiles::profile))]
     pub fn parse(bytes: &'input [u8]) -> Result<Profile<'input>, PerfError>
         ensures { map_ok profile_view result ≡ profile bytes.now }
     {
         let endian = byte_order(bytes)?;
+        if is_pipe(endian, bytes) {
+            Profile::of_pipe(endian, bytes)
+        } else {
+            Profile::of_file(endian, bytes)
+        }
+    }
+
+    /// Reads one that was written to a pipe.
+    fn of_pipe(endian: RunTimeEndian, bytes: &'input [u8]) -> Result<Profile<'input>, PerfError>
+        ensures { map_ok profile_view result ≡ pipe_profile endian bytes.now }
+    {
+        let records = bytes_from(bytes, PIPE_HEADER_SIZE);
+        let head = pipe_head(endian, records)?;
+        Ok(Profile { head, records })
+    }
+
+    /// Reads one that was written to a file.
+    #[tactic(auto, unfolding(crate::specs::Profiles::file_profile))]
+    fn of_file(endian: RunTimeEndian, bytes: &'input [u8]) -> Result<Profile<'input>, PerfError>
+        ensures { map_ok profile_view result ≡ file_profile endian bytes.now }
+    {
         let header = file_header(endian, bytes)?;
         let events = events_by(endian, bytes, &header)?;
         let size = header.records.size;

@@ -3,12 +3,12 @@ ghost use Rattle.std.specs.Prelude.{◌≡◌, option_map};
 ghost use Rattle.cfi_read_core.specs.ByteOrder.{is_big};
 ghost use Rattle.cfi_read_core.specs.ReaderCalls.{map_ok};
 ghost use Rattle.cfi_perf.specs.EventTables.{table_view};
-ghost use Rattle.cfi_perf.specs.Profiles.{head_of, head_view};
+ghost use Rattle.cfi_perf.specs.Profiles.{head_view};
 ghost use Rattle.cfi_perf.specs.Sections.{architecture_in, build_ids, descriptions, event_table};
 ghost use Rattle.cfi_perf.specs.Sections.{events_by, feature_place, feature_section, machine_by};
-ghost use Rattle.cfi_perf.specs.Sections.{section_view, sections_view, text_in};
+ghost use Rattle.cfi_perf.specs.Sections.{head_of, section_view, sections_view, text_in};
 
-use crate::attribute::{EventEntry, first_event, has_any};
+use crate::attribute::{EntryForm, EventEntry, first_event, has_any};
 use crate::bytes::{before_zero, bytes_from, part, read_header_text};
 use crate::error::PerfError;
 use crate::event_names::event_name;
@@ -44,8 +44,8 @@ const AARCH64_REGISTERS: u64 = (1 << 33) - 1;
 /// The part of the file with the events.
 #[derive(Clone, Copy, Debug)]
 pub(crate) struct EventSection<'input> {
-    /// The size of each.
-    pub(crate) size: u64,
+    /// How each is written.
+    pub(crate) form: EntryForm,
     pub(crate) count: u64,
     /// The bytes of all.
     pub(crate) attrs: &'input [u8],
@@ -111,7 +111,7 @@ impl<'input> Sections<'input> {
             descriptions,
             attrs: self.events.attrs,
             count: self.events.count,
-            size: self.events.size,
+            form: self.events.form,
             first: ProfileEvent {
                 layout: attribute.layout,
                 name: event_name(self.endian, descriptions, 0, attribute),
@@ -176,7 +176,7 @@ impl<'input> Sections<'input> {
 }
 
 /// The text that a section begins with.
-fn text_in(endian: RunTimeEndian, contents: &[u8]) -> Result<&[u8], PerfError>
+pub(crate) fn text_in(endian: RunTimeEndian, contents: &[u8]) -> Result<&[u8], PerfError>
     ensures { map_ok (λ text. text.now) result ≡ text_in (is_big endian) contents.now }
 {
     let mut input = EndianSlice::new(contents, endian);
@@ -190,7 +190,7 @@ fn text_in(endian: RunTimeEndian, contents: &[u8]) -> Result<&[u8], PerfError>
 }
 
 /// The machine on which samples have these registers, as `uname -m` prints it.
-fn machine_by(endian: RunTimeEndian, mask: u64) -> Option<&'static [u8]>
+pub(crate) fn machine_by(endian: RunTimeEndian, mask: u64) -> Option<&'static [u8]>
     ensures { option_map (λ name. name.now) result ≡ machine_by (is_big endian) mask }
 {
     if endian.is_big_endian() {
@@ -221,9 +221,13 @@ pub(crate) fn events_by<'input>(
         return Err(PerfError::AttributesOutOfBounds);
     };
     let count = attrs.len() as u64 / size;
-    let first = first_event(count, size, EndianSlice::new(attrs, endian))?;
+    let first = first_event(
+        count,
+        EntryForm::Sized(size),
+        EndianSlice::new(attrs, endian),
+    )?;
     Ok(EventSection {
-        size,
+        form: EntryForm::Sized(size),
         count,
         attrs,
         first,

@@ -1,6 +1,6 @@
 use Rattle.std.proofs.Common.{sym, subst, Option, Result}
 use Rattle.cfi_perf.specs.declared.error.PerfError.{PerfError}
-use Rattle.cfi_perf.specs.Profiles.{ProfileHead}
+use Rattle.cfi_perf.specs.Sections.{ProfileHead}
 use Rattle.cfi_perf.specs.ProfilesAround.{IsProfileAround}
 use Rattle.cfi_perf.proofs.AroundLemmas.{is_around}
 use Rattle.cfi_perf.proofs.profile.Profile.parse_around.Goals as goal

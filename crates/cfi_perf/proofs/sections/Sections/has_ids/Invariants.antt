@@ -2,7 +2,7 @@ use Rattle.std.proofs.Common.{◌≡◌, ◌-◌}
 use Rattle.cfi_read_core.specs.ByteOrder.{is_big}
 use Rattle.cfi_read_core.specs.SliceReaders.{slice_position}
 use Rattle.cfi_perf.specs.Results.{entries}
-use Rattle.cfi_perf.specs.Layouts.{event}
+use Rattle.cfi_perf.specs.Layouts.{entry}
 use Rattle.cfi_perf.specs.ProfilesAround.{has_ids}
 use Rattle.cfi_perf.specs.Sections.{sections_view}
 use Rattle.cfi_perf.proofs.AroundSteps.{are_known}
@@ -12,5 +12,5 @@ use Rattle.cfi_perf.proofs.sections.Sections.has_ids.Given as goal
 abbrev pub invariant-loop-index : goal.invariant-loop-index
 invariant-loop-index l =
     let now = slice_position is_big l.entries in
-    are_known l.self.bytes (entries (l.self.events.count - l.index) (event l.self.events.size) now.source now.place)
+    are_known l.self.bytes (entries (l.self.events.count - l.index) (entry l.self.events.form) now.source now.place)
     ≡ has_ids (sections_view l.self)
