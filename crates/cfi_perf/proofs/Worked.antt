@@ -344,6 +344,11 @@ another_later_event : pipe_head Little (piped_records ++ piped_records) ≡ Err 
 unfolding computing
 another_later_event = refl
 
+-- with descriptions of tracepoints behind the event
+tracepoints : pipe_head Little (hex (codes "4000000000006800") ++ (take 96 little_event ++ hex (codes "4200000000000c000400000001020304"))) ≡ Err PipeMode
+unfolding computing
+tracepoints = refl
+
 no_event_of_a_pipe : profile (hex (codes "50455246494c45321000000000000000")) ≡ Err NoEvents
 unfolding computing
 no_event_of_a_pipe = refl

@@ -2,7 +2,7 @@
 -- and its other parts do (perf.data-file-format.txt).
 --     is_pipe endian bytes      whether the header is that of a pipe
 --     pipe_head endian records      what these records say before they are read
-use Rattle.std.specs.Prelude.{ℕ, ◌+◌, zero, suc, Bool, false, ◌&&◌, List, [], drop, length}
+use Rattle.std.specs.Prelude.{ℕ, ◌+◌, zero, suc, Bool, false, ◌&&◌, ◌||◌, List, [], drop, length}
 use Rattle.std.specs.Prelude.{Option, Some, None, Result, Ok, Err, option_map, unwrap_or, ◌==◌, not}
 use Rattle.std.specs.Prelude.{if◌then◌else◌}
 use Rattle.std.specs.Int.{w64}
@@ -34,9 +34,10 @@ is_pipe endian bytes = is_size (read_from (is_big endian) (drop 8 bytes) (unsign
 
 -- ---- the events
 
--- how many records are PERF_RECORD_HEADER_ATTR (64)
+-- How many records are PERF_RECORD_HEADER_ATTR (64). PERF_RECORD_HEADER_TRACING_DATA (66) counts
+-- too: behind it stands what is no record, so that a pipe with it is refused.
 abbrev pub events_of : Framed → ℕ
-events_of r = if r.header.kind == 64 then 1 else 0
+events_of r = if (r.header.kind == 64) || (r.header.kind == 66) then 1 else 0
 
 abbrev pub count_with : Result Framed PerfError → (List ℕ → ℕ) → ℕ
 count_with (Err e) others = 0

@@ -11,7 +11,7 @@ pub enum PerfError {
     /// The file doesn't begin with `PERFILE2`, in either byte order.
     NotPerf,
     /// Of a profile that was written to a pipe: the attributes of an event can't be read, or stand
-    /// behind another record.
+    /// behind another record, or there are tracepoints.
     PipeMode,
     /// The file ends before its header does.
     HeaderCut,

@@ -26,6 +26,9 @@ use cfi_read_core::{EndianSlice, Reader, RunTimeEndian};
 /// `PERF_RECORD_HEADER_ATTR`.
 pub(crate) const PERF_RECORD_HEADER_ATTR: u32 = 64;
 
+/// Behind it stand the descriptions of tracepoints, which aren't records.
+const PERF_RECORD_HEADER_TRACING_DATA: u32 = 66;
+
 const PERF_RECORD_HEADER_FEATURE: u32 = 80;
 
 /// The number of the feature of the architecture's name.
@@ -48,7 +51,7 @@ pub(crate) fn is_pipe(endian: RunTimeEndian, bytes: &[u8]) -> bool
 /// What the records of a pipe say before they are read.
 ///
 /// Fails with `NoEvents` or `MixedEvents`, and with `PipeMode` where the attributes of an event
-/// can't be read, or stand behind another record.
+/// can't be read, or stand behind another record, and where there are tracepoints.
 #[tactic(auto, unfolding(crate::specs::Pipes::pipe_head))]
 pub(crate) fn pipe_head<'input>(
     endian: RunTimeEndian,
@@ -85,7 +88,7 @@ fn pipe_section(endian: RunTimeEndian, records: &[u8]) -> Result<EventSection<'_
     })
 }
 
-/// How many records have the attributes of an event.
+/// How many records have the attributes of an event, or tracepoints.
 fn attributes_in(endian: RunTimeEndian, records: &[u8]) -> u64
     ensures { result ≡ attributes_in (is_big endian) records.now }
 {
@@ -104,12 +107,14 @@ fn attributes_in(endian: RunTimeEndian, records: &[u8]) -> u64
     count
 }
 
-/// Of how many events a record has the attributes: of one or none.
+/// Of how many events a record has the attributes: of one or none. A record with tracepoints counts
+/// as one, so that a pipe with it is refused.
 fn events_of(framed: &Framed<'_>) -> u64
     ensures value { result ≡ events_of (framed_view framed.now) }
     ensures bound { result ≤ 1 }
 {
-    if framed.header.kind == PERF_RECORD_HEADER_ATTR {
+    let kind = framed.header.kind;
+    if kind == PERF_RECORD_HEADER_ATTR || kind == PERF_RECORD_HEADER_TRACING_DATA {
         1
     } else {
         0
