@@ -82,6 +82,14 @@ def profile(*records, builds=b"", fields=IP | TID | TIME | CALLCHAIN | REGISTERS
     return header + event + data + table + b"".join(sections)
 
 
+def piped(whole):
+    """The event and the records of a profile without builds, as perf record writes them to a pipe."""
+    attr, start, size = struct.unpack_from("<Q", whole, 16)[0], *struct.unpack_from("<2Q", whole, 40)
+    event = record(64, whole[104:104 + attr - 16], mode=0)
+    architecture = record(80, struct.pack("<QI8s", 6, 8, b"x86_64"), mode=0)
+    return struct.pack("<8sQ", b"PERFILE2", 16) + event + architecture + whole[start:start + size]
+
+
 STACK_OF_INNER = [1, 2, 3, IN_OUTER, 0x7FE0, IN_START, 0]
 
 of_calls = profile(
@@ -272,6 +280,7 @@ struct.pack_into("<Q", packed, flags, 0x800)
 (data / "packed").write_bytes(packed)
 (data / "foreign.o").write_bytes(foreign)
 (data / "calls.perf").write_bytes(of_calls)
+(data / "piped.perf").write_bytes(piped(of_calls))
 (data / "others.perf").write_bytes(of_others)
 (data / "large.perf").write_bytes(of_large)
 (data / "builds.perf").write_bytes(of_builds)

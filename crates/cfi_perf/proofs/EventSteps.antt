@@ -1,5 +1,5 @@
 -- The name of an event behind those of others, and the event of an id, step by step.
-use Rattle.std.proofs.Common.{◌≡◌, ◌<◌, ◌≤◌, ◌+◌, ◌-◌, ◌/◌, ℕ, Bool, true, false, ◌∷◌, List, Option, Some, Ok, Err, length, sym, ap, ◌∙◌, arith}
+use Rattle.std.proofs.Common.{◌≡◌, ◌<◌, ◌≤◌, ◌+◌, ◌-◌, ◌/◌, ℕ, Bool, true, false, ◌∷◌, List, Option, Some, Ok, Err, length, sym, ap, ◌∙◌, arith, map}
 use Rattle.std.specs.Prelude.{◌==◌, ◌||◌, if◌then◌else◌}
 use Rattle.std.specs.List.{list_any}
 use Rattle.std.specs.Int.{w64}
@@ -9,10 +9,12 @@ use Rattle.cfi_read_core.specs.ReadFunctions.{Read, Source, Position, Outcome, c
 use Rattle.cfi_read_core.specs.Numbers.{unsigned}
 use Rattle.cfi_read_core.specs.SliceReaders.{slice_over}
 use Rattle.cfi_perf.specs.declared.attribute.EventEntry.{EventEntry}
-use Rattle.cfi_perf.specs.declared.file_header.FileSection.{FileSection}
-use Rattle.cfi_perf.specs.Results.{entries, part}
+use Rattle.cfi_perf.specs.declared.event_table.EventTable.{EventTable as EventTableOfCode}
+use Rattle.cfi_read_core.specs.ByteOrder.{is_big}
+use Rattle.cfi_perf.specs.Results.{entries}
 use Rattle.cfi_perf.specs.EventNames.{behind_others}
-use Rattle.cfi_perf.specs.EventTables.{EventTable, first_with_id, has_id, numbered_event, numbers_in}
+use Rattle.cfi_perf.specs.EventTables.{EventTable, KnownEvent, ProfileEvent, first_with_id, has_id, known_event, numbered_event, numbers_in, table_view}
+use Rattle.cfi_perf.specs.FileParts.{Parts, parts_in}
 use Rattle.cfi_perf.proofs.EntrySteps.{one_more}
 
 -- ---- what comes behind others
@@ -52,9 +54,9 @@ all_entries count read made over same =
 abbrev pub has_number : ℕ → List ℕ → Bool
 has_number id numbers = list_any (λ known. known == id) numbers
 
-pub ids_found : (table : EventTable) (place : FileSection) (id : ℕ) (bytes : List ℕ) → Some bytes ≡ part table.bytes place.offset place.size →
-    has_number id (entries (length bytes / 8) (unsigned w64) (slice_over bytes table.big_endian).source 0) ≡ has_id table place id
-ids_found table place id bytes is = ap (λ (o : Option (List ℕ)). has_number id (numbers_in table.big_endian o)) is
+pub ids_found : (big : Bool) (parts : Parts) (entry : EventEntry) (id : ℕ) (bytes : List ℕ) → Some bytes ≡ parts entry.ids →
+    has_number id (entries (length bytes / 8) (unsigned w64) (slice_over bytes big).source 0) ≡ has_id (known_event big parts entry) id
+ids_found big parts entry id bytes is = ap (λ (o : Option (List ℕ)). has_number id (numbers_in big o)) is
 
 pub number_here : (id known : ℕ) (others : List ℕ) → known ≡ id → has_number id (known ∷ others) ≡ true
 number_here id known others is = ap (λ (b : Bool). b || has_number id others) (eq-eqb known id is)
@@ -64,9 +66,25 @@ number_later id known others other = ap (λ (b : Bool). b || has_number id other
 
 -- ---- the event of an id
 
-module _ (table : EventTable) (id index : ℕ) (entry : EventEntry) (others : List EventEntry) where
-  pub event_here : has_id table entry.ids id ≡ true → first_with_id table id index (entry ∷ others) ≡ Some (numbered_event table index entry)
-  event_here is = ap (λ (b : Bool). if b then Some (numbered_event table index entry) else first_with_id table id (index + 1) others) is
+-- the first with this id of entries of the code's events
+abbrev pub of_entries : EventTableOfCode → ℕ → ℕ → List EventEntry → Option ProfileEvent
+of_entries table id index entries = first_with_id (table_view table) id index (map (known_event (is_big table.endian) (parts_in table.bytes)) entries)
 
-  pub event_later : has_id table entry.ids id ≡ false → first_with_id table id index (entry ∷ others) ≡ first_with_id table id (index + 1) others
-  event_later is = ap (λ (b : Bool). if b then Some (numbered_event table index entry) else first_with_id table id (index + 1) others) is
+module _ (table : EventTable) (id index : ℕ) (event : KnownEvent) (others : List KnownEvent) where
+  pub event_here : has_id event id ≡ true → first_with_id table id index (event ∷ others) ≡ Some (numbered_event table index event.attribute)
+  event_here is = ap (λ (b : Bool). if b then Some (numbered_event table index event.attribute) else first_with_id table id (index + 1) others) is
+
+  pub event_later : has_id event id ≡ false → first_with_id table id index (event ∷ others) ≡ first_with_id table id (index + 1) others
+  event_later is = ap (λ (b : Bool). if b then Some (numbered_event table index event.attribute) else first_with_id table id (index + 1) others) is
+
+-- the same of entries, of which the first was read
+module _ (table : EventTableOfCode) (id index : ℕ) (left : List EventEntry) (entry : EventEntry) (others : List EventEntry) (is : left ≡ entry ∷ others) where
+  pub found_here : has_id (known_event (is_big table.endian) (parts_in table.bytes) entry) id ≡ true → of_entries table id index left ≡ Some (numbered_event (table_view table) index entry.attribute)
+  found_here has =
+      ap (of_entries table id index) is
+      ∙ event_here (table_view table) id index (known_event (is_big table.endian) (parts_in table.bytes) entry) (map (known_event (is_big table.endian) (parts_in table.bytes)) others) has
+
+  pub found_later : has_id (known_event (is_big table.endian) (parts_in table.bytes) entry) id ≡ false → of_entries table id index left ≡ of_entries table id (index + 1) others
+  found_later has =
+      ap (of_entries table id index) is
+      ∙ event_later (table_view table) id index (known_event (is_big table.endian) (parts_in table.bytes) entry) (map (known_event (is_big table.endian) (parts_in table.bytes)) others) has

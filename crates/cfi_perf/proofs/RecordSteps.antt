@@ -10,7 +10,8 @@ use Rattle.cfi_perf.specs.declared.records.RecordHeader.{RecordHeader}
 use Rattle.cfi_perf.specs.EventTables.{EventTable}
 use Rattle.cfi_perf.specs.Events.{Record}
 use Rattle.cfi_perf.specs.Results.{and_then, or_error, or_missing, part, read_from}
-use Rattle.cfi_perf.specs.Records.{First, Framed, Records, after_record, record_header, first_record, split_record, no_records, record_of, records_of, records_up_to, records_with, until_cut, with_first}
+use Rattle.cfi_perf.specs.RecordHeaders.{record_header}
+use Rattle.cfi_perf.specs.Records.{First, Framed, Records, after_record, first_record, split_record, no_records, record_of, records_of, records_up_to, records_with, until_cut, with_first}
 use Rattle.cfi_perf.proofs.Chains.{gave, not_missing, not_refused}
 
 -- ---- a record takes a byte at least

@@ -12,7 +12,8 @@ use Rattle.cfi_perf.specs.declared.error.PerfError.{PerfError}
 use Rattle.cfi_perf.specs.declared.error.PerfError.TheVariants.{RecordCut, RecordSize}
 use Rattle.cfi_perf.specs.declared.records.RecordHeader.{RecordHeader}
 use Rattle.cfi_perf.specs.Results.{and_then, or_error, or_missing, part, read_from}
-use Rattle.cfi_perf.specs.Records.{First, Framed, after_record, first_record, record_header, record_of, split_record, without_id}
+use Rattle.cfi_perf.specs.RecordHeaders.{record_header}
+use Rattle.cfi_perf.specs.Records.{First, Framed, after_record, first_record, record_of, split_record, without_id}
 use Rattle.cfi_perf.specs.EventTables.{EventTable}
 use Rattle.cfi_perf.specs.Events.{OtherEvent, Record}
 use Rattle.cfi_perf.specs.Windows.{IsWindow, only_record}
@@ -21,7 +22,7 @@ use Rattle.cfi_perf.proofs.RecordSteps.{no_more_after, part_fits, sized, with_bo
 
 -- ---- numbers at a place
 
-number_read : (w : Width) (s : Source) (place : ℕ) → nat_le (byte_len w) (s.last - place) ≡ true →
+pub number_read : (w : Width) (s : Source) (place : ℕ) → nat_le (byte_len w) (s.last - place) ≡ true →
     unsigned w s place ≡ record { value = Ok (number_of w s.big_endian (slice_range s.whole place (place + byte_len w))); place = place + byte_len w }
 unfolding unsigned
 number_read w s place fits = rw fits refl

@@ -1,25 +1,31 @@
 -- A small profile of three records by computation, as perf script -D prints it: its header, its event, its records, and its architecture, in both byte orders.
 use Rattle.std.proofs.Common.{◌≡◌, ℕ, ◌+◌, ◌-◌, ◌*◌, List, [], ◌∷◌, ◌++◌, codes, true, false, Option, Some, None, Ok, Err, refl}
-use Rattle.std.specs.Prelude.{Bool, nat_lt, if◌then◌else◌, take, replicate}
+use Rattle.std.specs.Prelude.{Bool, nat_lt, if◌then◌else◌, drop, map, take, replicate}
 use Rattle.cfi_read_core.specs.declared.endianity.RunTimeEndian.TheVariants.{Little, Big}
 use Rattle.cfi_read_core.specs.Numbers.{unsigned}
 use Rattle.cfi_perf.specs.declared.error.PerfError.TheVariants.{NotPerf, PipeMode, HeaderCut, HeaderSize, AttributesOutOfBounds, DataOutOfBounds, NoEvents, MixedEvents, FeatureOutOfBounds, RecordSize, RecordCut, Compressed}
 use Rattle.cfi_perf.specs.declared.attribute.EventEntry.{EventEntry}
 use Rattle.cfi_perf.specs.declared.attribute.EventLayout.{EventLayout}
 use Rattle.cfi_perf.specs.Results.{items, entries, header_text}
-use Rattle.cfi_perf.specs.Layouts.{sample_format, sample_id_all, chosen, attribute, event, events, first_event}
+use Rattle.cfi_perf.specs.Layouts.{sample_format, sample_id_all, chosen, sized_attribute, attribute, event, pipe_event, events, first_event}
 use Rattle.cfi_perf.specs.EventNames.{behind_others, described, described_name, description, generic_name}
-use Rattle.cfi_perf.specs.EventTables.{EventTable, event_of_id}
+use Rattle.cfi_perf.specs.EventTables.{EventTable, event_of_id, known_event}
+use Rattle.cfi_perf.specs.FileParts.{parts_of}
 use Rattle.cfi_perf.specs.FileHeaders.{byte_order, file_section, feature_bits, header_fields, file_header}
 use Rattle.cfi_perf.specs.CallChains.{PERF_CONTEXT_KERNEL, PERF_CONTEXT_USER}
 use Rattle.cfi_perf.specs.Samples.{Sample, UserRegisters, kernel_frames, user_frames, register_of, thread, sample_numbers, processor, later_numbers, group_values, single_value, call_chain, raw_data, branch_stack, lists, registers, copied_stack, stack, user_state, sample}
 use Rattle.cfi_perf.specs.Events.{LostEvent, lost, lost_samples, Mapping, own_build_id, MappingEvent, ProgramEvent, ForkEvent, SampleEvent, OtherEvent, mapped_range, mapping, mapping2, program, fork}
-use Rattle.cfi_perf.specs.Records.{record_header, split_record, id_of, id_up_to, with_build_id, sample_id_time, without_id, record_of, first_record, records_up_to, records_of}
-use Rattle.cfi_perf.specs.Profiles.{EventSection, Profile, events_by, profile, architecture, build_ids, descriptions, event_table, machine_by, profile_records}
+use Rattle.cfi_perf.specs.RecordHeaders.{record_header}
+use Rattle.cfi_perf.specs.Records.{split_record, id_of, id_up_to, with_build_id, sample_id_time, without_id, record_of, first_record, records_up_to, records_of}
+use Rattle.cfi_perf.specs.Sections.{EventSection, ProfileHead, Sections, head_of, architecture_in, build_ids, descriptions, event_table, events_by, machine_by}
+use Rattle.cfi_perf.specs.Pipes.{attributes_up_to, feature_up_to, pipe_head}
+use Rattle.cfi_perf.specs.Profiles.{Profile, file_profile, profile, profile_records}
+use Rattle.cfi_perf.specs.declared.attribute.EntryForm.TheVariants.{Sized}
+use Rattle.cfi_perf.specs.ProfilesAround.{profile_around}
 
 -- to name it on an `unfolding` line is to open all these
 unfoldable computing : ℕ
-unfolding unsigned items entries sample_format sample_id_all chosen attribute event file_section feature_bits header_fields file_header thread sample_numbers processor later_numbers group_values single_value call_chain raw_data branch_stack lists registers copied_stack stack user_state sample mapped_range mapping mapping2 program fork lost lost_samples record_header split_record sample_id_time without_id record_of first_record id_up_to records_up_to behind_others described description events_by profile architecture descriptions build_ids event_table header_text lib.Count.ones
+unfolding unsigned items entries sample_format sample_id_all chosen sized_attribute attribute event pipe_event file_section feature_bits header_fields file_header thread sample_numbers processor later_numbers group_values single_value call_chain raw_data branch_stack lists registers copied_stack stack user_state sample mapped_range mapping mapping2 program fork lost lost_samples record_header split_record sample_id_time without_id record_of first_record id_up_to records_up_to behind_others described description events_by attributes_up_to feature_up_to pipe_head file_profile profile profile_around architecture_in descriptions build_ids event_table header_text lib.Count.ones
 computing = 0
 
 -- the bytes of hexadecimal text, whose letters are small
@@ -64,10 +70,6 @@ a_header_less_a_byte : file_header Little (take 103 little_header) ≡ Err Heade
 unfolding computing
 a_header_less_a_byte = refl
 
-of_a_pipe : file_header Little (hex (codes "50455246494c45321000000000000000")) ≡ Err PipeMode
-unfolding computing
-of_a_pipe = refl
-
 of_another_size : file_header Little (hex (codes "50455246494c45324800000000000000")) ≡ Err (HeaderSize 72)
 unfolding computing
 of_another_size = refl
@@ -86,7 +88,7 @@ worked_event = record { attribute = record { kind = 1; config = 0; layout = work
 
 -- it is cpu-clock, alone
 abbrev worked_table : Bool → EventTable
-worked_table big = record { big_endian = big; bytes = []; descriptions = []; entries = worked_event ∷ []; first = record { layout = worked_layout; name = codes "cpu-clock" }; is_alone = true; build_ids = [] }
+worked_table big = record { big_endian = big; descriptions = []; entries = map (known_event big (parts_of [])) (worked_event ∷ []); first = record { layout = worked_layout; name = codes "cpu-clock" }; is_alone = true; build_ids = [] }
 
 abbrev little_event : List ℕ
 little_event = hex (codes "01000000600000000000000000000000102700000000000027310000000000000000000000000000000004000000000000000000000000000000000000000000000000000000000000000000000000008101000000000000100000000000000000000000000000000000000000000000")
@@ -276,33 +278,80 @@ abbrev behind : List ℕ
 behind = hex (codes "f8010000000000000c0000000000000004020000000000000c0000000000000008000000686f737400000000080000007838365f36340000")
 
 abbrev worked_section : EventSection
-worked_section = record { size = 112; count = 1; attrs = little_event; first = worked_event }
+worked_section = record { form = Sized 112; count = 1; attrs = little_event; first = worked_event }
 
 -- with the sections of bits 3 and 6, whose places begin with those of the whole file
-abbrev worked_profile : ℕ → Profile
-worked_profile features = record { bytes = little_header ++ (little_event ++ (little_program ++ (little_mapping ++ (little_sample ++ behind)))); endian = Little; events = worked_section; features = features; records = []; is_cut = false; behind = behind }
+abbrev worked_file : List ℕ
+worked_file = little_header ++ (little_event ++ (little_program ++ (little_mapping ++ (little_sample ++ behind))))
 
-its_architecture : architecture (worked_profile 0x48) ≡ Ok (Some (codes "x86_64"))
+abbrev worked_sections : ℕ → Sections
+worked_sections features = record { parts = parts_of worked_file; endian = Little; events = worked_section; features = features; is_cut = false; end = 472; behind = behind }
+
+its_architecture : architecture_in (worked_sections 0x48) ≡ Ok (Some (codes "x86_64"))
 unfolding computing
 its_architecture = refl
 
-its_first_section : architecture (worked_profile 0x40) ≡ Ok (Some (codes "host"))
+its_first_section : architecture_in (worked_sections 0x40) ≡ Ok (Some (codes "host"))
 unfolding computing
 its_first_section = refl
 
-no_architecture : architecture (worked_profile 0x8) ≡ Ok None
+no_architecture : architecture_in (worked_sections 0x8) ≡ Ok None
 unfolding computing
 no_architecture = refl
 
-no_third_section : architecture (worked_profile 0x58) ≡ Err FeatureOutOfBounds
+no_third_section : architecture_in (worked_sections 0x58) ≡ Err FeatureOutOfBounds
 unfolding computing
 no_third_section = refl
 
 -- ---- the whole
 
-its_parts : profile (worked_profile 0x48).bytes ≡ Ok (record { bytes = (worked_profile 0x48).bytes; endian = Little; events = worked_section; features = 0x48; records = little_program ++ (little_mapping ++ little_sample); is_cut = false; behind = behind })
+its_parts : profile worked_file ≡ Ok (record { head = head_of (worked_sections 0x48) 256; records = little_program ++ (little_mapping ++ little_sample) })
 unfolding computing
 its_parts = refl
+
+-- the same without the bytes of its records
+its_head : profile_around (little_header ++ little_event) behind 528 ≡ Ok (Some (head_of (worked_sections 0x48) 256))
+unfolding computing
+its_head = refl
+
+-- with a byte of them, and without one behind them
+a_byte_more : profile_around (little_header ++ (little_event ++ take 1 little_program)) behind 528 ≡ Ok None
+unfolding computing
+a_byte_more = refl
+
+a_byte_less : profile_around (little_header ++ little_event) (drop 1 behind) 528 ≡ Ok None
+unfolding computing
+a_byte_less = refl
+
+-- ---- the same records of a pipe, behind records with the event and the architecture
+
+abbrev piped_records : List ℕ
+piped_records = hex (codes "4000000000006800") ++ (take 96 little_event ++ (hex (codes "5000000000001c000600000000000000080000007838365f36340000") ++ (little_program ++ (little_mapping ++ little_sample))))
+
+abbrev piped_head : ProfileHead
+piped_head = record { endian = Little; events = worked_table false; architecture = Ok (Some (codes "x86_64")); place = 16; size = 388; is_cut = false }
+
+its_pipe : profile (hex (codes "50455246494c45321000000000000000") ++ piped_records) ≡ Ok (record { head = piped_head; records = piped_records })
+unfolding computing
+its_pipe = refl
+
+-- with the event behind another record
+a_later_event : pipe_head Little (little_program ++ piped_records) ≡ Err NoEvents
+unfolding computing
+a_later_event = refl
+
+another_later_event : pipe_head Little (piped_records ++ piped_records) ≡ Err PipeMode
+unfolding computing
+another_later_event = refl
+
+-- with descriptions of tracepoints behind the event
+tracepoints : pipe_head Little (hex (codes "4000000000006800") ++ (take 96 little_event ++ hex (codes "4200000000000c000400000001020304"))) ≡ Err PipeMode
+unfolding computing
+tracepoints = refl
+
+no_event_of_a_pipe : profile (hex (codes "50455246494c45321000000000000000")) ≡ Err NoEvents
+unfolding computing
+no_event_of_a_pipe = refl
 
 -- ---- a call chain, as perf record left it with -g
 
@@ -392,7 +441,7 @@ told_apart : first_event (clock ∷ faults ∷ []) ≡ Ok clock
 told_apart = refl
 
 abbrev two : EventTable
-two = record { big_endian = false; bytes = two_ids; descriptions = two_names; entries = clock ∷ faults ∷ []; first = record { layout = clock_layout; name = codes "cpu-clock/call-graph=dwarf,stack-size=8/" }; is_alone = false; build_ids = [] }
+two = record { big_endian = false; descriptions = two_names; entries = map (known_event false (parts_of two_ids)) (clock ∷ faults ∷ []); first = record { layout = clock_layout; name = codes "cpu-clock/call-graph=dwarf,stack-size=8/" }; is_alone = false; build_ids = [] }
 
 by_its_id : event_of_id two 214 ≡ Some (record { layout = faults_layout; name = codes "page-faults" })
 unfolding computing
@@ -466,9 +515,12 @@ build_of_the_table = refl
 -- ---- the same cut within its sample, as by a full disk
 
 abbrev cut_profile : Profile
-cut_profile = record { bytes = take 400 (worked_profile 0x48).bytes; endian = Little; events = worked_section; features = 0x48; records = little_program ++ (little_mapping ++ take 48 little_sample); is_cut = true; behind = [] }
+cut_profile = record {
+  head = head_of (record { parts = parts_of (take 400 worked_file); endian = Little; events = worked_section; features = 0x48; is_cut = true; end = 400; behind = [] }) 184;
+  records = little_program ++ (little_mapping ++ take 48 little_sample);
+}
 
-its_cut_parts : profile cut_profile.bytes ≡ Ok cut_profile
+its_cut_parts : profile (take 400 worked_file) ≡ Ok cut_profile
 unfolding computing
 its_cut_parts = refl
 

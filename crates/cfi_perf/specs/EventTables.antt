@@ -3,6 +3,7 @@
 --     event_of_sample events body      the event of a sample; none where no event has its id
 --     layout_of_other events body      the layout of the event of another record
 use Rattle.std.specs.Prelude.{ℕ, ◌+◌, ◌-◌, ◌*◌, ◌/◌, Bool, not, ◌||◌, List, [], ◌∷◌, drop, length}
+use Rattle.std.specs.Prelude.{map}
 use Rattle.std.specs.Prelude.{Option, Some, None, Result, Ok, Err, count_ones, bit_and, ◌==◌}
 use Rattle.std.specs.Prelude.{if◌then◌else◌}
 use Rattle.std.specs.List.{list_any}
@@ -11,47 +12,36 @@ use Rattle.cfi_read_core.specs.declared.error.Error.{Error}
 use Rattle.cfi_read_core.specs.ByteOrder.{is_big}
 use Rattle.cfi_read_core.specs.Numbers.{unsigned}
 use Rattle.cfi_read_core.specs.SliceReaders.{slice_over}
+use Rattle.cfi_perf.specs.declared.attribute.Attribute.{Attribute}
+use Rattle.cfi_perf.specs.declared.attribute.EntryForm.{EntryForm}
 use Rattle.cfi_perf.specs.declared.attribute.EventEntry.{EventEntry}
 use Rattle.cfi_perf.specs.declared.attribute.EventLayout.{EventLayout}
 use Rattle.cfi_perf.specs.declared.event_table.EventTable.{EventTable as EventTableOfCode}
 use Rattle.cfi_perf.specs.declared.event_table.ProfileEvent.{ProfileEvent as EventOfCode}
-use Rattle.cfi_perf.specs.declared.file_header.FileSection.{FileSection}
-use Rattle.cfi_perf.specs.Results.{entries, part, read_from}
-use Rattle.cfi_perf.specs.Layouts.{has, event, PERF_SAMPLE_IDENTIFIER}
+use Rattle.cfi_perf.specs.FileParts.{Parts, parts_in}
+use Rattle.cfi_perf.specs.Results.{entries, read_from}
+use Rattle.cfi_perf.specs.Layouts.{has, entry, PERF_SAMPLE_IDENTIFIER}
 use Rattle.cfi_perf.specs.EventNames.{event_name}
 
 pub record ProfileEvent : Type 0 where
   pub layout : EventLayout
   pub name : List ℕ
 
--- All events, with what says their names and ids, and the builds of files.
+-- An event, and the ids by which records name it.
+pub record KnownEvent : Type 0 where
+  pub attribute : Attribute
+  pub ids : List ℕ
+
+-- All events, with what says their names, and the builds of files.
 pub record EventTable : Type 0 where
   pub big_endian : Bool
-  pub bytes : List ℕ  -- those of the file, in which the ids are
   pub descriptions : List ℕ  -- the section with the names
-  pub entries : List EventEntry
+  pub entries : List KnownEvent
   pub first : ProfileEvent
   pub is_alone : Bool  -- whether the first is the only one
   pub build_ids : List ℕ  -- the section with the builds of files
 
--- what these are in the code
-abbrev pub event_view : EventOfCode → ProfileEvent
-event_view e = record { layout = e.layout; name = e.name.now }
-
-abbrev pub table_view : EventTableOfCode → EventTable
-table_view table = record {
-  big_endian = is_big table.endian;
-  bytes = table.bytes.now;
-  descriptions = table.descriptions.now;
-  entries =
-      entries table.count (event table.size)
-      (slice_over table.attrs.now (is_big table.endian)).source 0;
-  first = event_view table.first;
-  is_alone = table.count == 1;
-  build_ids = table.build_ids.now;
-}
-
--- ---- the event of an id
+-- ---- the ids of events
 
 -- the numbers of eight bytes in a part of the file
 abbrev pub numbers_in : Bool → Option (List ℕ) → List ℕ
@@ -59,24 +49,48 @@ numbers_in big None = []
 numbers_in big (Some bytes) =
     entries (length bytes / 8) (unsigned w64) (slice_over bytes big).source 0
 
-abbrev pub ids_of : EventTable → FileSection → List ℕ
-ids_of table place =
-    numbers_in table.big_endian (part table.bytes place.offset place.size)
+abbrev pub known_event : Bool → Parts → EventEntry → KnownEvent
+known_event big parts e =
+    record { attribute = e.attribute; ids = numbers_in big (parts e.ids) }
 
-abbrev pub has_id : EventTable → FileSection → ℕ → Bool
-has_id table place id = list_any (λ known. known == id) (ids_of table place)
+-- n events of this form, in these bytes
+abbrev pub known_events : Bool → Parts → ℕ → EntryForm → List ℕ → List KnownEvent
+known_events big parts n form attrs =
+    map (known_event big parts) (entries n (entry form) (slice_over attrs big).source 0)
 
-abbrev pub numbered_event : EventTable → ℕ → EventEntry → ProfileEvent
-numbered_event table index entry = record {
-  layout = entry.attribute.layout;
-  name = event_name table.big_endian table.descriptions index entry.attribute;
+-- ---- what these are in the code
+
+abbrev pub event_view : EventOfCode → ProfileEvent
+event_view e = record { layout = e.layout; name = e.name.now }
+
+abbrev pub table_view : EventTableOfCode → EventTable
+table_view table = record {
+  big_endian = is_big table.endian;
+  descriptions = table.descriptions.now;
+  entries =
+      known_events (is_big table.endian) (parts_in table.bytes) table.count table.form
+      table.attrs.now;
+  first = event_view table.first;
+  is_alone = table.count == 1;
+  build_ids = table.build_ids.now;
+}
+
+-- ---- the event of an id
+
+abbrev pub has_id : KnownEvent → ℕ → Bool
+has_id event id = list_any (λ known. known == id) event.ids
+
+abbrev pub numbered_event : EventTable → ℕ → Attribute → ProfileEvent
+numbered_event table index attribute = record {
+  layout = attribute.layout;
+  name = event_name table.big_endian table.descriptions index attribute;
 }
 
 -- the first with this id of some, of which the first has this index
-abbrev pub first_with_id : EventTable → ℕ → ℕ → List EventEntry → Option ProfileEvent
+abbrev pub first_with_id : EventTable → ℕ → ℕ → List KnownEvent → Option ProfileEvent
 first_with_id table id index [] = None
-first_with_id table id index (entry ∷ others) =
-    if has_id table entry.ids id then Some (numbered_event table index entry)
+first_with_id table id index (event ∷ others) =
+    if has_id event id then Some (numbered_event table index event.attribute)
     else first_with_id table id (index + 1) others
 
 -- what perf itself makes up has the id 0

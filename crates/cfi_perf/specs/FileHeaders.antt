@@ -9,7 +9,7 @@ use Rattle.cfi_read_core.specs.ByteOrder.{is_big}
 use Rattle.cfi_read_core.specs.ReadFunctions.{Read, ◌>>=◌, give}
 use Rattle.cfi_read_core.specs.Numbers.{unsigned}
 use Rattle.cfi_perf.specs.declared.error.PerfError.{PerfError}
-use Rattle.cfi_perf.specs.declared.error.PerfError.TheVariants.{NotPerf, PipeMode, HeaderCut}
+use Rattle.cfi_perf.specs.declared.error.PerfError.TheVariants.{NotPerf, HeaderCut}
 use Rattle.cfi_perf.specs.declared.error.PerfError.TheVariants.{HeaderSize}
 use Rattle.cfi_perf.specs.declared.file_header.FileSection.{FileSection}
 use Rattle.cfi_perf.specs.declared.file_header.FileHeader.{FileHeader}
@@ -48,10 +48,9 @@ header_fields = do
   features ← feature_bits
   give (record { attr_size = attr_size; attrs = attrs; records = records; features = features })
 
--- the header, of a file of this byte order; that of a pipe has 16 bytes
+-- the header, of a file of this byte order
 unfoldable pub file_header : RunTimeEndian → List ℕ → Result FileHeader PerfError
 file_header endian bytes =
     and_then (or_error HeaderCut (read_from (is_big endian) (drop 8 bytes) (unsigned w64))) (λ size.
-    if size == 16 then Err PipeMode
-    else if not (size == 104) then Err (HeaderSize size)
+    if not (size == 104) then Err (HeaderSize size)
     else or_error HeaderCut (read_from (is_big endian) (drop 16 bytes) header_fields))

@@ -1,21 +1,28 @@
 -- What the events of a profile have their samples record (perf_event_open(2), "struct
 -- perf_event_attr").
-use Rattle.std.specs.Prelude.{ℕ, ◌-◌, ◌/◌, Bool, not, ◌&&◌, ◌||◌, List, [], ◌∷◌, length, Result}
-use Rattle.std.specs.Prelude.{Ok, Err}
+use Rattle.std.specs.Prelude.{ℕ, ◌+◌, ◌-◌, ◌/◌, Bool, not, ◌&&◌, ◌||◌, List, [], ◌∷◌, length}
+use Rattle.std.specs.Prelude.{Result, Ok, Err, nat_le}
 use Rattle.std.specs.Prelude.{◌==◌, bit_and, if◌then◌else◌}
 use Rattle.std.specs.List.{list_all}
 use Rattle.std.specs.Int.{w32, w64}
 use mathlib.Core.Bool.{beq}
-use Rattle.cfi_read_core.specs.ReadFunctions.{Read, ◌>>=◌, give}
+use Rattle.cfi_read_core.specs.ReadFunctions.{Read, ◌>>=◌, give, here, refuse_if}
 use Rattle.cfi_read_core.specs.Numbers.{unsigned}
 use Rattle.cfi_read_core.specs.SliceReaders.{slice_over}
 use Rattle.cfi_perf.specs.declared.error.PerfError.{PerfError}
 use Rattle.cfi_perf.specs.declared.error.PerfError.TheVariants.{NoEvents, MixedEvents}
+use Rattle.cfi_read_core.specs.declared.error.Error.TheVariants.{UnsupportedOffset}
 use Rattle.cfi_perf.specs.declared.attribute.Attribute.{Attribute}
+use Rattle.cfi_perf.specs.declared.attribute.EntryForm.{EntryForm}
+use Rattle.cfi_perf.specs.declared.attribute.EntryForm.TheVariants.{Sized}
+use Rattle.cfi_perf.specs.declared.attribute.EntryForm.TheVariants.{Records as RecordsForm}
+use Rattle.cfi_perf.specs.declared.attribute.SizedAttribute.{SizedAttribute}
+use Rattle.cfi_perf.specs.declared.records.RecordHeader.{RecordHeader}
 use Rattle.cfi_perf.specs.declared.attribute.EventEntry.{EventEntry}
 use Rattle.cfi_perf.specs.declared.attribute.EventLayout.{EventLayout}
 use Rattle.cfi_perf.specs.declared.attribute.SampleFormat.{SampleFormat}
 use Rattle.cfi_perf.specs.declared.attribute.Chosen.{Chosen}
+use Rattle.cfi_perf.specs.RecordHeaders.{record_header}
 use Rattle.cfi_perf.specs.Results.{items, entries}
 use Rattle.cfi_perf.specs.FileHeaders.{file_section}
 
@@ -90,6 +97,7 @@ sample_format = do
   sample_type ← unsigned w64
   read_format ← unsigned w64
   give (record {
+    size = size;
     kind = kind;
     config = config;
     sample_period = sample_period;
@@ -112,24 +120,32 @@ chosen = do
   sample_regs_user ← unsigned w64
   give (record { branch_sample_type = branch_sample_type; sample_regs_user = sample_regs_user })
 
--- the first 88 bytes of an event's attributes
-unfoldable pub attribute : Read Attribute
-attribute = do
+-- the first 88 bytes of an event's attributes, and the size of all
+unfoldable pub sized_attribute : Read SizedAttribute
+sized_attribute = do
   format ← sample_format
   with_id ← sample_id_all
   chosen' ← chosen
   give (record {
-    kind = format.kind;
-    config = format.config;
-    layout = record {
-      sample_type = format.sample_type;
-      sample_period = format.sample_period;
-      read_format = format.read_format;
-      sample_id_all = with_id;
-      branch_sample_type = chosen'.branch_sample_type;
-      sample_regs_user = chosen'.sample_regs_user;
+    size = format.size;
+    attribute = record {
+      kind = format.kind;
+      config = format.config;
+      layout = record {
+        sample_type = format.sample_type;
+        sample_period = format.sample_period;
+        read_format = format.read_format;
+        sample_id_all = with_id;
+        branch_sample_type = chosen'.branch_sample_type;
+        sample_regs_user = chosen'.sample_regs_user;
+      };
     };
   })
+
+unfoldable pub attribute : Read Attribute
+attribute = do
+  sized ← sized_attribute
+  give sized.attribute
 
 -- an event of this size: its attributes, and where its ids are
 unfoldable pub event : ℕ → Read EventEntry
@@ -138,6 +154,30 @@ event size = do
   others ← items (size - 104) 1
   ids ← file_section
   give (record { attribute = attribute'; ids = ids })
+
+-- PERF_RECORD_HEADER_ATTR (64) has the attributes of an event, of the size that they say, and the
+-- ids behind them; the attributes have at least the 96 bytes of PERF_ATTR_SIZE_VER3
+abbrev pub is_whole : RecordHeader → SizedAttribute → Bool
+is_whole header sized =
+    (header.kind == 64) && (nat_le 96 sized.size && nat_le (8 + sized.size) header.size)
+
+unfoldable pub pipe_event : Read EventEntry
+pipe_event = do
+  header ← record_header
+  sized ← sized_attribute
+  others ← items (sized.size - 88) 1
+  place ← here
+  ids ← items (header.size - (8 + sized.size)) 1
+  whole ← refuse_if (not (is_whole header sized)) UnsupportedOffset
+  give (record {
+    attribute = sized.attribute;
+    ids = record { offset = place; size = header.size - (8 + sized.size) };
+  })
+
+-- of a file, or of a pipe
+abbrev pub entry : EntryForm → Read EventEntry
+entry (Sized size) = event size
+entry RecordsForm = pipe_event
 
 -- ---- all events
 

@@ -1,6 +1,8 @@
 pub mod ErrorNames
 pub mod Results
 pub mod FileHeaders
+pub mod FileParts
+pub mod RecordHeaders
 pub mod Layouts
 pub mod EventNames
 pub mod EventTables
@@ -9,6 +11,9 @@ pub mod Samples
 pub mod Events
 pub mod Records
 pub mod Recordings
+pub mod Sections
+pub mod Pipes
 pub mod Profiles
+pub mod ProfilesAround
 pub mod Windows
 pub mod Indexes

@@ -5,11 +5,11 @@
 use Rattle.std.specs.Prelude.{◌≡◌, ℕ, ◌-◌, ◌*◌, zero, suc, Bool, false, not, ◌||◌, List, [], ◌∷◌}
 use Rattle.std.specs.Prelude.{◌++◌, map, length, drop, take, Option, Some, None, Result, Ok, Err}
 use Rattle.std.specs.Prelude.{count_ones, bit_and, nat_lt, nat_le, ◌==◌, if◌then◌else◌}
-use Rattle.std.specs.Int.{w16, w32, w64}
+use Rattle.std.specs.Int.{w64}
 use Rattle.std.specs.Option.{option_map_or}
 use Rattle.std.specs.Str.{bytes_eq}
 use Rattle.cfi_read_core.specs.ByteOrder.{is_big}
-use Rattle.cfi_read_core.specs.ReadFunctions.{Read, ◌>>=◌, give}
+use Rattle.cfi_read_core.specs.ReadFunctions.{Read, ◌>>=◌}
 use Rattle.cfi_read_core.specs.ReaderCalls.{map_ok}
 use Rattle.cfi_read_core.specs.Numbers.{unsigned}
 use Rattle.cfi_perf.specs.declared.error.PerfError.{PerfError}
@@ -22,6 +22,7 @@ use Rattle.cfi_perf.specs.declared.records.RecordHeader.{RecordHeader}
 use Rattle.cfi_perf.specs.declared.records.Framed.{Framed as FramedOfCode}
 use Rattle.cfi_perf.specs.declared.records.First.{First as FirstOfCode}
 use Rattle.cfi_perf.specs.declared.records.WithoutId.{WithoutId as WithoutIdOfCode}
+use Rattle.cfi_perf.specs.RecordHeaders.{record_header}
 use Rattle.cfi_perf.specs.Results.{and_then, before_zero, or_error, or_missing, part, read_from}
 use Rattle.cfi_perf.specs.Layouts.{has, has_any, PERF_SAMPLE_TID, PERF_SAMPLE_TIME}
 use Rattle.cfi_perf.specs.EventTables.{EventTable, ProfileEvent, event_of_sample, layout_of_other}
@@ -33,13 +34,6 @@ use Rattle.cfi_perf.specs.Events.{fork, lost, lost_samples}
 use Rattle.cfi_perf.specs.Events.{Mapping, count_at, counted_id}
 
 -- ---- the bytes of a record
-
-unfoldable pub record_header : Read RecordHeader
-record_header = do
-  kind ← unsigned w32
-  misc ← unsigned w16
-  size ← unsigned w16
-  give (record { kind = kind; misc = misc; size = size })
 
 -- A record's header, its other bytes, and the bytes that follow.
 pub record Framed : Type 0 where

@@ -5,14 +5,17 @@ ghost use Rattle.cfi_read_core.specs.ByteOrder.{is_big};
 ghost use Rattle.cfi_read_core.specs.ReaderCalls.{ReadsBy, ReadsValue};
 ghost use Rattle.cfi_read_core.specs.SliceReaders.{slice_position};
 ghost use Rattle.cfi_perf.specs.Results.{entries};
-ghost use Rattle.cfi_perf.specs.Layouts.{are_readable, attribute, both_identified, chosen, event};
+ghost use Rattle.cfi_perf.specs.Layouts.{are_readable, attribute, both_identified, chosen, entry};
+ghost use Rattle.cfi_perf.specs.Layouts.{event, is_whole, pipe_event, sized_attribute};
 ghost use Rattle.cfi_perf.specs.Layouts.{first_event, has, has_any, same_layout, sample_format};
 ghost use Rattle.cfi_perf.specs.Layouts.{sample_id_all};
 
 use crate::bytes::{Input, read_items};
 use crate::error::PerfError;
 use crate::file_header::{FileSection, read_file_section};
-use cfi_read_core::{Endianity, Reader, Result};
+use crate::pipe::PERF_RECORD_HEADER_ATTR;
+use crate::records::{RecordHeader, read_record_header};
+use cfi_read_core::{Endianity, Error, Reader, Result};
 
 pub(crate) const PERF_SAMPLE_IP: u64 = 1 << 0;
 
@@ -54,6 +57,14 @@ const SAMPLE_ID_ALL_BIG: u64 = 1 << 45;
 /// ids are.
 const READ_SIZE: u64 = 88 + 16;
 
+/// The bytes of an event's attributes that are read: those up to the registers.
+const ATTRIBUTE_SIZE: u64 = 88;
+
+/// The least size of an event's attributes (`PERF_ATTR_SIZE_VER3`).
+const LEAST_SIZE: u64 = 96;
+
+const RECORD_HEADER_SIZE: u64 = 8;
+
 /// What the samples and the other records of an event have in them.
 #[derive(Clone, Copy, Debug, PartialEq, Eq)]
 pub struct EventLayout {
@@ -90,9 +101,27 @@ pub(crate) struct EventEntry {
     pub(crate) ids: FileSection,
 }
 
+/// What an event is, and the size of all its attributes.
+#[derive(Clone, Copy, Debug, PartialEq, Eq)]
+pub(crate) struct SizedAttribute {
+    pub(crate) size: u32,
+    pub(crate) attribute: Attribute,
+}
+
+/// How an event is written.
+#[derive(Clone, Copy, Debug, PartialEq, Eq)]
+pub(crate) enum EntryForm {
+    /// As an entry of this size, of a file.
+    Sized(u64),
+    /// As a record, of a pipe.
+    Records,
+}
+
 /// The event, and the formats of samples and counts.
 #[derive(Clone, Copy, Debug, PartialEq, Eq)]
 pub(crate) struct SampleFormat {
+    /// The size of the attributes.
+    pub(crate) size: u32,
     pub(crate) kind: u32,
     pub(crate) config: u64,
     pub(crate) sample_period: u64,
@@ -156,26 +185,26 @@ pub(crate) fn has_any(bits: u64, number: u64) -> bool
     number & bits != 0
 }
 
-/// The first of `count` events of one size, if the records of all can be read.
+/// The first of `count` events of one form, if the records of all can be read.
 ///
 /// Fails with `NoEvents` or `MixedEvents`.
 pub(crate) fn first_event(
     count: u64,
-    size: u64,
+    form: EntryForm,
     events: Input<'_>,
 ) -> std::result::Result<EventEntry, PerfError>
-    ensures { result ≡ first_event (entries count (event size)
+    ensures { result ≡ first_event (entries count (entry form)
         (slice_position is_big events.entry).source (slice_position is_big events.entry).place) }
 {
     let mut events = events;
     if count == 0 {
         return Err(PerfError::NoEvents);
     }
-    let Ok(first) = read_event(size, &mut events) else {
+    let Ok(first) = read_entry(form, &mut events) else {
         return Err(PerfError::NoEvents);
     };
     for index in 1..count {
-        let Ok(other) = read_event(size, &mut events) else {
+        let Ok(other) = read_entry(form, &mut events) else {
             return Ok(first);
         };
         if !first.is_readable_with(&other) {
@@ -185,9 +214,53 @@ pub(crate) fn first_event(
     Ok(first)
 }
 
-/// Reads an event: its attributes, and where its ids are.
+/// Reads an event of this form.
+pub(crate) fn read_entry(form: EntryForm, input: &mut Input<'_>) -> Result<EventEntry>
+    ensures { ReadsValue (slice_position is_big) (entry form) input.old result input.new }
+{
+    match form {
+        EntryForm::Sized(size) => read_event(size, input),
+        EntryForm::Records => read_pipe_event(input),
+    }
+}
+
+/// Reads an event of a pipe: a record with its attributes and its ids.
+#[tactic(auto, unfolding(crate::specs::Layouts::pipe_event))]
+fn read_pipe_event(input: &mut Input<'_>) -> Result<EventEntry>
+    ensures { ReadsValue (slice_position is_big) pipe_event input.old result input.new }
+{
+    let header = read_record_header(input)?;
+    let sized = read_sized_attribute(input)?;
+    let size = u64::from(sized.size);
+    let _others = read_items(size.saturating_sub(ATTRIBUTE_SIZE), 1, input)?;
+    let place = input.place() as u64;
+    let ids = u64::from(header.size).saturating_sub(RECORD_HEADER_SIZE + size);
+    let _ids = read_items(ids, 1, input)?;
+    if !is_whole(&header, &sized) {
+        return Err(Error::UnsupportedOffset);
+    }
+    Ok(EventEntry {
+        attribute: sized.attribute,
+        ids: FileSection {
+            offset: place,
+            size: ids,
+        },
+    })
+}
+
+/// Whether a record has all attributes of an event.
+fn is_whole(header: &RecordHeader, sized: &SizedAttribute) -> bool
+    ensures { result ≡ is_whole header.now sized.now }
+{
+    let size = u64::from(sized.size);
+    header.kind == PERF_RECORD_HEADER_ATTR
+        && LEAST_SIZE <= size
+        && RECORD_HEADER_SIZE + size <= u64::from(header.size)
+}
+
+/// Reads an event of a file: its attributes, and where its ids are.
 #[tactic(auto, unfolding(crate::specs::Layouts::event))]
-pub(crate) fn read_event(size: u64, input: &mut Input<'_>) -> Result<EventEntry>
+fn read_event(size: u64, input: &mut Input<'_>) -> Result<EventEntry>
     ensures { ReadsValue (slice_position is_big) (event size) input.old result input.new }
 {
     let attribute = read_attribute(input)?;
@@ -201,19 +274,31 @@ pub(crate) fn read_event(size: u64, input: &mut Input<'_>) -> Result<EventEntry>
 fn read_attribute<R: Reader>(input: &mut R) -> Result<Attribute>
     ensures { ReadsValue R.position attribute input.old result input.new }
 {
+    let sized = read_sized_attribute(input)?;
+    Ok(sized.attribute)
+}
+
+/// Reads the same, and the size of all attributes.
+#[tactic(auto, unfolding(crate::specs::Layouts::sized_attribute))]
+fn read_sized_attribute<R: Reader>(input: &mut R) -> Result<SizedAttribute>
+    ensures { ReadsValue R.position sized_attribute input.old result input.new }
+{
     let format = read_sample_format(input)?;
     let sample_id_all = read_sample_id_all(input)?;
     let chosen = read_chosen(input)?;
-    Ok(Attribute {
-        kind: format.kind,
-        config: format.config,
-        layout: EventLayout {
-            sample_type: format.sample_type,
-            sample_period: format.sample_period,
-            read_format: format.read_format,
-            sample_id_all,
-            branch_sample_type: chosen.branch_sample_type,
-            sample_regs_user: chosen.sample_regs_user,
+    Ok(SizedAttribute {
+        size: format.size,
+        attribute: Attribute {
+            kind: format.kind,
+            config: format.config,
+            layout: EventLayout {
+                sample_type: format.sample_type,
+                sample_period: format.sample_period,
+                read_format: format.read_format,
+                sample_id_all,
+                branch_sample_type: chosen.branch_sample_type,
+                sample_regs_user: chosen.sample_regs_user,
+            },
         },
     })
 }
@@ -224,12 +309,13 @@ fn read_sample_format<R: Reader>(input: &mut R) -> Result<SampleFormat>
     ensures { ReadsValue R.position sample_format input.old result input.new }
 {
     let kind = input.read_u32()?;
-    let _size = input.read_u32()?;
+    let size = input.read_u32()?;
     let config = input.read_u64()?;
     let sample_period = input.read_u64()?;
     let sample_type = input.read_u64()?;
     let read_format = input.read_u64()?;
     Ok(SampleFormat {
+        size,
         kind,
         config,
         sample_period,

@@ -10,7 +10,8 @@ use std::fmt;
 pub enum PerfError {
     /// The file doesn't begin with `PERFILE2`, in either byte order.
     NotPerf,
-    /// The profile was written to a pipe: its header has no sections.
+    /// Of a profile that was written to a pipe: the attributes of an event can't be read, or stand
+    /// behind another record, or there are tracepoints.
     PipeMode,
     /// The file ends before its header does.
     HeaderCut,
@@ -84,7 +85,7 @@ impl PerfError {
     fn sentence(&self) -> &'static str {
         match self {
             PerfError::NotPerf => "not a profile of perf record",
-            PerfError::PipeMode => "the profile was written to a pipe",
+            PerfError::PipeMode => "a pipe whose events don't stand first",
             PerfError::HeaderCut => "the profile ends in its header",
             PerfError::HeaderSize(_) => "a header of size ",
             PerfError::AttributeSize(_) => "events of size ",

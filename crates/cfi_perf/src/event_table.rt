@@ -4,15 +4,19 @@ ghost use Rattle.std.specs.Prelude.{◌≡◌, option_map};
 ghost use Rattle.std.specs.Int.{w64};
 ghost use Rattle.cfi_read_core.specs.ByteOrder.{is_big};
 ghost use Rattle.cfi_read_core.specs.Numbers.{unsigned};
+ghost use Rattle.cfi_perf.specs.FileParts.{parts_in};
 ghost use Rattle.cfi_perf.specs.Results.{read_from};
 ghost use Rattle.cfi_perf.specs.EventTables.{event_by, event_of_id, event_of_sample, event_view};
-ghost use Rattle.cfi_perf.specs.EventTables.{first_with_id, has_id, id_place, layout_of_other};
+ghost use Rattle.cfi_perf.specs.EventTables.{first_with_id, has_id, id_place, known_event};
+ghost use Rattle.cfi_perf.specs.EventTables.{layout_of_other};
 ghost use Rattle.cfi_perf.specs.EventTables.{numbered_event, table_view};
 
-use crate::attribute::{EventEntry, EventLayout, PERF_SAMPLE_IDENTIFIER, read_event};
-use crate::bytes::{bytes_from, part};
+use crate::attribute::{
+    Attribute, EntryForm, EventEntry, EventLayout, PERF_SAMPLE_IDENTIFIER, read_entry,
+};
+use crate::bytes::bytes_from;
 use crate::event_names::event_name;
-use crate::file_header::FileSection;
+use crate::file_bytes::FileBytes;
 use cfi_read_core::{EndianSlice, Reader, RunTimeEndian};
 
 /// `PERF_SAMPLE_ID` and `PERF_SAMPLE_IDENTIFIER`.
@@ -33,14 +37,14 @@ pub(crate) struct ProfileEvent<'input> {
 pub(crate) struct EventTable<'input> {
     pub(crate) endian: RunTimeEndian,
     /// The bytes of the file, in which the ids are.
-    pub(crate) bytes: &'input [u8],
+    pub(crate) bytes: FileBytes<'input>,
     /// The section with the names.
     pub(crate) descriptions: &'input [u8],
     pub(crate) attrs: &'input [u8],
     /// How many events the attributes are.
     pub(crate) count: u64,
-    /// The size of each.
-    pub(crate) size: u64,
+    /// How each is written.
+    pub(crate) form: EntryForm,
     pub(crate) first: ProfileEvent<'input>,
     /// The section with the builds of files.
     pub(crate) build_ids: &'input [u8],
@@ -91,31 +95,32 @@ impl<'input> EventTable<'input> {
     {
         let mut entries = EndianSlice::new(self.attrs, self.endian);
         for index in 0..self.count {
-            let Ok(entry) = read_event(self.size, &mut entries) else {
+            let Ok(entry) = read_entry(self.form, &mut entries) else {
                 return None;
             };
-            if self.has_id(entry.ids, id) {
-                return Some(self.numbered_event(index, &entry));
+            if self.has_id(&entry, id) {
+                return Some(self.numbered_event(index, &entry.attribute));
             }
         }
         None
     }
 
     /// What the event of an index has in it, and its name.
-    fn numbered_event(&self, index: u64, entry: &EventEntry) -> ProfileEvent<'input>
-        ensures { event_view result ≡ numbered_event (table_view self.now) index entry.now }
+    fn numbered_event(&self, index: u64, attribute: &Attribute) -> ProfileEvent<'input>
+        ensures { event_view result ≡ numbered_event (table_view self.now) index attribute.now }
     {
         ProfileEvent {
-            layout: entry.attribute.layout,
-            name: event_name(self.endian, self.descriptions, index, &entry.attribute),
+            layout: attribute.layout,
+            name: event_name(self.endian, self.descriptions, index, attribute),
         }
     }
 
-    /// Whether the id is among those at a place of the file.
-    fn has_id(&self, place: FileSection, id: u64) -> bool
-        ensures { result ≡ has_id (table_view self.now) place id }
+    /// Whether the id is among those of an event.
+    fn has_id(&self, entry: &EventEntry, id: u64) -> bool
+        ensures { result ≡ has_id
+            (known_event (is_big self.now.endian) (parts_in self.now.bytes) entry.now) id }
     {
-        let Some(bytes) = part(self.bytes, place.offset, place.size) else {
+        let Some(bytes) = self.bytes.part(entry.ids) else {
             return false;
         };
         let count = bytes.len() as u64 / 8;

@@ -9,10 +9,10 @@ use crate::error::PerfError;
 use cfi_read_core::{EndianSlice, Reader, Result, RunTimeEndian};
 
 /// The size of the header of a file.
-const FILE_HEADER_SIZE: u64 = 104;
+pub(crate) const FILE_HEADER_SIZE: u64 = 104;
 
 /// The size of the header of a pipe.
-const PIPE_HEADER_SIZE: u64 = 16;
+pub(crate) const PIPE_HEADER_SIZE: u64 = 16;
 
 /// A part of the file.
 #[derive(Clone, Copy, Debug, PartialEq, Eq)]
@@ -47,7 +47,7 @@ pub(crate) fn byte_order(bytes: &[u8]) -> std::result::Result<RunTimeEndian, Per
     }
 }
 
-/// Returns what the header says. Fails with `HeaderCut`, `PipeMode` or `HeaderSize`.
+/// Returns what the header says. Fails with `HeaderCut` or `HeaderSize`.
 #[tactic(auto, unfolding(crate::specs::FileHeaders::file_header))]
 pub(crate) fn file_header(
     endian: RunTimeEndian,
@@ -59,9 +59,6 @@ pub(crate) fn file_header(
     let Ok(size) = sizes.read_u64() else {
         return Err(PerfError::HeaderCut);
     };
-    if size == PIPE_HEADER_SIZE {
-        return Err(PerfError::PipeMode);
-    }
     if size != FILE_HEADER_SIZE {
         return Err(PerfError::HeaderSize(size));
     }

@@ -13,6 +13,7 @@
 //! Of a profile that is read by parts, `windows` reads each record by the bytes that the caller has
 //! of it, and `index` keeps where each is; only the index allocates.
 
+mod around;
 pub mod attribute;
 mod build_ids;
 mod bytes;
@@ -20,8 +21,10 @@ pub mod call_chain;
 pub mod error;
 mod event_names;
 mod event_table;
+mod file_bytes;
 mod file_header;
 pub mod index;
+mod pipe;
 pub mod profile;
 pub mod record;
 mod record_fields;
@@ -29,13 +32,14 @@ pub mod recording;
 pub mod records;
 pub mod sample;
 mod sample_fields;
+mod sections;
 pub mod windows;
 
 pub use attribute::EventLayout;
 pub use call_chain::{Addresses, CallChain};
 pub use error::PerfError;
 pub use index::{PlaceKind, RecordIndex, RecordPlace};
-pub use profile::Profile;
+pub use profile::{Profile, ProfileHead};
 pub use record::{Event, Fork, Lost, Mapping, Program, Record};
 pub use recording::{lacks_stacks, lost_in};
 pub use records::Records;

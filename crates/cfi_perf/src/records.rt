@@ -10,7 +10,8 @@ ghost use Rattle.cfi_perf.specs.Records.{no_records, until_cut};
 ghost use Rattle.cfi_perf.specs.Events.{lost, lost_samples};
 ghost use Rattle.cfi_perf.specs.Records.{first_view, fork_event, framed_view, lost_event};
 ghost use Rattle.cfi_perf.specs.Records.{mapping_event};
-ghost use Rattle.cfi_perf.specs.Records.{record_header, record_of, records_left, records_of};
+ghost use Rattle.cfi_perf.specs.RecordHeaders.{record_header};
+ghost use Rattle.cfi_perf.specs.Records.{record_of, records_left, records_of};
 ghost use Rattle.cfi_perf.specs.Records.{sample_id_size, sample_id_time, sample_in, split_id};
 ghost use Rattle.cfi_perf.specs.Records.{sample_of, split_record, without_id, without_id_by};
 ghost use Rattle.cfi_perf.specs.Records.{without_id_view};
@@ -232,7 +233,7 @@ pub(crate) fn split_record(endian: RunTimeEndian, bytes: &[u8]) -> Result<Framed
 }
 
 /// Reads the type, the flags and the size of a record.
-#[tactic(auto, unfolding(crate::specs::Records::record_header))]
+#[tactic(auto, unfolding(crate::specs::RecordHeaders::record_header))]
 pub(crate) fn read_record_header<R: Reader>(input: &mut R) -> cfi_read_core::Result<RecordHeader>
     ensures { ReadsValue R.position record_header input.old result input.new }
 {

@@ -157,12 +157,59 @@ fn a_profile_in_both_orders(rt: HostRuntime) -> Result<(), Fail> {
     check_whole(&rt, BIG)
 }
 
+/// What stands before the attributes of the event in a pipe, and before the records: the headers of
+/// the pipe and of a record, and the record with the architecture.
+const LITTLE_PIPE: [&str; 2] = [
+    "50455246494c453210000000000000004000000000006800",
+    "5000000000001c000600000000000000080000007838365f36340000",
+];
+
+const BIG_PIPE: [&str; 2] = [
+    "32454c494652455000000000000000100000004000000068",
+    "000000500000001c0000000000000006000000087838365f36340000",
+];
+
+/// The same event and records as a pipe has them.
+fn piped(alloc: Global, text: &str, pipe: [&str; 2]) -> Result<Vec<u8>, Fail> {
+    let whole = bytes_of(alloc, text)?;
+    let mut bytes = bytes_of(alloc, pipe[0])?;
+    bytes.extend_from_slice(whole.get(104..200).unwrap_or_default())?;
+    bytes.extend_from_slice(bytes_of(alloc, pipe[1])?.as_slice())?;
+    bytes.extend_from_slice(whole.get(RECORDS..BEHIND).unwrap_or_default())?;
+    Ok(bytes)
+}
+
+/// Those two records, which are others, and the first two behind them.
+const PIPED: [Option<Line>; 4] = [
+    Some((0, 0, 0, 0, 0)),
+    Some((0, 0, 0, 0, 0)),
+    Some((10, 3, 7, 0, 1)),
+    Some((11, 10, 7, 0x40_0000, 6)),
+];
+
+fn check_piped(rt: &(impl Abort + AllocGlobal), text: &str, pipe: [&str; 2]) -> Result<(), Fail> {
+    let bytes = piped(rt.alloc(), text, pipe)?;
+    let bytes = bytes.as_slice();
+    let architecture = Profile::parse(bytes)?.architecture()?;
+    assert_eq!(rt;
+        (lines(bytes), lines_by_windows(bytes), architecture),
+        (Ok(PIPED), Ok(PIPED), Some(b"x86_64".as_slice()))
+    );
+    Ok(())
+}
+
+#[test]
+fn a_pipe_in_both_orders(rt: HostRuntime) -> Result<(), Fail> {
+    check_piped(&rt, LITTLE, LITTLE_PIPE)?;
+    check_piped(&rt, BIG, BIG_PIPE)
+}
+
 /// A case, the bytes that are changed, and the error.
 type Changed = (&'static str, &'static [(usize, u8)], PerfError);
 
 const ERRORS: [Changed; 14] = [
     ("no profile", &[(7, 0x31)], PerfError::NotPerf),
-    ("the header of a pipe", &[(8, 16)], PerfError::PipeMode),
+    ("the header of a pipe", &[(8, 16)], PerfError::NoEvents),
     (
         "a header of 72 bytes",
         &[(8, 72)],
@@ -286,7 +333,7 @@ fn cut_records(rt: HostRuntime) -> Result<(), Fail> {
 
 const SENTENCES: [(PerfError, &str); 13] = [
     (PerfError::NotPerf, "not a profile of perf record"),
-    (PerfError::PipeMode, "the profile was written to a pipe"),
+    (PerfError::PipeMode, "a pipe whose events don't stand first"),
     (PerfError::HeaderCut, "the profile ends in its header"),
     (PerfError::HeaderSize(5), "a header of size 5"),
     (PerfError::AttributeSize(64), "events of size 64"),

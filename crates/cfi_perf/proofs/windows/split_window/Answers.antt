@@ -2,7 +2,7 @@ use Rattle.std.proofs.Common.{rules, ◌++◌, ◌≡◌, ◌<◌, ◌+◌, ◌-
 use Rattle.std.proofs.lemmas.Result.{err_from_is_err_and}
 use Rattle.cfi_read_core.specs.ByteOrder.{is_big}
 use Rattle.cfi_perf.specs.Results.{part, read_from}
-use Rattle.cfi_perf.specs.Records.{record_header}
+use Rattle.cfi_perf.specs.RecordHeaders.{record_header}
 use Rattle.cfi_perf.proofs.RecordSteps.{with_others}
 use Rattle.cfi_perf.proofs.WindowSteps.{behind_length, cut_body, cut_header, cut_trace, framed, small_size}
 use Rattle.cfi_perf.proofs.windows.split_window.Goals as goal

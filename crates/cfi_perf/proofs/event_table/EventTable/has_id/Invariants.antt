@@ -4,7 +4,8 @@ use Rattle.cfi_read_core.specs.ByteOrder.{is_big}
 use Rattle.cfi_read_core.specs.Numbers.{unsigned}
 use Rattle.cfi_read_core.specs.SliceReaders.{slice_position}
 use Rattle.cfi_perf.specs.Results.{entries}
-use Rattle.cfi_perf.specs.EventTables.{has_id, table_view}
+use Rattle.cfi_perf.specs.EventTables.{has_id, known_event}
+use Rattle.cfi_perf.specs.FileParts.{parts_in}
 use Rattle.cfi_perf.proofs.EventSteps.{has_number}
 use Rattle.cfi_perf.proofs.event_table.EventTable.has_id.Given as goal
 
@@ -12,4 +13,4 @@ use Rattle.cfi_perf.proofs.event_table.EventTable.has_id.Given as goal
 abbrev pub invariant-loop-index : goal.invariant-loop-index
 invariant-loop-index l =
     let now = slice_position is_big l.ids in
-    has_number l.id (entries (l.count - l.index) (unsigned w64) now.source now.place) ≡ has_id (table_view l.self) l.fn.place l.id
+    has_number l.id (entries (l.count - l.index) (unsigned w64) now.source now.place) ≡ has_id (known_event (is_big l.self.endian) (parts_in l.self.bytes) l.entry) l.id
