@@ -5,3 +5,4 @@ pub mod FlameLemmas
 pub mod CountLemmas
 pub mod TallyLemmas
 pub mod ReportLemmas
+pub mod TurnedLemmas

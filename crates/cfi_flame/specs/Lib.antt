@@ -2,6 +2,7 @@ pub mod FoldedStacks
 pub mod FoldedCounts
 pub mod Functions
 pub mod Tallies
+pub mod Turned
 pub mod Boxes
 pub mod Graphs
 pub mod Flames

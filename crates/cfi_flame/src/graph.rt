@@ -4,7 +4,8 @@ ghost use Rattle.std.specs.List.{flat_map, fold};
 ghost use Rattle.cfi_flame.specs.Boxes.{box_view};
 ghost use Rattle.cfi_flame.specs.Graphs.{box_text, boxes_text, deepest_of, escaped, graph_text};
 ghost use Rattle.cfi_flame.specs.Graphs.{details_text, face_text, graph_by, head_text};
-ghost use Rattle.cfi_flame.specs.Graphs.{hue_of, place_text, share, whole_text};
+ghost use Rattle.cfi_flame.specs.Graphs.{hue_of, named_text, place_text, share};
+ghost use Rattle.cfi_flame.specs.Graphs.{whole_text};
 
 use crate::boxes::FlameBox;
 use itoa::Buffer;
@@ -141,7 +142,7 @@ fn deepest_of(boxes: &[FlameBox<'_>]) -> usize
 {
     let mut deepest = 0usize;
     for found in boxes {
-        deepest = deepest.max(found.depth);
+        deepest = deepest.max(found.depth());
     }
     deepest
 }
@@ -152,8 +153,7 @@ fn push_whole(text: &mut Vec<u8>, row: u128, total: u64) -> Result<(), AllocErro
     ensures { OnOk result (text.new.items ≡ text.old.items ++ whole_text row total) }
 {
     let whole = FlameBox {
-        name: b"all",
-        depth: 0,
+        functions: b"all",
         left: 0,
         width: total,
     };
@@ -174,7 +174,7 @@ fn push_boxes(
     for found in boxes {
         push_box(
             text,
-            deepest.saturating_sub(found.depth as u128),
+            deepest.saturating_sub(found.depth() as u128),
             total,
             found,
         )?;
@@ -193,11 +193,27 @@ fn push_box(
     ensures { OnOk result (text.new.items
         ≡ text.old.items ++ box_text row total (box_view found.now)) }
 {
-    let start = share(found.left as u128, total);
-    let end = share(found.left as u128 + found.width as u128, total);
+    push_named(text, row, total, found.name(), found.left, found.width)
+}
+
+/// Appends a box with this name in this row.
+fn push_named(
+    text: &mut Vec<u8>,
+    row: u128,
+    total: u64,
+    name: &[u8],
+    left: u64,
+    width: u64,
+) -> Result<(), AllocError>
+    requires { 0 < total }
+    ensures { OnOk result (text.new.items
+        ≡ text.old.items ++ named_text row total name.now left width) }
+{
+    let start = share(left as u128, total);
+    let end = share(left as u128 + width as u128, total);
     push_place(text, start, row, end.saturating_sub(start))?;
-    push_details(text, found.name, found.width)?;
-    push_face(text, found.name)
+    push_details(text, name, width)?;
+    push_face(text, name)
 }
 
 /// Appends where a box lies: `x` and `width` in millionths of a per cent, `y` in rows.
