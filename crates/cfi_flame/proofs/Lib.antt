@@ -6,3 +6,8 @@ pub mod CountLemmas
 pub mod TallyLemmas
 pub mod ReportLemmas
 pub mod TurnedLemmas
+pub mod BeginLemmas
+pub mod OpeningLemmas
+pub mod PictureLemmas
+pub mod Worked
+pub mod SharesLemmas

@@ -4,6 +4,7 @@ pub mod Functions
 pub mod Tallies
 pub mod Turned
 pub mod Boxes
+pub mod Pictures
 pub mod Graphs
 pub mod Flames
 pub mod Reports

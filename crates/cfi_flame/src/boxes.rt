@@ -5,6 +5,7 @@ ghost use Rattle.cfi_flame.specs.Boxes.{begins, box_view, boxes_of, depth_in, en
 ghost use Rattle.cfi_flame.specs.Boxes.{name_in, opening, openings, opens, total_of, weight};
 ghost use Rattle.cfi_flame.specs.Boxes.{wide_boxes};
 ghost use Rattle.cfi_flame.specs.FoldedStacks.{stack_view};
+ghost use Rattle.cfi_flame.specs.Pictures.{AreInOrder, ArePlain, AreShares, IsPicture};
 
 use crate::folded::{SEPARATOR, Stack, last_part};
 use std::alloc::{AllocError, Global};
@@ -58,8 +59,12 @@ pub fn boxes_of<'text>(
     stacks: &[Stack<'text>],
 ) -> Result<Vec<FlameBox<'text>>, AllocError>
     requires { total_of (map stack_view stacks.now) < 2 ^ 64 }
-    ensures { IfOk result (λ boxes.
+    ensures boxes { IfOk result (λ boxes.
         map box_view boxes.items ≡ boxes_of (map stack_view stacks.now)) }
+    ensures picture { IfOk result (λ boxes. IsPicture (map box_view boxes.items)) }
+    ensures shares { AreInOrder (map stack_view stacks.now) → ArePlain (map stack_view stacks.now)
+        → IfOk result (λ boxes.
+        AreShares (map stack_view stacks.now) (map box_view boxes.items)) }
 {
     let mut boxes = Vec::new(alloc);
     let mut before = None;
@@ -183,8 +188,10 @@ pub fn wide_boxes<'text>(
     total: u64,
     boxes: &[FlameBox<'text>],
 ) -> Result<Vec<FlameBox<'text>>, AllocError>
-    ensures { IfOk result (λ wide.
+    ensures wide { IfOk result (λ wide.
         map box_view wide.items ≡ wide_boxes least total (map box_view boxes.now)) }
+    ensures picture { IsPicture (map box_view boxes.now)
+        → IfOk result (λ wide. IsPicture (map box_view wide.items)) }
 {
     let mut wide = Vec::new(alloc);
     for found in boxes {

@@ -42,7 +42,7 @@ pub const BEFORE_BOXES: &[u8] = b"</text>
 pub const BEHIND_BOXES: &[u8] = b"</svg>
 <script><![CDATA[
 const boxes = Array.from(document.querySelectorAll('#boxes > svg'), (box) => ({
-  box, name: box.querySelector('text').textContent,
+  box, text: box.querySelector('text'), name: box.querySelector('text').textContent,
   details: box.querySelector('title').textContent,
   left: parseFloat(box.getAttribute('x')), width: parseFloat(box.getAttribute('width')),
   row: parseFloat(box.getAttribute('y')) }));
@@ -59,6 +59,13 @@ function zoom(to) {
     b.box.classList.toggle('around', around);
     b.box.setAttribute('x', around ? '0%' : (b.left - to.left) / to.width * 100 + '%');
     b.box.setAttribute('width', around ? '100%' : b.width / to.width * 100 + '%');
+  }
+  fit();
+}
+function fit() {
+  for (const b of boxes) {
+    const pixels = parseFloat(b.box.getAttribute('width')) / 100 * innerWidth;
+    b.text.style.display = pixels < 20 ? 'none' : '';
   }
 }
 function search(text) {
@@ -82,6 +89,8 @@ for (const b of boxes) {
   b.box.addEventListener('focus', tell);
   b.box.addEventListener('keydown', (e) => { if (e.key === 'Enter') zoom(b); });
 }
+fit();
+window.addEventListener('resize', fit);
 window.addEventListener('keydown', (e) => {
   if (e.key === 'Escape') zoom(whole);
   if (e.key === '/') { e.preventDefault(); search(prompt('Search for a function') || ''); }
