@@ -6,7 +6,7 @@ use Rattle.cfi_object.specs.declared.input.InputError.{InputError}
 use Rattle.cfi_inputs.specs.Refusals.{input_refusal}
 use Rattle.cfi_programs.specs.Lines.{Line}
 use Rattle.cfi_programs.specs.WriterOutput.{Prints, PrintsSome}
-use Rattle.cfi_programs.specs.declared.style.Format.TheVariants.{Text}
+use Rattle.cfi_programs.specs.declared.style.Format.{Format}
 
 left_is : (known : Option (List ℕ)) → AreLeft known (unwrap_or known [])
 left_is None = tt
@@ -17,8 +17,8 @@ for_input : (known : Option (List ℕ)) (P : List ℕ → Type 0) → ((bytes : 
 for_input known P each = (unwrap_or known [], left_is known, each (unwrap_or known []))
 
 -- what is right for the bytes that were read, and for why none were, is right for the input
-pub owed_of_read : {T E : Type 0} (bytes_of : T → List ℕ) (known : Option (List ℕ)) (Is Owed : List ℕ → Line → Type 0) (old new : Option (List ℕ)) (r : Result ℕ E) (read : Result T InputError) →
-    ((bytes : List ℕ) (line : Line) → Is bytes line → Owed bytes line) → ((bytes : List ℕ) (error : InputError) → Owed bytes (input_refusal Text error)) → IfOk read (λ text. AreLeft known (bytes_of text)) →
-    MatchResult read (λ text. PrintsSome (λ line. Is (bytes_of text) line) old new r) (λ error. Prints (input_refusal Text error) old new r) → (bytes : List ℕ) × AreLeft known bytes × PrintsSome (λ line. Owed bytes line) old new r
-owed_of_read bytes_of known Is Owed old new r (Ok text) whole unread left (line, prints, is) = (bytes_of text, left, (line, prints, whole (bytes_of text) line is))
-owed_of_read bytes_of known Is Owed old new r (Err error) whole unread left prints = for_input known _ (λ bytes. (input_refusal Text error, prints, unread bytes error))
+pub owed_of_read : {T E : Type 0} (format : Format) (bytes_of : T → List ℕ) (known : Option (List ℕ)) (Is Owed : List ℕ → Line → Type 0) (old new : Option (List ℕ)) (r : Result ℕ E) (read : Result T InputError) →
+    ((bytes : List ℕ) (line : Line) → Is bytes line → Owed bytes line) → ((bytes : List ℕ) (error : InputError) → Owed bytes (input_refusal format error)) → IfOk read (λ text. AreLeft known (bytes_of text)) →
+    MatchResult read (λ text. PrintsSome (λ line. Is (bytes_of text) line) old new r) (λ error. Prints (input_refusal format error) old new r) → (bytes : List ℕ) × AreLeft known bytes × PrintsSome (λ line. Owed bytes line) old new r
+owed_of_read format bytes_of known Is Owed old new r (Ok text) whole unread left (line, prints, is) = (bytes_of text, left, (line, prints, whole (bytes_of text) line is))
+owed_of_read format bytes_of known Is Owed old new r (Err error) whole unread left prints = for_input known _ (λ bytes. (input_refusal format error, prints, unread bytes error))

@@ -6,6 +6,7 @@ mod FolderLemmas
 mod GivenLemmas
 mod LevelLemmas
 mod NumberLemmas
+mod ObjectLemmas
 mod OptionLemmas
 mod PlaceLemmas
 mod ProcessLemmas

@@ -34,7 +34,7 @@ use Rattle.cfi.specs.FlameOutputs.{IsOwed as IsOwedOfFolded, OfStacks}
 use Rattle.cfi.specs.Findings.{greatest_status, tally_in}
 use Rattle.cfi.specs.Words.{asked}
 use Rattle.cfi_programs.specs.declared.style.Format.{Format}
-use Rattle.cfi.specs.Tasks.{Task, no_times, of_request, task_for}
+use Rattle.cfi.specs.Tasks.{Task, no_times, no_width, of_request, task_for}
 use Rattle.cfi.specs.Process.{AreChecks, AreStacks, AreTallied, AreThreads, Checks, ChecksStyled, Disk, Ends, IsAnswer, IsAnswerTo, IsCheck, IsCheckOf, IsPrint, IsStatusAfter, IsStatusOf, IsSummary, MayOpenAt, MayOpenNamed, PrintsRun, WritesChecks, disk_of, kept, no_checks, nothing, tallied, tally_line, with_check}
 
 -- ---- checks one after the other
@@ -273,6 +273,10 @@ refused disk words error old status kinds memory after = explained disk words (a
 -- where a text isn't two times
 pub no_times_told : (E : Type 0) (disk : Disk) (task : Task) (text : Text) (old : Option (List ℕ)) → no_times text ≡ task → PrintsSome {E = E} (λ line. IsAnswer disk task line) old old (Ok 2)
 no_times_told E disk task text old is = (nothing, (none_yet old, refl), subst (λ (what : Task). IsAnswer disk what nothing) is refl)
+
+-- or a text isn't a width
+pub no_width_told : (E : Type 0) (disk : Disk) (task : Task) (text : Text) (old : Option (List ℕ)) → no_width text ≡ task → PrintsSome {E = E} (λ line. IsAnswer disk task line) old old (Ok 2)
+no_width_told E disk task text old is = (nothing, (none_yet old, refl), subst (λ (what : Task). IsAnswer disk what nothing) is refl)
 
 pub wordless : (disk : Disk) (old : Option (List ℕ)) → PrintsRun disk None old old 2
 wordless disk old = (nothing, refl, ([], none_yet old, inl (refl, refl)))

@@ -8,6 +8,8 @@ use Rattle.clap.specs.declared.error.kind.ErrorKind.TheVariants.{DisplayHelp, Di
 use Rattle.clap.proofs.OnLiterals.{clap_on_literals}
 use Rattle.cfi_programs.specs.declared.style.Format.TheVariants as form
 use Rattle.hex.specs.Hex.{encode_with}
+use Rattle.cfi.specs.Tasks as task
+use Rattle.cfi.specs.Tasks.{task_for}
 use Rattle.cfi.specs.CommandLine.{Samples, cfi_app, check, dump, flame, fold, report, row, rows, stack, unwind}
 use Rattle.cfi.specs.Findings.{tally_in}
 use Rattle.cfi.specs.Folders.{Folders, copy_path, debug_path, path_below}
@@ -253,10 +255,10 @@ a_debug_file_in_a_folder = refl
 
 -- ---- folded stacks
 
-folded : asked (codes "cfi" ∷ codes "flame" ∷ codes "-" ∷ []) ≡ Some (flame None (codes "-"))
+folded : asked (codes "cfi" ∷ codes "flame" ∷ codes "-" ∷ []) ≡ Some (flame None false None (codes "-"))
 folded = refl
 
-a_title : asked (codes "cfi" ∷ codes "flame" ∷ codes "--title" ∷ codes "ls -lR" ∷ codes "-" ∷ []) ≡ Some (flame (Some (codes "ls -lR")) (codes "-"))
+a_title : asked (codes "cfi" ∷ codes "flame" ∷ codes "--title" ∷ codes "ls -lR" ∷ codes "-" ∷ []) ≡ Some (flame (Some (codes "ls -lR")) false None (codes "-"))
 a_title = refl
 
 folded_is_not_raw : asked (codes "cfi" ∷ codes "flame" ∷ codes "--raw" ∷ codes "-" ∷ []) ≡ None
@@ -265,8 +267,20 @@ folded_is_not_raw = refl
 folded_has_no_format : asked (codes "cfi" ∷ codes "flame" ∷ codes "-" ∷ codes "--format=text" ∷ []) ≡ None
 folded_has_no_format = refl
 
-folded_report : asked (codes "cfi" ∷ codes "report" ∷ codes "-" ∷ []) ≡ Some (report (codes "-"))
+folded_report : asked (codes "cfi" ∷ codes "report" ∷ codes "-" ∷ []) ≡ Some (report form.Text (codes "-"))
 folded_report = refl
+
+by_callers : asked (codes "cfi" ∷ codes "flame" ∷ codes "-" ∷ codes "--reverse" ∷ codes "--min-width=0.1" ∷ []) ≡ Some (flame None true (Some (codes "0.1")) (codes "-"))
+by_callers = refl
+
+a_width : task_for (flame None true (Some (codes "0.1")) (codes "-")) ≡ task.flame (record { title = codes "Flame graph"; reverse = true; least = 100000000 }) (codes "-")
+a_width = refl
+
+no_width : task_for (flame None true (Some (codes "1px")) (codes "-")) ≡ task.no_width (codes "1px")
+no_width = refl
+
+reported_objects : asked (codes "cfi" ∷ codes "report" ∷ codes "--format" ∷ codes "json" ∷ codes "-" ∷ []) ≡ Some (report form.Json (codes "-"))
+reported_objects = refl
 
 folded_profile : asked (codes "cfi" ∷ codes "fold" ∷ codes "perf.data" ∷ []) ≡ Some (fold false all_samples no_folders (codes "perf.data"))
 folded_profile = refl

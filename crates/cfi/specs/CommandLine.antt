@@ -60,7 +60,8 @@ samples_view samples = record {
 -- first whether registers are printed by number, or stacks without functions, and the form of what
 -- is printed; for a check, whether files with faithful tables have no line; for folded stacks,
 -- whether they are counted by periods; for a core file, which thread alone; for a flame graph, its
--- title
+-- title, whether stacks are read from the innermost function out, and the least width of a box, a
+-- text
 pub data Asked : Type 0 where
   row : Bool → Format → Text → List Text → Asked
   rows : Bool → Format → Text → Option Text → Asked
@@ -69,8 +70,8 @@ pub data Asked : Type 0 where
   table : Bool → Text → Asked
   unwind : Bool → Format → Samples → Folders → Text → Asked
   stack : Bool → Format → Option ℕ → Folders → Text → Asked
-  flame : Option Text → Text → Asked
-  report : Text → Asked
+  flame : Option Text → Bool → Option Text → Text → Asked
+  report : Format → Text → Asked
   fold : Bool → Samples → Folders → Text → Asked
 
 abbrev pub command_view : Command → Asked
@@ -86,8 +87,9 @@ command_view (command.Unwind raw format samples folders file) =
     unwind raw format (samples_view samples) (folders_view folders) file.now
 command_view (command.Stack raw format thread folders file) =
     stack raw format thread (folders_view folders) file.now
-command_view (command.Flame title file) = flame (text_view title) file.now
-command_view (command.Report file) = report file.now
+command_view (command.Flame title reverse min_width file) =
+    flame (text_view title) reverse (text_view min_width) file.now
+command_view (command.Report format file) = report format file.now
 command_view (command.Fold period samples folders file) =
     fold period (samples_view samples) (folders_view folders) file.now
 
@@ -143,6 +145,9 @@ quiet_rule = flag_rule (codes "quiet")
 
 abbrev pub period_rule : Rule
 period_rule = flag_rule (codes "period")
+
+abbrev pub reverse_rule : Rule
+reverse_rule = flag_rule (codes "reverse")
 
 -- an option with any text for a value, and one with a number
 abbrev pub text_rule : Text → Rule
@@ -236,6 +241,9 @@ quiet_in = has_value (codes "quiet") (codes "true")
 abbrev pub period_in : (Text → List Text) → Bool
 period_in = has_value (codes "period") (codes "true")
 
+abbrev pub reverse_in : (Text → List Text) → Bool
+reverse_in = has_value (codes "reverse") (codes "true")
+
 abbrev pub format_in : (Text → List Text) → Format
 format_in values =
     if has_value (codes "format") (codes "json") values then form.Json else form.Text
@@ -262,11 +270,9 @@ folders_in values = record {
 -- a command that has one file, and the flag `--raw` at most
 abbrev pub of_one_file : Text → Bool → Text → Asked
 of_one_file name raw file =
-    if bytes_eq name (codes "dump") then dump raw file
-    else if bytes_eq name (codes "table") then table raw file
-    else report file
+    if bytes_eq name (codes "dump") then dump raw file else table raw file
 
--- or that prints the stacks of a profile or a core file, or a graph of stacks
+-- or that prints the stacks of a profile or a core file, or a graph or the functions of stacks
 abbrev pub of_stacks : Text → (Text → List Text) → Asked
 of_stacks name values =
     let file = file_in values in
@@ -277,7 +283,9 @@ of_stacks name values =
     (number_in (codes "thread") values) folders file
     else if bytes_eq name (codes "fold") then fold (period_in values) (samples_in values) folders
     file
-    else if bytes_eq name (codes "flame") then flame (first_in values (codes "title")) file
+    else if bytes_eq name (codes "flame") then flame (first_in values (codes "title"))
+    (reverse_in values) (first_in values (codes "min-width")) file
+    else if bytes_eq name (codes "report") then report (format_in values) file
     else of_one_file name (raw_in values) file
 
 -- by the name of a command, and the values at each name

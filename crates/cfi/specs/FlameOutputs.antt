@@ -1,51 +1,80 @@
--- What is printed for folded stacks: their flame graph, or their report.
+-- What is printed for folded stacks: their flame graph, or their functions.
 --     IsOwed summary text printed      the output for the bytes of a file
 use Rattle.std.specs.Prelude.{◌≡◌, ◌⊎◌, ℕ, List, ◌++◌, codes, map}
 use Rattle.std.specs.Fmt.{decimal}
-use Rattle.cfi_flame.specs.Flames.{IsOfPlain, IsPlainRefused}
+use Rattle.cfi_flame.specs.Flames.{Drawing, IsOfPlain, IsPlainRefused, drawing_view}
 use Rattle.cfi_flame.specs.FoldedStacks.{plain}
-use Rattle.cfi_flame.specs.Reports.{IsReport, IsReportRefused}
+use Rattle.cfi_flame.specs.Functions.{Row}
+use Rattle.cfi_flame.specs.Reports.{IsRanking, IsReport, IsReportRefused}
 use Rattle.cfi_flame.specs.declared.folded.FoldedError.{FoldedError}
 use Rattle.cfi_flame.specs.declared.folded.FoldedError.TheVariants.{OutOfMemory, NotFolded}
 use Rattle.cfi_flame.specs.declared.folded.FoldedError.TheVariants.{NoSamples, TooManySamples}
-use Rattle.cfi_programs.specs.Lines.{Line, line, wrong_input}
+use Rattle.cfi_programs.specs.Lines.{Line, line, reason_line, refused_line}
+use Rattle.cfi_programs.specs.declared.style.Format.{Format}
+use Rattle.cfi_programs.specs.declared.style.Format.TheVariants.{Text, Json}
+use Rattle.cfi.specs.FunctionObjects.{not_folded_object, objects_text}
 use Rattle.cfi.specs.declared.flames.Summary.{Summary}
 use Rattle.cfi.specs.declared.flames.Summary.TheVariants.{FlameGraph, Report}
 
--- their graph, with a title, or the table of their functions
+-- their graph, drawn so, or their functions in a format
 pub data OfStacks : Type 0 where
-  graph : List ℕ → OfStacks
-  table : OfStacks
+  graph : Drawing → OfStacks
+  table : Format → OfStacks
 
 abbrev pub summary_view : Summary → OfStacks
-summary_view (FlameGraph title) = graph title.now
-summary_view Report = table
+summary_view (FlameGraph drawing) = graph (drawing_view drawing)
+summary_view (Report format) = table format
+
+-- in which format it is said that there is none
+abbrev pub format_of : OfStacks → Format
+format_of (graph drawing) = Text
+format_of (table format) = format
 
 -- with the number of the line that isn't folded, from 1
-abbrev pub refusal : FoldedError → Line
-refusal OutOfMemory = line (codes "refused OutOfMemory") 1
-refusal (NotFolded number) = line (codes "refused NotFolded " ++ decimal number) 1
-refusal NoSamples = line (codes "refused NoSamples") 1
-refusal TooManySamples = line (codes "refused TooManySamples") 1
+abbrev pub not_folded : Format → ℕ → Line
+not_folded Text number = line (codes "refused NotFolded " ++ decimal number) 1
+not_folded Json number = record { text = not_folded_object number; status = 1 }
+
+abbrev pub refusal : Format → FoldedError → Line
+refusal format OutOfMemory = refused_line format (codes "OutOfMemory")
+refusal format (NotFolded number) = not_folded format number
+refusal format NoSamples = refused_line format (codes "NoSamples")
+refusal format TooManySamples = refused_line format (codes "TooManySamples")
 
 abbrev pub made_line : List ℕ → Line
 made_line made = record { text = made; status = 0 }
 
+-- the functions of the stacks of a plain text, as objects
+abbrev pub AreObjects : List ℕ → List ℕ → Type 0
+AreObjects text made =
+    (all : ℕ) × (ranked : List Row) × IsRanking text all ranked
+    × (made ≡ objects_text all ranked)
+
+-- or why there are none
+abbrev pub IsOfObjects : List ℕ → Line → Type 0
+IsOfObjects text printed =
+    ((made : List ℕ) × AreObjects text made × (printed ≡ made_line made))
+    ⊎ ((error : FoldedError) × IsReportRefused text error × (printed ≡ refusal Json error))
+
 -- of the stacks of a text
 abbrev pub IsMade : OfStacks → List ℕ → List ℕ → Type 0
-IsMade (graph title) text made = IsOfPlain title (map plain text) made
-IsMade table text made = IsReport (map plain text) made
+IsMade (graph drawing) text made = IsOfPlain drawing (map plain text) made
+IsMade (table Text) text made = IsReport (map plain text) made
+IsMade (table Json) text made = AreObjects (map plain text) made
 
 -- why there is none
 abbrev pub IsUnmade : OfStacks → List ℕ → FoldedError → Type 0
-IsUnmade (graph title) text error = IsPlainRefused (map plain text) error
-IsUnmade table text error = IsReportRefused (map plain text) error
+IsUnmade (graph drawing) text error = IsPlainRefused drawing (map plain text) error
+IsUnmade (table format) text error = IsReportRefused (map plain text) error
 
 abbrev pub IsOutput : OfStacks → List ℕ → Line → Type 0
 IsOutput summary text printed =
     ((made : List ℕ) × IsMade summary text made × (printed ≡ made_line made))
-    ⊎ ((error : FoldedError) × IsUnmade summary text error × (printed ≡ refusal error))
+    ⊎ ((error : FoldedError) × IsUnmade summary text error
+    × (printed ≡ refusal (format_of summary) error))
 
 -- or the input can't be read
 abbrev pub IsOwed : OfStacks → List ℕ → Line → Type 0
-IsOwed summary text printed = IsOutput summary text printed ⊎ (printed ≡ wrong_input)
+IsOwed summary text printed =
+    IsOutput summary text printed
+    ⊎ (printed ≡ reason_line (format_of summary) (codes "wrong input") 2)

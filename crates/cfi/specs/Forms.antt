@@ -80,6 +80,9 @@ quiet = record { name = codes "quiet"; value = no_value }
 abbrev pub period : LongOption
 period = record { name = codes "period"; value = no_value }
 
+abbrev pub reverse : LongOption
+reverse = record { name = codes "reverse"; value = no_value }
+
 abbrev pub format : LongOption
 format = record { name = codes "format"; value = format_name }
 
@@ -131,10 +134,12 @@ stack_form =
     form (codes "stack") (raw ∷ format ∷ number_option (codes "thread") ∷ folder_options) one_file
 
 abbrev pub flame_form : Form
-flame_form = form (codes "flame") (text_option (codes "title") ∷ []) one_file
+flame_form =
+    form (codes "flame")
+    (text_option (codes "title") ∷ reverse ∷ text_option (codes "min-width") ∷ []) one_file
 
 abbrev pub report_form : Form
-report_form = form (codes "report") [] one_file
+report_form = form (codes "report") (format ∷ []) one_file
 
 abbrev pub fold_form : Form
 fold_form = form (codes "fold") (period ∷ sample_options ++ folder_options) one_file

@@ -6,5 +6,6 @@ pub mod Words
 pub mod Times
 pub mod Tasks
 pub mod Openings
+pub mod FunctionObjects
 pub mod FlameOutputs
 pub mod Process

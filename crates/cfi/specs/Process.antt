@@ -37,8 +37,8 @@ use Rattle.cfi.specs.FlameOutputs.{IsOwed as IsOwedOfFolded, OfStacks, graph, ta
 use Rattle.cfi.specs.declared.files.CheckStyle.{CheckStyle}
 use Rattle.cfi.specs.Findings.{greatest_status, tally_in}
 use Rattle.cfi_programs.specs.declared.style.Format.{Format}
-use Rattle.cfi.specs.Tasks.{OfRequest, Task, check, flame, no_times, of_request, print, report}
-use Rattle.cfi.specs.Tasks.{stack, task_for, unwind}
+use Rattle.cfi.specs.Tasks.{OfRequest, Task, check, flame, no_times, no_width, of_request, print}
+use Rattle.cfi.specs.Tasks.{report, stack, task_for, unwind}
 use Rattle.cfi.specs.Words.{asked}
 
 -- The files of a system: what a path may be opened to, where files of any kind are opened or
@@ -200,8 +200,9 @@ IsAnswer disk (unwind listing choice folders name) printed =
     AreStacks disk listing choice folders name printed
 IsAnswer disk (stack listing folders name) printed = AreThreads disk listing folders name printed
 IsAnswer disk (no_times text) printed = printed ≡ nothing
-IsAnswer disk (flame title name) printed = IsSummary disk (graph title) name printed
-IsAnswer disk (report name) printed = IsSummary disk table name printed
+IsAnswer disk (no_width text) printed = printed ≡ nothing
+IsAnswer disk (flame drawing name) printed = IsSummary disk (graph drawing) name printed
+IsAnswer disk (report format name) printed = IsSummary disk (table format) name printed
 
 -- the status after a text of clap's, which may be 0 after help; 2 where the text can't be written
 abbrev pub IsStatusAfter : ErrorKind → ℕ → Type 0

@@ -1,7 +1,8 @@
 -- What a command is to do.
-use Rattle.std.specs.Prelude.{Bool, List, Option, Some, None, codes, map, option_map, unwrap_or}
+use Rattle.std.specs.Prelude.{ℕ, Bool, List, Option, Some, None, codes, map, option_map, unwrap_or}
 use Rattle.std.specs.Option.{option_map_or}
 use Rattle.clap.specs.Words.{Text}
+use Rattle.cfi_flame.specs.Flames.{Drawing, drawing_view}
 use Rattle.cfi_files.specs.declared.request.Printed.{Printed}
 use Rattle.cfi_files.specs.declared.request.Printed.TheVariants as printing
 use Rattle.cfi_files.specs.declared.request.Request.{Request}
@@ -14,12 +15,12 @@ use Rattle.cfi_stacks.specs.declared.listing.ThreadListing.{ThreadListing}
 use Rattle.cfi.specs.declared.files.CheckStyle.{CheckStyle}
 use Rattle.cfi.specs.declared.task.Task.{Task as TaskOfCode}
 use Rattle.cfi.specs.declared.task.Task.TheVariants.{Print, Check, Unwind, Stack, Flame}
-use Rattle.cfi.specs.declared.task.Task.TheVariants.{NoTimes, Report}
+use Rattle.cfi.specs.declared.task.Task.TheVariants.{NoTimes, NoWidth, Report}
 use Rattle.cfi.specs.declared.times.Times.{Times}
 use Rattle.cfi.specs.CommandLine.{Asked, Samples}
 use Rattle.cfi.specs.CommandLine as asked
 use Rattle.cfi.specs.Folders.{Folders, folders_view}
-use Rattle.cfi.specs.Times.{times_of}
+use Rattle.cfi.specs.Times.{time_of, times_of}
 
 -- what is printed of a file, with the bytes of the words, in a format where there is a choice
 pub data OfFile : Type 0 where
@@ -49,15 +50,16 @@ of_request request = asking request.raw (of_file request.printed)
 
 -- to print something of a file; to check files, in a style; to print the stacks of samples of a
 -- profile, as listed, or of threads of a core file, by files in folders; to say that a text isn't
--- two times; or the flame graph of folded stacks with a title, or their report
+-- two times, or isn't a width; or the flame graph of folded stacks, drawn so, or their functions
 pub data Task : Type 0 where
   print : Text → OfRequest → Task
   check : List Text → CheckStyle → Task
   unwind : Listing → Choice → Folders → Text → Task
   stack : ThreadListing → Folders → Text → Task
   no_times : Text → Task
-  flame : Text → Text → Task
-  report : Text → Task
+  no_width : Text → Task
+  flame : Drawing → Text → Task
+  report : Format → Text → Task
 
 abbrev pub task_view : TaskOfCode → Task
 task_view (Print file request) = print file.now (of_request request)
@@ -66,8 +68,9 @@ task_view (Unwind file listing choice folders) =
     unwind listing (choice_view choice) (folders_view folders) file.now
 task_view (Stack file listing folders) = stack listing (folders_view folders) file.now
 task_view (NoTimes text) = no_times text.now
-task_view (Flame title file) = flame title.now file.now
-task_view (Report file) = report file.now
+task_view (NoWidth text) = no_width text.now
+task_view (Flame drawing file) = flame (drawing_view drawing) file.now
+task_view (Report format file) = report format file.now
 
 -- the samples of a profile, between two times
 abbrev pub between : Samples → Times → Choice
@@ -99,6 +102,23 @@ abbrev pub listing_for : Bool → Format → Listing
 listing_for raw form.Text = Frames raw
 listing_for raw form.Json = Json raw
 
+-- with this title, and boxes of this width at least
+abbrev pub drawn : Option Text → Bool → ℕ → Text → Task
+drawn title reverse least file =
+    flame
+    (record { title = unwrap_or title (codes "Flame graph"); reverse = reverse; least = least })
+    file
+
+-- by the width that a text is, if it is one: pixels as seconds, in billionths
+abbrev pub by_width : Option Text → Bool → Text → Text → Option ℕ → Task
+by_width title reverse file text None = no_width text
+by_width title reverse file text (Some least) = drawn title reverse least file
+
+abbrev pub drawing : Option Text → Bool → Option Text → Text → Task
+drawing title reverse min_width file =
+    option_map_or (λ text. by_width title reverse file text (time_of text)) min_width
+    (drawn title reverse 0 file)
+
 -- for what the words ask for
 abbrev pub task_for : Asked → Task
 task_for (asked.row raw format file addresses) = print file (asking raw (row_of format addresses))
@@ -111,7 +131,7 @@ task_for (asked.unwind raw format samples folders file) =
     unwinding (listing_for raw format) samples folders file
 task_for (asked.stack raw format thread folders file) =
     stack (record { raw = raw; format = format; thread = thread }) folders file
-task_for (asked.flame title file) = flame (unwrap_or title (codes "Flame graph")) file
-task_for (asked.report file) = report file
+task_for (asked.flame title reverse min_width file) = drawing title reverse min_width file
+task_for (asked.report format file) = report format file
 task_for (asked.fold period samples folders file) =
     unwinding (Folded period) samples folders file

@@ -1,5 +1,5 @@
 -- The times of `--time`, one range of the form that perf-script(1) has: `FROM,UNTIL`, in seconds.
---     time_of text      a time in nanoseconds
+--     time_of text      a time in nanoseconds, or another number in billionths
 --     times_of text      two times, of which each may be left out
 use Rattle.std.specs.Prelude.{ℕ, ◌==◌, ◌&&◌, Bool, [], ◌∷◌, ◌++◌, Option, Some, None, codes}
 use Rattle.std.specs.Prelude.{drop, length, nat_le, option_map, if◌then◌else◌}

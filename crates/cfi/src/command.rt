@@ -10,7 +10,8 @@ ghost use Rattle.cfi.specs.CommandLine.{folders_in, form_app, format_in, format_
 ghost use Rattle.cfi.specs.CommandLine.{number_in, number_rule, of_one_file, of_stacks, period_in};
 ghost use Rattle.cfi.specs.CommandLine.{period_rule, plain_app, quiet_in, quiet_rule, raw_in};
 ghost use Rattle.cfi.specs.CommandLine.{raw_rule, samples_in, samples_view, text_rule, text_view};
-ghost use Rattle.cfi.specs.CommandLine.{AddsOptions, first_in, top_app, values_in};
+ghost use Rattle.cfi.specs.CommandLine.{AddsOptions, first_in, reverse_in, reverse_rule, top_app};
+ghost use Rattle.cfi.specs.CommandLine.{values_in};
 ghost use Rattle.cfi.specs.Folders.{folders_view};
 ghost use Rattle.cfi.specs.Forms.{check_form, dump_form, flame_form, fold_form, folder_options};
 ghost use Rattle.cfi.specs.Forms.{format_names, report_form, row_form, rows_form, sample_options};
@@ -96,13 +97,17 @@ pub enum Command<'w> {
         folders: Folders<'w>,
         file: &'w str,
     },
-    /// `flame FILE`: the flame graph of folded stacks, with this title.
+    /// `flame FILE`: the flame graph of folded stacks, with this title; if `reverse`, of the stacks
+    /// from the innermost function out. Boxes that are narrower than the text says are left out.
     Flame {
         title: Option<&'w str>,
+        reverse: bool,
+        min_width: Option<&'w str>,
         file: &'w str,
     },
     /// `report FILE`: the functions of folded stacks, by their samples.
     Report {
+        format: Format,
         file: &'w str,
     },
     /// `fold FILE`: the folded stacks of these samples of a profile; if `period`, with the sums of
@@ -181,7 +186,8 @@ fn named<'w>(
     }
 }
 
-/// Returns the command of this name, which prints stacks, a graph of them, or has one file.
+/// Returns the command of this name, which prints stacks, a graph or the functions of them, or has
+/// one file.
 fn of_stacks<'w>(name: &str, arguments: &ArgMatches<'w>) -> Command<'w>
     ensures { of_stacks name.now (values_in (rows_of (found_of arguments.now)))
         ≡ command_view result }
@@ -212,6 +218,13 @@ fn of_stacks<'w>(name: &str, arguments: &ArgMatches<'w>) -> Command<'w>
     } else if name == "flame" {
         Command::Flame {
             title: text_in(arguments, "title"),
+            reverse: reverse_in(arguments),
+            min_width: text_in(arguments, "min-width"),
+            file: file_in(arguments),
+        }
+    } else if name == "report" {
+        Command::Report {
+            format: format_in(arguments),
             file: file_in(arguments),
         }
     } else {
@@ -225,10 +238,8 @@ fn of_one_file<'w>(name: &str, raw: bool, file: &'w str) -> Command<'w>
 {
     if name == "dump" {
         Command::Dump { raw, file }
-    } else if name == "table" {
-        Command::Table { raw, file }
     } else {
-        Command::Report { file }
+        Command::Table { raw, file }
     }
 }
 
@@ -268,6 +279,13 @@ fn quiet_in(arguments: &ArgMatches) -> bool
     ensures { result ≡ quiet_in (values_in (rows_of (found_of arguments.now))) }
 {
     has_value(arguments, "quiet", "true")
+}
+
+/// Returns whether `--reverse` was given.
+fn reverse_in(arguments: &ArgMatches) -> bool
+    ensures { result ≡ reverse_in (values_in (rows_of (found_of arguments.now))) }
+{
+    has_value(arguments, "reverse", "true")
 }
 
 /// Returns the number that was given for an option, if any.
@@ -350,7 +368,7 @@ fn cfi<'w>(alloc: Global, formats: &'w [&'w str]) -> Result<clap::Command<'w>, A
         .subcommand(unwind(alloc, formats)?)?
         .subcommand(stack(alloc, formats)?)?
         .subcommand(flame(alloc)?)?
-        .subcommand(report(alloc)?)?
+        .subcommand(report(alloc, formats)?)?
         .subcommand(fold(alloc)?)
 }
 
@@ -452,15 +470,18 @@ fn flame<'w>(alloc: Global) -> Result<clap::Command<'w>, AllocError>
     clap::Command::new(alloc, "flame")
         .about("Prints the flame graph of folded stacks, an SVG")
         .arg(title_option(alloc))?
+        .arg(reverse_flag(alloc))?
+        .arg(width_option(alloc))?
         .arg(folded_file(alloc))
 }
 
 /// Returns the command `report`.
-fn report<'w>(alloc: Global) -> Result<clap::Command<'w>, AllocError>
-    ensures { IfOk result (IsApp (plain_app report_form)) }
+fn report<'w>(alloc: Global, formats: &'w [&'w str]) -> Result<clap::Command<'w>, AllocError>
+    ensures { IfOk result (IsApp (form_app (Names formats.entry) report_form)) }
 {
     clap::Command::new(alloc, "report")
         .about("Prints the functions of folded stacks, by their samples")
+        .arg(format_flag(alloc, formats))?
         .arg(folded_file(alloc))
 }
 
@@ -576,6 +597,17 @@ fn period_flag<'w>(alloc: Global) -> Arg<'w>
         .action(ArgAction::SetTrue)
 }
 
+/// Returns the flag `--reverse` of `flame`.
+fn reverse_flag<'w>(alloc: Global) -> Arg<'w>
+    ensures rule { rule_of result ≡ reverse_rule }
+    ensures local { result.global ≡ false }
+{
+    Arg::new(alloc, "reverse")
+        .help("Reads stacks from the innermost function out: above a function lie its callers")
+        .long("reverse")
+        .action(ArgAction::SetTrue)
+}
+
 /// Returns an option with any text for a value, which help calls `value`.
 fn text_option<'w>(alloc: Global, name: &'w str, value: &'w str, help: &'w str) -> Arg<'w>
     ensures rule { rule_of result ≡ text_rule name.entry.now }
@@ -605,6 +637,19 @@ fn title_option<'w>(alloc: Global) -> Arg<'w>
     ensures local { result.global ≡ false }
 {
     text_option(alloc, "title", "TEXT", "What stands above the graph")
+}
+
+/// Returns the option `--min-width` of `flame`.
+fn width_option<'w>(alloc: Global) -> Arg<'w>
+    ensures rule { rule_of result ≡ text_rule (codes "min-width") }
+    ensures local { result.global ≡ false }
+{
+    text_option(
+        alloc,
+        "min-width",
+        "PIXELS",
+        "Leaves out narrower boxes, as if the graph had 1,200 pixels; decimals may follow",
+    )
 }
 
 /// Returns the option `--thread` of `stack`.

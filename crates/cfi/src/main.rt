@@ -18,6 +18,7 @@ mod command;
 mod files;
 mod flames;
 mod folders;
+mod function_objects;
 mod profile;
 mod system;
 mod task;
@@ -117,10 +118,16 @@ fn run_command<S: System, W: Write>(system: &S, command: &Command, output: &mut 
             system.tell_no_times(text);
             Ok(WRONG)
         }
-        Task::Flame(title, file) => {
-            print_summary(system, Summary::FlameGraph(title), file, output)
+        Task::NoWidth(text) => {
+            system.tell_no_width(text);
+            Ok(WRONG)
         }
-        Task::Report(file) => print_summary(system, Summary::Report, file, output),
+        Task::Flame(drawing, file) => {
+            print_summary(system, Summary::FlameGraph(drawing), file, output)
+        }
+        Task::Report(format, file) => {
+            print_summary(system, Summary::Report(format), file, output)
+        }
     }
 }
 

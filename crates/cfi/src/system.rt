@@ -60,6 +60,9 @@ pub trait System {
     /// Says on standard error that the text isn't two times, as `cfi: TEXT: SENTENCE`.
     fn tell_no_times(&self, text: &str);
 
+    /// Says on standard error that the text isn't a width, as `cfi: TEXT: SENTENCE`.
+    fn tell_no_width(&self, text: &str);
+
     /// Says on standard error that for the file with this name none of the build that ran was
     /// found, as `cfi: FILE: SENTENCE`.
     fn tell_missing(&self, name: &[u8]);
@@ -173,6 +176,10 @@ impl<P: Env + Files + Print + Eprint + AllocGlobal> System for Host<'_, P> {
         let _ = eprintln!(self.rt;
             "cfi: {text}: no times: FROM,UNTIL are seconds with at most nine decimals, or empty"
         );
+    }
+
+    fn tell_no_width(&self, text: &str) {
+        let _ = eprintln!(self.rt; "cfi: {text}: no width: pixels with at most nine decimals");
     }
 
     fn tell_missing(&self, name: &[u8]) {

@@ -1,16 +1,17 @@
 //! What a command is to do.
 ghost use Rattle.std.specs.Prelude.{◌≡◌};
 ghost use Rattle.cfi_stacks.specs.Choices.{choice_view};
-ghost use Rattle.cfi.specs.CommandLine.{command_view, samples_view};
+ghost use Rattle.cfi.specs.CommandLine.{command_view, samples_view, text_view};
 ghost use Rattle.cfi.specs.Folders.{folders_view};
-ghost use Rattle.cfi.specs.Tasks.{asking, between, listing_for, of_file, print, task_for};
-ghost use Rattle.cfi.specs.Tasks.{task_view, unwinding};
+ghost use Rattle.cfi.specs.Tasks.{asking, between, drawing, drawn, listing_for, of_file, print};
+ghost use Rattle.cfi.specs.Tasks.{task_for, task_view, unwinding};
 
 use crate::command::{Command, Samples};
 use crate::files::CheckStyle;
 use crate::folders::Folders;
-use crate::times::{Times, times_of};
+use crate::times::{Times, time_of, times_of};
 use cfi_files::{Printed, Request};
+use cfi_flame::Drawing;
 use cfi_programs::style::Format;
 use cfi_stacks::{Choice, Listing, ThreadListing};
 
@@ -27,11 +28,12 @@ pub enum Task<'c> {
     Stack(&'c str, ThreadListing, Folders<'c>),
     /// Say that this text isn't two times.
     NoTimes(&'c str),
-    /// Print the flame graph, with this title, of the folded stacks of this file; `-` is standard
-    /// input.
-    Flame(&'c str, &'c str),
-    /// Print the table of the functions of the folded stacks of this file; `-` is standard input.
-    Report(&'c str),
+    /// Say that this text isn't a width.
+    NoWidth(&'c str),
+    /// Print the flame graph, drawn so, of the folded stacks of this file; `-` is standard input.
+    Flame(Drawing<'c>, &'c str),
+    /// Print the functions of the folded stacks of this file in a format; `-` is standard input.
+    Report(Format, &'c str),
 }
 
 /// Returns what the command is to do.
@@ -86,8 +88,13 @@ pub fn task_of<'c>(command: &'c Command<'c>) -> Task<'c>
             },
             *folders,
         ),
-        Command::Flame { title, file } => Task::Flame(title.unwrap_or("Flame graph"), file),
-        Command::Report { file } => Task::Report(file),
+        Command::Flame {
+            title,
+            reverse,
+            min_width,
+            file,
+        } => drawing(*title, *reverse, *min_width, file),
+        Command::Report { format, file } => Task::Report(*format, file),
         Command::Fold {
             period,
             samples,
@@ -136,6 +143,39 @@ fn unwinding<'c>(
         Some(times) => Task::Unwind(file, listing, between(samples, times), folders),
         None => Task::NoTimes(text),
     }
+}
+
+/// Returns the task to draw a flame graph, or to say that no width is asked for.
+fn drawing<'c>(
+    title: Option<&'c str>,
+    reverse: bool,
+    min_width: Option<&'c str>,
+    file: &'c str,
+) -> Task<'c>
+    ensures { task_view result
+        ≡ drawing (text_view title.entry) reverse (text_view min_width.entry) file.entry.now }
+{
+    let Some(text) = min_width else {
+        return drawn(title, reverse, 0, file);
+    };
+    match time_of(text) {
+        Some(least) => drawn(title, reverse, least, file),
+        None => Task::NoWidth(text),
+    }
+}
+
+/// Returns the task to draw a flame graph with boxes of this width at least.
+fn drawn<'c>(title: Option<&'c str>, reverse: bool, least_width: u64, file: &'c str) -> Task<'c>
+    ensures { task_view result
+        ≡ drawn (text_view title.entry) reverse least_width file.entry.now }
+{
+    let title = title.unwrap_or("Flame graph").as_bytes();
+    let drawing = Drawing {
+        title,
+        reverse,
+        least_width,
+    };
+    Task::Flame(drawing, file)
 }
 
 /// Returns the choice of these samples, between two times.

@@ -1,4 +1,4 @@
-//! The times of `--time`.
+//! The times of `--time`, and numbers with decimals.
 ghost use Rattle.std.specs.Prelude.{◌≡◌};
 ghost use Rattle.cfi_flame.specs.FoldedStacks.{number_from, with_digit};
 ghost use Rattle.cfi.specs.Times.{nanoseconds, side_of, time_of, times_of};
@@ -35,8 +35,9 @@ fn side_of(text: &str) -> Option<Option<u64>>
     Some(Some(time_of(text)?))
 }
 
-/// Parses a time, and returns its nanoseconds.
-fn time_of(text: &str) -> Option<u64>
+/// Parses a time, and returns its nanoseconds; or another number with at most nine decimals, and
+/// returns its billionths.
+pub fn time_of(text: &str) -> Option<u64>
     ensures { result ≡ time_of text.now }
 {
     match text.split_once('.') {

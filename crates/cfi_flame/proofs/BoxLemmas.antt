@@ -1,10 +1,11 @@
 -- The boxes of stacks, one stack after the other.
-use Rattle.std.proofs.Common.{◌≡◌, ◌∙◌, ℕ, suc, ◌+◌, ◌<◌, ◌≤◌, List, [], ◌∷◌, ◌++◌, Bool, true, false, Option, Some, length, get_or, drop, drop-cons, length-drop, map, take, subst, ◌-◌, ◌^◌, refl, sym, ap, append_assoc, add-one, arith}
+use Rattle.std.proofs.Common.{◌≡◌, ◌∙◌, ℕ, suc, ◌+◌, ◌<◌, ◌≤◌, List, [], ◌∷◌, ◌++◌, Bool, true, false, Option, Some, length, get_or, drop, drop-cons, length-drop, map, take, subst, ◌-◌, ◌^◌, refl, sym, ap, append_assoc, append-nil, add-one, arith, cond}
 use Rattle.std.proofs.lemmas.List.{drop_all, drop-map, get_or-map, length-map}
 use Rattle.std.proofs.Math.Seq.{take-length}
+use Rattle.cfi_flame.specs.declared.boxes.FlameBox.{FlameBox}
 use Rattle.cfi_flame.specs.declared.folded.Stack.{Stack as StackOfCode}
 use Rattle.cfi_flame.specs.FoldedStacks.{Stack, stack_view}
-use Rattle.cfi_flame.specs.Boxes.{Box, begins, boxes_from, openings, total_of, weight}
+use Rattle.cfi_flame.specs.Boxes.{Box, begins, box_view, boxes_from, is_wide, openings, total_of, weight, wide_boxes}
 
 pub next_stack : (stacks : List StackOfCode) (k : ℕ) (d : StackOfCode) → k < length stacks → drop k (map stack_view stacks) ≡ stack_view (get_or stacks k d) ∷ drop (k + 1) (map stack_view stacks)
 next_stack stacks k d h =
@@ -67,3 +68,29 @@ boxes_step found new all before n left s rest is h e =
     let e2 : new ≡ found ++ openings before n (s ∷ rest) = subst (λ (l : List Stack). new ≡ found ++ openings before n l) is e in
     ap (λ (x : List Box). x ++ boxes_from (Some s.frames) (n + s.count) rest) e2
     ∙ append_assoc found (openings before n (s ∷ rest)) (boxes_from (Some s.frames) (n + s.count) rest) ∙ h2
+
+-- one more box is wide or not
+pub wide_step : (kept new all : List Box) (least total : ℕ) (left : List Box) (b : Box) (rest : List Box) → left ≡ b ∷ rest → kept ++ wide_boxes least total left ≡ all →
+    new ≡ kept ++ wide_boxes least total (b ∷ []) → new ++ wide_boxes least total rest ≡ all
+wide_step kept new all least total left b rest is h e = by (is_wide least total b.width) refl
+  where
+    by : (w : Bool) → is_wide least total b.width ≡ w → new ++ wide_boxes least total rest ≡ all
+    by true w =
+        let h2 : kept ++ (b ∷ wide_boxes least total rest) ≡ all = ap (λ (x : Bool). kept ++ cond x (b ∷ wide_boxes least total rest) (wide_boxes least total rest)) (sym w) ∙ ap (λ (l : List Box). kept ++ wide_boxes least total l) (sym is) ∙ h in
+        let e2 : new ≡ kept ++ b ∷ [] = e ∙ ap (λ (x : Bool). kept ++ cond x (b ∷ []) []) w in
+        ap (λ (x : List Box). x ++ wide_boxes least total rest) e2 ∙ append_assoc kept (b ∷ []) (wide_boxes least total rest) ∙ h2
+    by false w =
+        let h2 : kept ++ wide_boxes least total rest ≡ all = ap (λ (x : Bool). kept ++ cond x (b ∷ wide_boxes least total rest) (wide_boxes least total rest)) (sym w) ∙ ap (λ (l : List Box). kept ++ wide_boxes least total l) (sym is) ∙ h in
+        let e2 : new ≡ kept = e ∙ ap (λ (x : Bool). kept ++ cond x (b ∷ []) []) w ∙ append-nil kept in
+        ap (λ (x : List Box). x ++ wide_boxes least total rest) e2 ∙ h2
+
+-- nothing is left
+pub boxes_end : (found all : List Box) (before : Option (List ℕ)) (n : ℕ) (stacks : List StackOfCode) (k : ℕ) → length stacks ≤ k → found ++ boxes_from before n (drop k (map stack_view stacks)) ≡ all → found ≡ all
+boxes_end found all before n stacks k ended h =
+    let none : drop k (map stack_view stacks) ≡ [] = drop_all k (map stack_view stacks) (rw length-map ended) in
+    sym (append-nil found) ∙ ap (λ (l : List Stack). found ++ boxes_from before n l) (sym none) ∙ h
+
+pub wide_end : (kept all : List Box) (least total : ℕ) (boxes : List FlameBox) (k : ℕ) → length boxes ≤ k → kept ++ wide_boxes least total (drop k (map box_view boxes)) ≡ all → kept ≡ all
+wide_end kept all least total boxes k ended h =
+    let none : drop k (map box_view boxes) ≡ [] = drop_all k (map box_view boxes) (rw length-map ended) in
+    sym (append-nil kept) ∙ ap (λ (l : List Box). kept ++ wide_boxes least total l) (sym none) ∙ h

@@ -2,11 +2,11 @@
 use Rattle.std.proofs.Common.{ℕ, List, Result, Ok, Err, IfOk, IfErr, inr}
 use Rattle.cfi_flame.specs.declared.folded.FoldedError.{FoldedError}
 use Rattle.cfi_flame.specs.FoldedStacks.{Stack}
-use Rattle.cfi_flame.specs.Flames.{AreSorted, IsOfSorted, IsOfStacks, IsSortedRefused, IsStacksRefused}
+use Rattle.cfi_flame.specs.Flames.{AreSorted, Drawing, IsOfSorted, IsOfStacks, IsSortedRefused, IsStacksRefused}
 
-pub sorted_drawn : {V E : Type 0} (items : V → List ℕ) (r : Result V E) (title : List ℕ) (stacks sorted : List Stack) → AreSorted stacks sorted → IfOk r (λ graph. IsOfSorted title sorted (items graph)) → IfOk r (λ graph. IsOfStacks title stacks (items graph))
-sorted_drawn items (Ok graph) title stacks sorted are h = (sorted, are, h)
-sorted_drawn items (Err e) title stacks sorted are h = tt
+pub sorted_drawn : {V E : Type 0} (items : V → List ℕ) (r : Result V E) (drawing : Drawing) (stacks sorted : List Stack) → AreSorted stacks sorted → IfOk r (λ graph. IsOfSorted drawing sorted (items graph)) → IfOk r (λ graph. IsOfStacks drawing stacks (items graph))
+sorted_drawn items (Ok graph) drawing stacks sorted are h = (sorted, are, h)
+sorted_drawn items (Err e) drawing stacks sorted are h = tt
 
 pub sorted_refused : {V : Type 0} (r : Result V FoldedError) (stacks sorted : List Stack) → AreSorted stacks sorted → IfErr r (IsSortedRefused sorted) → IfErr r (IsStacksRefused stacks)
 sorted_refused (Ok graph) stacks sorted are h = tt

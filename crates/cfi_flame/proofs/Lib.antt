@@ -5,3 +5,9 @@ pub mod FlameLemmas
 pub mod CountLemmas
 pub mod TallyLemmas
 pub mod ReportLemmas
+pub mod TurnedLemmas
+pub mod BeginLemmas
+pub mod OpeningLemmas
+pub mod PictureLemmas
+pub mod Worked
+pub mod SharesLemmas

@@ -3,8 +3,10 @@
 --     weight front stacks      the samples of the stacks that begin so, up to the first that does
 --         not
 --     boxes_of stacks      the boxes of sorted stacks
-use Rattle.std.specs.Prelude.{ℕ, ◌+◌, ◌==◌, ◌&&◌, Bool, true, not, List, [], ◌∷◌}
-use Rattle.std.specs.Prelude.{◌++◌, Option, Some, None, drop, length, nat_eq, if◌then◌else◌}
+--     wide_boxes least total boxes      those that are as wide as this
+use Rattle.std.specs.Prelude.{ℕ, ◌+◌, ◌*◌, ◌==◌, ◌&&◌, Bool, true, not, List, [], ◌∷◌}
+use Rattle.std.specs.Prelude.{◌++◌, Option, Some, None, drop, filter, length, nat_eq, nat_le}
+use Rattle.std.specs.Prelude.{if◌then◌else◌}
 use Rattle.std.specs.List.{count_by, starts_with}
 use Rattle.cfi_flame.specs.declared.boxes.FlameBox.{FlameBox}
 use Rattle.cfi_flame.specs.FoldedStacks.{Stack, last_part}
@@ -32,33 +34,27 @@ weight front (stack ∷ stacks) =
 
 -- ---- a box
 
--- The name of a function, how many call one another before it, the samples to the left of the box,
--- and those in it.
+-- The functions with which some stack begins, the samples to the left of the box, and those in it.
 pub record Box : Type 0 where
-  pub name : List ℕ
-  pub depth : ℕ
+  pub functions : List ℕ
   pub left : ℕ
   pub width : ℕ
 
 abbrev pub box_view : FlameBox → Box
-box_view found = record {
-  name = found.name.now;
-  depth = found.depth;
-  left = found.left;
-  width = found.width;
-}
+box_view found =
+    record { functions = found.functions.now; left = found.left; width = found.width }
 
+-- the name of the last function, and how many come before it
 abbrev pub name_in : List ℕ → List ℕ
 name_in front = drop (last_part 31 front) front
 
+abbrev pub depth_in : List ℕ → ℕ
+depth_in front = count_by (λ c. c == 31) front
+
 -- of the functions that begin the first of the stacks
 abbrev pub box_of : ℕ → List Stack → List ℕ → Box
-box_of left stacks front = record {
-  name = name_in front;
-  depth = count_by (λ c. c == 31) front;
-  left = left;
-  width = weight front stacks;
-}
+box_of left stacks front =
+    record { functions = front; left = left; width = weight front stacks }
 
 -- ---- the boxes
 
@@ -92,3 +88,14 @@ boxes_from before left (stack ∷ stacks) =
 
 abbrev pub boxes_of : List Stack → List Box
 boxes_of stacks = boxes_from None 0 stacks
+
+-- ---- the boxes that are drawn
+
+-- whether so many samples are as wide as this, in billionths of a pixel where all samples have
+-- 1,200 pixels
+abbrev pub is_wide : ℕ → ℕ → ℕ → Bool
+is_wide least total samples = nat_le (least * total) (samples * 1200000000000)
+
+-- narrower ones are left out
+abbrev pub wide_boxes : ℕ → ℕ → List Box → List Box
+wide_boxes least total boxes = filter (λ box. is_wide least total box.width) boxes

@@ -1,17 +1,36 @@
 -- The flame graph of folded stacks.
---     IsOfPlain title text graph      the file of the stacks of a plain text
---     IsPlainRefused text error      why there is none
-use Rattle.std.specs.Prelude.{◌≡◌, ◌⊎◌, ◌<◌, ◌^◌, ℕ, List, Ok, map}
+--     IsOfPlain drawing text graph      the file of the stacks of a plain text
+--     IsPlainRefused drawing text error      why there is none
+use Rattle.std.specs.Prelude.{◌≡◌, ◌⊎◌, ◌<◌, ◌^◌, ℕ, Bool, List, Ok, map}
 use Rattle.std.specs.Cmp.Lexicographic.{slice_cmp}
 use Rattle.std.specs.List.Sorted.{IsPermutation, IsSortedByKey}
 use Rattle.std.specs.Ordering.{nat_cmp}
+use Rattle.cfi_flame.specs.declared.flame.Drawing.{Drawing as DrawingOfCode}
 use Rattle.cfi_flame.specs.declared.folded.FoldedError.{FoldedError}
 use Rattle.cfi_flame.specs.declared.folded.FoldedError.TheVariants.{OutOfMemory, NotFolded}
 use Rattle.cfi_flame.specs.declared.folded.FoldedError.TheVariants.{NoSamples, TooManySamples}
 use Rattle.cfi_flame.specs.declared.folded.Stack.{Stack as StackOfCode}
-use Rattle.cfi_flame.specs.Boxes.{boxes_of, total_of}
+use Rattle.cfi_flame.specs.Boxes.{Box, boxes_of, total_of, wide_boxes}
 use Rattle.cfi_flame.specs.FoldedStacks.{IsRefused, Stack, stack_view, stacks_of}
 use Rattle.cfi_flame.specs.Graphs.{graph_text}
+use Rattle.cfi_flame.specs.Turned.{as_read}
+
+-- the title, whether stacks are read from the innermost function out, and the least width of a box
+pub record Drawing : Type 0 where
+  pub title : List ℕ
+  pub reverse : Bool
+  pub least : ℕ
+
+abbrev pub drawing_view : DrawingOfCode → Drawing
+drawing_view drawing = record {
+  title = drawing.title.now;
+  reverse = drawing.reverse;
+  least = drawing.least_width;
+}
+
+-- the boxes of sorted stacks, but for the narrow ones
+abbrev pub drawn_boxes : Drawing → List Stack → List Box
+drawn_boxes drawing sorted = wide_boxes drawing.least (total_of sorted) (boxes_of sorted)
 
 -- the stacks in the order of their bytes, in which those that begin with the same functions lie
 -- together
@@ -24,10 +43,10 @@ pub record AreSorted (stacks sorted : List Stack) : Type 0 where
   pub view : map stack_view ordered ≡ sorted
 
 -- of sorted stacks: they have samples
-abbrev pub IsOfSorted : List ℕ → List Stack → List ℕ → Type 0
-IsOfSorted title sorted graph =
+abbrev pub IsOfSorted : Drawing → List Stack → List ℕ → Type 0
+IsOfSorted drawing sorted graph =
     (0 < total_of sorted) × (total_of sorted < 2 ^ 64)
-    × (graph ≡ graph_text title (total_of sorted) (boxes_of sorted))
+    × (graph ≡ graph_text drawing.title (total_of sorted) (drawn_boxes drawing sorted))
 
 abbrev pub IsSortedRefused : List Stack → FoldedError → Type 0
 IsSortedRefused sorted OutOfMemory = Unit {0}
@@ -36,9 +55,9 @@ IsSortedRefused sorted NoSamples = total_of sorted ≡ 0
 IsSortedRefused sorted TooManySamples = ¬ (total_of sorted < 2 ^ 64)
 
 -- of stacks in any order
-abbrev pub IsOfStacks : List ℕ → List Stack → List ℕ → Type 0
-IsOfStacks title stacks graph =
-    (sorted : List Stack) × AreSorted stacks sorted × IsOfSorted title sorted graph
+abbrev pub IsOfStacks : Drawing → List Stack → List ℕ → Type 0
+IsOfStacks drawing stacks graph =
+    (sorted : List Stack) × AreSorted stacks sorted × IsOfSorted drawing sorted graph
 
 abbrev pub IsStacksRefused : List Stack → FoldedError → Type 0
 IsStacksRefused stacks error =
@@ -46,11 +65,13 @@ IsStacksRefused stacks error =
     ⊎ ((sorted : List Stack) × AreSorted stacks sorted × IsSortedRefused sorted error)
 
 -- of the stacks of a plain text
-abbrev pub IsOfPlain : List ℕ → List ℕ → List ℕ → Type 0
-IsOfPlain title text graph =
-    (stacks : List Stack) × (stacks_of text ≡ Ok stacks) × IsOfStacks title stacks graph
+abbrev pub IsOfPlain : Drawing → List ℕ → List ℕ → Type 0
+IsOfPlain drawing text graph =
+    (stacks : List Stack) × (stacks_of text ≡ Ok stacks)
+    × IsOfStacks drawing (as_read drawing.reverse stacks) graph
 
-abbrev pub IsPlainRefused : List ℕ → FoldedError → Type 0
-IsPlainRefused text error =
+abbrev pub IsPlainRefused : Drawing → List ℕ → FoldedError → Type 0
+IsPlainRefused drawing text error =
     IsRefused (stacks_of text) error
-    ⊎ ((stacks : List Stack) × (stacks_of text ≡ Ok stacks) × IsStacksRefused stacks error)
+    ⊎ ((stacks : List Stack) × (stacks_of text ≡ Ok stacks)
+    × IsStacksRefused (as_read drawing.reverse stacks) error)

@@ -7,7 +7,7 @@ use Rattle.std.specs.Prelude.{max, if◌then◌else◌}
 use Rattle.std.specs.List.{flat_map, fold}
 use Rattle.cfi_flame.specs.declared.graph.TheConstants.{BEFORE_ROWS, BEFORE_TITLE, BEFORE_BOXES}
 use Rattle.cfi_flame.specs.declared.graph.TheConstants.{BEHIND_BOXES}
-use Rattle.cfi_flame.specs.Boxes.{Box}
+use Rattle.cfi_flame.specs.Boxes.{Box, depth_in, name_in}
 
 -- the entities of XML
 abbrev pub escaped : ℕ → List ℕ
@@ -41,25 +41,28 @@ face_text name =
     ++ (codes ",80%,65%)\"/><text x=\"3\" y=\"13\">" ++ (flat_map escaped name
     ++ (codes "</text></svg>" ++ 10 ∷ [])))
 
+-- a box with this name
+abbrev pub named_text : ℕ → ℕ → List ℕ → ℕ → ℕ → List ℕ
+named_text row total name left width =
+    place_text (share left total) row (share (left + width) total - share left total)
+    ++ (details_text name width ++ face_text name)
+
 abbrev pub box_text : ℕ → ℕ → Box → List ℕ
-box_text row total box =
-    place_text (share box.left total) row
-    (share (box.left + box.width) total - share box.left total)
-    ++ (details_text box.name box.width ++ face_text box.name)
+box_text row total box = named_text row total (name_in box.functions) box.left box.width
 
 abbrev pub boxes_text : ℕ → ℕ → List Box → List ℕ
 boxes_text deepest total [] = []
 boxes_text deepest total (box ∷ boxes) =
-    box_text (deepest - box.depth) total box ++ boxes_text deepest total boxes
+    box_text (deepest - depth_in box.functions) total box ++ boxes_text deepest total boxes
 
 -- the box of all samples
 abbrev pub whole_text : ℕ → ℕ → List ℕ
 whole_text row total =
-    box_text row total (record { name = codes "all"; depth = 0; left = 0; width = total })
+    box_text row total (record { functions = codes "all"; left = 0; width = total })
 
 abbrev pub deepest_of : List Box → ℕ
 deepest_of [] = 0
-deepest_of (box ∷ boxes) = max box.depth (deepest_of boxes)
+deepest_of (box ∷ boxes) = max (depth_in box.functions) (deepest_of boxes)
 
 -- before the boxes of a graph with so many rows
 abbrev pub head_text : List ℕ → ℕ → List ℕ

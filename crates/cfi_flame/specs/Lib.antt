@@ -2,7 +2,9 @@ pub mod FoldedStacks
 pub mod FoldedCounts
 pub mod Functions
 pub mod Tallies
+pub mod Turned
 pub mod Boxes
+pub mod Pictures
 pub mod Graphs
 pub mod Flames
 pub mod Reports

@@ -1,5 +1,6 @@
 -- The report of folded stacks: a table of their functions.
 --     row_text all row      the line of a function, where there are so many samples in all
+--     IsRanking text all ranked      how many samples a plain text has, and its functions by theirs
 --     IsReport text report      the table of the stacks of a plain text
 --     IsReportRefused text error      why there is none
 use Rattle.std.specs.Prelude.{◌≡◌, ◌⊎◌, ◌<◌, ◌^◌, ℕ, ◌-◌, ◌*◌, ◌/◌, ◌%◌, List, [], ◌∷◌, ◌++◌, Ok}
@@ -62,16 +63,24 @@ pub record AreRanked (found ranked : List Row) : Type 0 where
   pub stable : IsStableByKey rank nat_cmp read ordered
   pub view : map row_view ordered ≡ ranked
 
-abbrev pub IsTableOf : List Stack → List ℕ → Type 0
-IsTableOf stacks report =
-    (0 < total_of stacks) × (total_of stacks < 2 ^ 64)
-    × ((found : List Row) × (ranked : List Row) × AreFunctions stacks found
-    × AreRanked found ranked × (report ≡ table_text (total_of stacks) ranked))
+abbrev pub AreByRank : List Stack → List Row → Type 0
+AreByRank stacks ranked =
+    (found : List Row) × AreFunctions stacks found × AreRanked found ranked
+
+-- how many samples the stacks have, and their functions
+abbrev pub IsRankingOf : List Stack → ℕ → List Row → Type 0
+IsRankingOf stacks all ranked =
+    (all ≡ total_of stacks) × (0 < all) × (all < 2 ^ 64) × AreByRank stacks ranked
 
 -- of the stacks of a plain text
+abbrev pub IsRanking : List ℕ → ℕ → List Row → Type 0
+IsRanking text all ranked =
+    (stacks : List Stack) × (stacks_of text ≡ Ok stacks) × IsRankingOf stacks all ranked
+
 abbrev pub IsReport : List ℕ → List ℕ → Type 0
 IsReport text report =
-    (stacks : List Stack) × (stacks_of text ≡ Ok stacks) × IsTableOf stacks report
+    (all : ℕ) × (ranked : List Row) × IsRanking text all ranked
+    × (report ≡ table_text all ranked)
 
 abbrev pub IsReportRefused : List ℕ → FoldedError → Type 0
 IsReportRefused text error =

@@ -1,26 +1,43 @@
 //! The boxes of a flame graph.
-ghost use Rattle.std.specs.Prelude.{◌≡◌, ◌==◌, ◌+◌, ◌^◌, ◌<◌, ◌++◌, IfOk, OnOk, SomeIff, length};
-ghost use Rattle.std.specs.Prelude.{map, option_map};
-ghost use Rattle.std.specs.List.{count_by};
-ghost use Rattle.cfi_flame.specs.Boxes.{begins, box_view, boxes_of, ends_name, name_in, opening};
-ghost use Rattle.cfi_flame.specs.Boxes.{openings, opens, total_of, weight};
+ghost use Rattle.std.specs.Prelude.{◌≡◌, ◌+◌, ◌^◌, ◌<◌, [], ◌∷◌, ◌++◌, IfOk, OnOk, SomeIff};
+ghost use Rattle.std.specs.Prelude.{length, map, option_map};
+ghost use Rattle.cfi_flame.specs.Boxes.{begins, box_view, boxes_of, depth_in, ends_name, is_wide};
+ghost use Rattle.cfi_flame.specs.Boxes.{name_in, opening, openings, opens, total_of, weight};
+ghost use Rattle.cfi_flame.specs.Boxes.{wide_boxes};
 ghost use Rattle.cfi_flame.specs.FoldedStacks.{stack_view};
+ghost use Rattle.cfi_flame.specs.Pictures.{AreInOrder, ArePlain, AreShares, IsPicture};
 
 use crate::folded::{SEPARATOR, Stack, last_part};
 use std::alloc::{AllocError, Global};
 
-/// A box of a flame graph: some functions that call one another, where the first is a thread's
-/// outermost one.
+/// How many billionths of a pixel a graph is wide, where it has 1,200 pixels.
+const WIDTH: u128 = 1_200_000_000_000;
+
+/// A box of a flame graph: some functions with which a stack begins.
 #[derive(Clone, Copy)]
 pub struct FlameBox<'text> {
-    /// The name of the last of them.
-    pub name: &'text [u8],
-    /// How many come before it.
-    pub depth: usize,
+    /// The names of these functions, between separators.
+    pub functions: &'text [u8],
     /// How many samples lie to the left of the box.
     pub left: u64,
     /// How many samples have a stack that begins with these functions.
     pub width: u64,
+}
+
+impl<'text> FlameBox<'text> {
+    /// Returns the name of the last of the functions.
+    pub fn name(&self) -> &'text [u8]
+        ensures { result.now ≡ name_in self.now.functions.now }
+    {
+        name_in(self.functions)
+    }
+
+    /// Returns how many functions come before the last.
+    pub fn depth(&self) -> usize
+        ensures { result ≡ depth_in self.now.functions.now }
+    {
+        depth_in(self.functions)
+    }
 }
 
 /// Returns how many samples the stacks have, `None` where there are 2^64 or more.
@@ -42,8 +59,12 @@ pub fn boxes_of<'text>(
     stacks: &[Stack<'text>],
 ) -> Result<Vec<FlameBox<'text>>, AllocError>
     requires { total_of (map stack_view stacks.now) < 2 ^ 64 }
-    ensures { IfOk result (λ boxes.
+    ensures boxes { IfOk result (λ boxes.
         map box_view boxes.items ≡ boxes_of (map stack_view stacks.now)) }
+    ensures picture { IfOk result (λ boxes. IsPicture (map box_view boxes.items)) }
+    ensures shares { AreInOrder (map stack_view stacks.now) → ArePlain (map stack_view stacks.now)
+        → IfOk result (λ boxes.
+        AreShares (map stack_view stacks.now) (map box_view boxes.items)) }
 {
     let mut boxes = Vec::new(alloc);
     let mut before = None;
@@ -95,8 +116,7 @@ fn add_opening<'text>(
         return Ok(());
     }
     boxes.push(FlameBox {
-        name: name_in(front),
-        depth: depth_of(front),
+        functions: front,
         left,
         width: weight(stacks, front),
     })?;
@@ -154,8 +174,51 @@ fn name_in(front: &[u8]) -> &[u8]
 }
 
 /// Returns how many names come before the last.
-fn depth_of(front: &[u8]) -> usize
-    ensures { result ≡ count_by (λ c. c == 31) front.now }
+fn depth_in(front: &[u8]) -> usize
+    ensures { result ≡ depth_in front.now }
 {
     front.iter().filter(|byte| **byte == SEPARATOR).count()
+}
+
+/// Returns the boxes that are as wide as this, in billionths of a pixel where the samples, of which
+/// there are so many, have 1,200 pixels. Allocates for them.
+pub fn wide_boxes<'text>(
+    alloc: Global,
+    least: u64,
+    total: u64,
+    boxes: &[FlameBox<'text>],
+) -> Result<Vec<FlameBox<'text>>, AllocError>
+    ensures wide { IfOk result (λ wide.
+        map box_view wide.items ≡ wide_boxes least total (map box_view boxes.now)) }
+    ensures picture { IsPicture (map box_view boxes.now)
+        → IfOk result (λ wide. IsPicture (map box_view wide.items)) }
+{
+    let mut wide = Vec::new(alloc);
+    for found in boxes {
+        add_wide(&mut wide, least, total, *found)?;
+    }
+    Ok(wide)
+}
+
+/// Adds the box if it is wide.
+fn add_wide<'text>(
+    wide: &mut Vec<FlameBox<'text>>,
+    least: u64,
+    total: u64,
+    found: FlameBox<'text>,
+) -> Result<(), AllocError>
+    ensures { OnOk result (map box_view wide.new.items ≡ map box_view wide.old.items
+        ++ wide_boxes least total (box_view found.entry ∷ [])) }
+{
+    if is_wide(least, total, found.width) {
+        wide.push(found)?;
+    }
+    Ok(())
+}
+
+/// Returns whether a box of so many samples is wide.
+fn is_wide(least: u64, total: u64, width: u64) -> bool
+    ensures { result ≡ is_wide least total width }
+{
+    least as u128 * total as u128 <= width as u128 * WIDTH
 }

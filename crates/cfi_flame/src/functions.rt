@@ -68,7 +68,10 @@ fn count_stack<'text>(
 }
 
 /// Returns the names of a stack.
-fn names_in<'text>(alloc: Global, frames: &'text [u8]) -> Result<Vec<&'text [u8]>, AllocError>
+pub(crate) fn names_in<'text>(
+    alloc: Global,
+    frames: &'text [u8],
+) -> Result<Vec<&'text [u8]>, AllocError>
     ensures { IfOk result (λ names.
         map (λ name. name.now) names.items ≡ names_in frames.now) }
 {

@@ -4,7 +4,8 @@ ghost use Rattle.std.specs.List.{flat_map, fold};
 ghost use Rattle.cfi_flame.specs.Boxes.{box_view};
 ghost use Rattle.cfi_flame.specs.Graphs.{box_text, boxes_text, deepest_of, escaped, graph_text};
 ghost use Rattle.cfi_flame.specs.Graphs.{details_text, face_text, graph_by, head_text};
-ghost use Rattle.cfi_flame.specs.Graphs.{hue_of, place_text, share, whole_text};
+ghost use Rattle.cfi_flame.specs.Graphs.{hue_of, named_text, place_text, share};
+ghost use Rattle.cfi_flame.specs.Graphs.{whole_text};
 
 use crate::boxes::FlameBox;
 use itoa::Buffer;
@@ -41,7 +42,7 @@ pub const BEFORE_BOXES: &[u8] = b"</text>
 pub const BEHIND_BOXES: &[u8] = b"</svg>
 <script><![CDATA[
 const boxes = Array.from(document.querySelectorAll('#boxes > svg'), (box) => ({
-  box, name: box.querySelector('text').textContent,
+  box, text: box.querySelector('text'), name: box.querySelector('text').textContent,
   details: box.querySelector('title').textContent,
   left: parseFloat(box.getAttribute('x')), width: parseFloat(box.getAttribute('width')),
   row: parseFloat(box.getAttribute('y')) }));
@@ -58,6 +59,13 @@ function zoom(to) {
     b.box.classList.toggle('around', around);
     b.box.setAttribute('x', around ? '0%' : (b.left - to.left) / to.width * 100 + '%');
     b.box.setAttribute('width', around ? '100%' : b.width / to.width * 100 + '%');
+  }
+  fit();
+}
+function fit() {
+  for (const b of boxes) {
+    const pixels = parseFloat(b.box.getAttribute('width')) / 100 * innerWidth;
+    b.text.style.display = pixels < 20 ? 'none' : '';
   }
 }
 function search(text) {
@@ -81,6 +89,8 @@ for (const b of boxes) {
   b.box.addEventListener('focus', tell);
   b.box.addEventListener('keydown', (e) => { if (e.key === 'Enter') zoom(b); });
 }
+fit();
+window.addEventListener('resize', fit);
 window.addEventListener('keydown', (e) => {
   if (e.key === 'Escape') zoom(whole);
   if (e.key === '/') { e.preventDefault(); search(prompt('Search for a function') || ''); }
@@ -141,7 +151,7 @@ fn deepest_of(boxes: &[FlameBox<'_>]) -> usize
 {
     let mut deepest = 0usize;
     for found in boxes {
-        deepest = deepest.max(found.depth);
+        deepest = deepest.max(found.depth());
     }
     deepest
 }
@@ -152,8 +162,7 @@ fn push_whole(text: &mut Vec<u8>, row: u128, total: u64) -> Result<(), AllocErro
     ensures { OnOk result (text.new.items ≡ text.old.items ++ whole_text row total) }
 {
     let whole = FlameBox {
-        name: b"all",
-        depth: 0,
+        functions: b"all",
         left: 0,
         width: total,
     };
@@ -174,7 +183,7 @@ fn push_boxes(
     for found in boxes {
         push_box(
             text,
-            deepest.saturating_sub(found.depth as u128),
+            deepest.saturating_sub(found.depth() as u128),
             total,
             found,
         )?;
@@ -193,11 +202,27 @@ fn push_box(
     ensures { OnOk result (text.new.items
         ≡ text.old.items ++ box_text row total (box_view found.now)) }
 {
-    let start = share(found.left as u128, total);
-    let end = share(found.left as u128 + found.width as u128, total);
+    push_named(text, row, total, found.name(), found.left, found.width)
+}
+
+/// Appends a box with this name in this row.
+fn push_named(
+    text: &mut Vec<u8>,
+    row: u128,
+    total: u64,
+    name: &[u8],
+    left: u64,
+    width: u64,
+) -> Result<(), AllocError>
+    requires { 0 < total }
+    ensures { OnOk result (text.new.items
+        ≡ text.old.items ++ named_text row total name.now left width) }
+{
+    let start = share(left as u128, total);
+    let end = share(left as u128 + width as u128, total);
     push_place(text, start, row, end.saturating_sub(start))?;
-    push_details(text, found.name, found.width)?;
-    push_face(text, found.name)
+    push_details(text, name, width)?;
+    push_face(text, name)
 }
 
 /// Appends where a box lies: `x` and `width` in millionths of a per cent, `y` in rows.

@@ -13,8 +13,9 @@ pub mod folded;
 pub mod functions;
 pub mod graph;
 pub mod report;
+pub mod turned;
 
 pub use counts::StackCounts;
-pub use flame::flame_of;
-pub use folded::FoldedError;
-pub use report::report_of;
+pub use flame::{Drawing, flame_of};
+pub use folded::{FoldedError, plain_text};
+pub use report::{Ranking, ranked_functions, report_of};

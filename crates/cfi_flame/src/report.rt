@@ -1,12 +1,13 @@
 //! The report of folded stacks: a table of their functions.
-ghost use Rattle.std.specs.Prelude.{◌≡◌, ◌++◌, ◌<◌, IfErr, IfOk, OnOk};
+ghost use Rattle.std.specs.Prelude.{◌≡◌, ◌++◌, ◌<◌, ◌^◌, IfErr, IfOk, OnOk};
 ghost use Rattle.std.specs.Prelude.{codes, map};
 ghost use Rattle.std.specs.List.{flat_map};
 ghost use Rattle.cfi_flame.specs.Boxes.{total_of};
 ghost use Rattle.cfi_flame.specs.Flames.{IsSortedRefused};
 ghost use Rattle.cfi_flame.specs.FoldedStacks.{plain, stack_view};
 ghost use Rattle.cfi_flame.specs.Functions.{row_view};
-ghost use Rattle.cfi_flame.specs.Reports.{IsReport, IsReportRefused, IsTableOf};
+ghost use Rattle.cfi_flame.specs.Reports.{AreByRank, IsRanking, IsRankingOf, IsReport};
+ghost use Rattle.cfi_flame.specs.Reports.{IsReportRefused};
 ghost use Rattle.cfi_flame.specs.Reports.{count_text, hundredths, right, row_text};
 ghost use Rattle.cfi_flame.specs.Reports.{table_text};
 
@@ -20,15 +21,23 @@ use std::alloc::{AllocError, Global};
 /// What stands above the functions.
 const HEADING: &[u8] = b"        self    self%       total   total%  function\n";
 
+/// The functions of folded stacks, by their samples.
+#[derive(Drop)]
+pub struct Ranking<'text> {
+    /// How many samples the stacks have.
+    pub all: u64,
+    /// Each of their functions once, those with most samples of their own first, and those with as
+    /// many in the order of their names' bytes.
+    pub functions: Vec<Function<'text>>,
+}
+
 /// Returns the report of folded stacks: a table of their functions, those with most samples of
 /// their own first, and those with as many in the order of their names' bytes.
 ///
 /// Each has its own samples, those of the stacks that end with it, and all, those of the stacks
 /// that have it, both also in per cent of all samples, cut to hundredths.
 ///
-/// Fails with `NotFolded` at the first line that isn't a stack, a space and a number, with
-/// `NoSamples` where the numbers are all 0, with `TooManySamples` where their sum is 2^64 or more,
-/// and with `OutOfMemory`. Allocates for the stacks, the functions and the table.
+/// Fails as `ranked_functions`. Allocates for the stacks, the functions and the table.
 pub fn report_of(alloc: Global, text: &[u8]) -> Result<Vec<u8>, FoldedError>
     ensures made { IfOk result (λ report. IsReport (map plain text.now) report.items) }
     ensures refused { IfErr result (IsReportRefused (map plain text.now)) }
@@ -44,37 +53,72 @@ fn report_of_plain(alloc: Global, text: &[u8]) -> Result<Vec<u8>, FoldedError>
     ensures made { IfOk result (λ report. IsReport text.now report.items) }
     ensures refused { IfErr result (IsReportRefused text.now) }
 {
-    match read_stacks(alloc, text) {
-        Ok(stacks) => report_of_stacks(alloc, stacks.as_slice()),
+    match ranked_functions(alloc, text) {
+        Ok(ranking) => match table_of(alloc, ranking.all, ranking.functions.as_slice()) {
+            Ok(report) => Ok(report),
+            Err(_) => Err(FoldedError::OutOfMemory),
+        },
         Err(error) => Err(error),
     }
 }
 
-/// Returns the report of stacks.
-fn report_of_stacks(alloc: Global, stacks: &[Stack<'_>]) -> Result<Vec<u8>, FoldedError>
-    ensures made { IfOk result (λ report. IsTableOf (map stack_view stacks.now) report.items) }
+/// Returns the functions of the stacks of a plain text, as `plain_text` makes it.
+///
+/// Fails with `NotFolded` at the first line that isn't a stack, a space and a number, with
+/// `NoSamples` where the numbers are all 0, with `TooManySamples` where their sum is 2^64 or more,
+/// and with `OutOfMemory`. Allocates for the stacks and the functions.
+pub fn ranked_functions<'text>(
+    alloc: Global,
+    text: &'text [u8],
+) -> Result<Ranking<'text>, FoldedError>
+    ensures ranked { IfOk result (λ ranking.
+        IsRanking text.now ranking.all (map row_view ranking.functions.items)) }
+    ensures refused { IfErr result (IsReportRefused text.now) }
+{
+    match read_stacks(alloc, text) {
+        Ok(stacks) => ranking_of(alloc, stacks.as_slice()),
+        Err(error) => Err(error),
+    }
+}
+
+/// Returns the functions of stacks by their samples.
+fn ranking_of<'text>(alloc: Global, stacks: &[Stack<'text>]) -> Result<Ranking<'text>, FoldedError>
+    ensures ranked { IfOk result (λ ranking.
+        IsRankingOf (map stack_view stacks.now) ranking.all
+        (map row_view ranking.functions.items)) }
     ensures refused { IfErr result (IsSortedRefused (map stack_view stacks.now)) }
 {
     match total_of(stacks) {
         Some(0) => Err(FoldedError::NoSamples),
-        Some(all) => match table_of(alloc, all, stacks) {
-            Ok(report) => Ok(report),
+        Some(all) => match by_rank(alloc, stacks) {
+            Ok(functions) => Ok(Ranking { all, functions }),
             Err(_) => Err(FoldedError::OutOfMemory),
         },
         None => Err(FoldedError::TooManySamples),
     }
 }
 
-/// Returns the table of the functions of stacks that have so many samples in all.
-fn table_of(alloc: Global, all: u64, stacks: &[Stack<'_>]) -> Result<Vec<u8>, AllocError>
-    requires counted { all ≡ total_of (map stack_view stacks.now) }
-    requires some { 0 < all }
-    ensures { IfOk result (λ report. IsTableOf (map stack_view stacks.now) report.items) }
+/// Returns the functions of stacks, those with most samples of their own first.
+fn by_rank<'text>(
+    alloc: Global,
+    stacks: &[Stack<'text>],
+) -> Result<Vec<Function<'text>>, AllocError>
+    requires { total_of (map stack_view stacks.now) < 2 ^ 64 }
+    ensures { IfOk result (λ functions.
+        AreByRank (map stack_view stacks.now) (map row_view functions.items)) }
 {
-    let mut rows = functions_of(alloc, stacks)?;
-    rows.sort_by_key(|row| u64::MAX - row.own)?;
+    let mut functions = functions_of(alloc, stacks)?;
+    functions.sort_by_key(|row| u64::MAX - row.own)?;
+    Ok(functions)
+}
+
+/// Returns the table of these functions, where there are so many samples in all.
+fn table_of(alloc: Global, all: u64, rows: &[Function<'_>]) -> Result<Vec<u8>, AllocError>
+    requires { 0 < all }
+    ensures { IfOk result (λ report. report.items ≡ table_text all (map row_view rows.now)) }
+{
     let mut text = Vec::new(alloc);
-    push_table(alloc, &mut text, all, rows.as_slice())?;
+    push_table(alloc, &mut text, all, rows)?;
     Ok(text)
 }
 

@@ -1,6 +1,6 @@
 use Rattle.std.proofs.Common.{ap, map, refl, rules, sym}
 use Rattle.std.proofs.lemmas.List.Sorted.{answers_always}
-use Rattle.cfi_flame.specs.Flames.{AreSorted}
+use Rattle.cfi_flame.specs.Flames.{AreSorted, drawing_view}
 use Rattle.cfi_flame.specs.FoldedStacks.{stack_view}
 use Rattle.cfi_flame.proofs.FlameLemmas.{sorted_drawn, sorted_refused}
 use Rattle.cfi_flame.proofs.flame.flame_of_stacks.Goals as goal
@@ -17,7 +17,7 @@ are_sorted c =
     }
 
 pub returns-in-Ok-clause-drawn : goal.returns-in-Ok-clause-drawn
-returns-in-Ok-clause-drawn c = sorted_drawn _ c.flame_of_sorted.result c.args.title.now _ _ (are_sorted c) c.flame_of_sorted.ensures.drawn
+returns-in-Ok-clause-drawn c = sorted_drawn _ c.flame_of_sorted.result (drawing_view c.args.drawing) _ _ (are_sorted c) c.flame_of_sorted.ensures.drawn
 
 pub returns-in-Ok-clause-refused : goal.returns-in-Ok-clause-refused
 returns-in-Ok-clause-refused c = sorted_refused c.flame_of_sorted.result _ _ (are_sorted c) c.flame_of_sorted.ensures.refused
