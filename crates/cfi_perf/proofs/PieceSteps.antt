@@ -11,7 +11,8 @@ use Rattle.cfi_perf.specs.declared.error.PerfError.TheVariants.{RecordCut, Recor
 use Rattle.cfi_perf.specs.declared.windows.RecordWalk.{RecordWalk}
 use Rattle.cfi_perf.specs.EventTables.{EventTable, table_view}
 use Rattle.cfi_perf.specs.Events.{Record}
-use Rattle.cfi_perf.specs.Records.{First, Framed, after_record, first_record, record_header, record_of, split_record, with_first}
+use Rattle.cfi_perf.specs.RecordHeaders.{record_header}
+use Rattle.cfi_perf.specs.Records.{First, Framed, after_record, first_record, record_of, split_record, with_first}
 use Rattle.cfi_perf.specs.Results.{and_then, or_error, or_missing, part, read_from}
 use Rattle.cfi_perf.specs.Windows.{only_record, record_alone, records_in}
 use Rattle.cfi_perf.proofs.Chains.{gave, not_error, not_missing, not_refused}
