@@ -14,6 +14,7 @@ ghost use Rattle.cfi.specs.Process.{AreStacks, AreTallied, AreThreads, IsAnswer,
 ghost use Rattle.cfi.specs.Process.{IsStatusAfter, IsStatusOf, IsSummary, PrintsRun, disk_of};
 ghost use Rattle.cfi.specs.Tasks.{of_request, task_for};
 
+mod arguments;
 mod command;
 mod files;
 mod flames;

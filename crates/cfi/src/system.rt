@@ -3,6 +3,7 @@ ghost use Rattle.std.specs.Prelude.{◌≡◌, ◌≢◌, ℕ, ⊤, List, Option
 ghost use Rattle.std.specs.Prelude.{option_map, refl, string_bytes};
 ghost use Rattle.cfi.specs.Openings.{FileKind, of_any_kind, regular};
 
+use crate::arguments::{asks_for_check, before_mark, marked_words};
 use cfi_inputs::{Beginning, read_as};
 use cfi_object::input::copy_part;
 use cfi_object::{FileInput, InputError};
@@ -34,7 +35,8 @@ pub trait System {
     fn alloc(&self) -> Global;
 
     /// Returns the words of the process, of which the first is its name; `None` where one of them
-    /// isn't UTF-8, which is told on standard error, or memory is refused.
+    /// isn't UTF-8, which is told on standard error, or memory is refused. Of the command `check` a
+    /// word that isn't UTF-8 is a text that no file has for a name.
     fn words(&self) -> Option<Vec<String>>
         ensures { has_words self.now (option_map (λ words. map string_bytes words.items) result) };
 
@@ -125,16 +127,17 @@ impl<P: Env + Files + Print + Eprint + AllocGlobal> System for Host<'_, P> {
     fn words(&self) -> Option<Vec<String>> {
         match env::args(self.rt) {
             Ok(words) => words.collect(self.rt.alloc()).ok(),
-            Err(error) => {
-                if error.kind() == io::ErrorKind::InvalidData {
-                    let _ = eprintln!(self.rt; "cfi: an argument isn't UTF-8");
-                }
-                None
-            }
+            Err(error) if error.kind() == io::ErrorKind::InvalidData => self.words_of_check(),
+            Err(_) => None,
         }
     }
 
     fn open(&self, path: &str) -> Option<HostFile<P::File>> {
+        if let Some(name) = before_mark(path) {
+            self.clear_progress();
+            let _ = eprintln!(self.rt; "cfi: {name}: the name isn't UTF-8, so it can't be opened");
+            return None;
+        }
         match open_file(self.rt, path) {
             Ok(file) => Some(HostFile { file, bytes: None }),
             Err(error) => {
@@ -223,6 +226,19 @@ impl<P: Env + Files + Print + Eprint + AllocGlobal> System for Host<'_, P> {
     ghost opens = { λ _ _. (None, tt) };
 
     ghost same_bytes = { λ _. refl };
+}
+
+impl<P: Env + Eprint + AllocGlobal> Host<'_, P> {
+    /// Returns the words of the process, some of which aren't UTF-8, for the command `check` alone:
+    /// those are files that can't be opened. For other commands says so on standard error.
+    fn words_of_check(&self) -> Option<Vec<String>> {
+        let words = marked_words(self.rt)?;
+        if asks_for_check(words.as_slice()) {
+            return Some(words);
+        }
+        let _ = eprintln!(self.rt; "cfi: an argument isn't UTF-8");
+        None
+    }
 }
 
 /// An open file of a runtime. std says nothing of what is in it.
