@@ -1,9 +1,9 @@
 -- What is printed for folded stacks: their flame graph, or their report.
 --     IsOwed summary text printed      the output for the bytes of a file
-use Rattle.std.specs.Prelude.{◌≡◌, ◌⊎◌, ℕ, List, ◌++◌, codes, map}
+use Rattle.std.specs.Prelude.{◌≡◌, ◌⊎◌, ℕ, List, ◌++◌, codes}
 use Rattle.std.specs.Fmt.{decimal}
 use Rattle.cfi_flame.specs.Flames.{IsOfPlain, IsPlainRefused}
-use Rattle.cfi_flame.specs.FoldedStacks.{plain}
+use Rattle.cfi_flame.specs.FoldedStacks.{drawn, plain}
 use Rattle.cfi_flame.specs.Reports.{IsReport, IsReportRefused}
 use Rattle.cfi_flame.specs.declared.folded.FoldedError.{FoldedError}
 use Rattle.cfi_flame.specs.declared.folded.FoldedError.TheVariants.{OutOfMemory, NotFolded}
@@ -33,13 +33,13 @@ made_line made = record { text = made; status = 0 }
 
 -- of the stacks of a text
 abbrev pub IsMade : OfStacks → List ℕ → List ℕ → Type 0
-IsMade (graph title) text made = IsOfPlain title (map plain text) made
-IsMade table text made = IsReport (map plain text) made
+IsMade (graph title) text made = IsOfPlain (drawn title) (plain text) made
+IsMade table text made = IsReport (plain text) made
 
 -- why there is none
 abbrev pub IsUnmade : OfStacks → List ℕ → FoldedError → Type 0
-IsUnmade (graph title) text error = IsPlainRefused (map plain text) error
-IsUnmade table text error = IsReportRefused (map plain text) error
+IsUnmade (graph title) text error = IsPlainRefused (plain text) error
+IsUnmade table text error = IsReportRefused (plain text) error
 
 abbrev pub IsOutput : OfStacks → List ℕ → Line → Type 0
 IsOutput summary text printed =

@@ -3,10 +3,10 @@ ghost use Rattle.std.specs.Prelude.{◌≡◌, ◌<◌, ◌^◌, IfErr, IfOk, ma
 ghost use Rattle.cfi_flame.specs.Boxes.{total_of};
 ghost use Rattle.cfi_flame.specs.Flames.{IsOfPlain, IsOfSorted, IsOfStacks, IsPlainRefused};
 ghost use Rattle.cfi_flame.specs.Flames.{IsSortedRefused, IsStacksRefused};
-ghost use Rattle.cfi_flame.specs.FoldedStacks.{plain, stack_view};
+ghost use Rattle.cfi_flame.specs.FoldedStacks.{drawn, plain, stack_view};
 
 use crate::boxes::{boxes_of, total_of};
-use crate::folded::{FoldedError, Stack, plain_text, read_stacks};
+use crate::folded::{FoldedError, Stack, drawn_name, plain_text, read_stacks};
 use crate::graph::flame_graph;
 use std::alloc::Global;
 
@@ -17,8 +17,20 @@ use std::alloc::Global;
 /// and with `OutOfMemory`. Allocates for the stacks, the boxes and the file.
 pub fn flame_of(alloc: Global, title: &[u8], text: &[u8]) -> Result<Vec<u8>, FoldedError>
     ensures drawn { IfOk result (λ graph.
-        IsOfPlain title.now (map plain text.now) graph.items) }
-    ensures refused { IfErr result (IsPlainRefused (map plain text.now)) }
+        IsOfPlain (drawn title.now) (plain text.now) graph.items) }
+    ensures refused { IfErr result (IsPlainRefused (plain text.now)) }
+{
+    match drawn_name(alloc, title) {
+        Ok(title) => flame_of_text(alloc, title.as_slice(), text),
+        Err(_) => Err(FoldedError::OutOfMemory),
+    }
+}
+
+/// Returns the flame graph of folded stacks, with a title as it is drawn.
+fn flame_of_text(alloc: Global, title: &[u8], text: &[u8]) -> Result<Vec<u8>, FoldedError>
+    ensures drawn { IfOk result (λ graph.
+        IsOfPlain title.now (plain text.now) graph.items) }
+    ensures refused { IfErr result (IsPlainRefused (plain text.now)) }
 {
     match plain_text(alloc, text) {
         Ok(plainer) => flame_of_plain(alloc, title, plainer.as_slice()),
