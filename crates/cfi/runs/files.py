@@ -9,7 +9,7 @@ notes of Linux for x86-64.
 import struct
 from pathlib import Path
 
-MMAP, LOST, SAMPLE, MMAP2, LOST_SAMPLES = 1, 2, 9, 10, 13
+MMAP, LOST, COMM, SAMPLE, MMAP2, LOST_SAMPLES = 1, 2, 3, 9, 10, 13
 IP, TID, TIME, CALLCHAIN, REGISTERS, STACK = 1, 2, 4, 1 << 5, 1 << 12, 1 << 13
 RBP_RSP_RIP = 7 << 6
 KERNEL, USER, OWN_BUILD, SIZED_BUILD = 1, 2, 1 << 14, 1 << 15
@@ -49,6 +49,13 @@ def mapping(time, address, name, build=b""):
     name = FOLDER + name + b"\0"
     body += name.ljust(-(-len(name) // 8) * 8, b"\0") + struct.pack("<2IQ", PROCESS, PROCESS, time)
     return record(MMAP2, body, OWN_BUILD if build else 0)
+
+
+def renamed(time, name):
+    """The name of the thread with the number of the process."""
+    name += b"\0"
+    body = struct.pack("<2I", PROCESS, PROCESS) + name.ljust(-(-len(name) // 8) * 8, b"\0")
+    return record(COMM, body + struct.pack("<2IQ", PROCESS, PROCESS, time))
 
 
 def listed(name, build):
@@ -114,6 +121,15 @@ of_others = profile(
 of_large = profile(
     mapping(1_000_001_000, 0x400000, b"large"),
     sample(7, 1_000_002_000, (0x7020, 0x7000, IN_INNER), STACK_OF_INNER),
+)
+
+# Of the file names, and of one that isn't there.
+of_names = profile(
+    mapping(1_000_001_000, 0x400000, b"names"),
+    mapping(1_000_001_000, 0x500000, "wä\x1b".encode()),
+    renamed(1_000_001_000, "ö;\x07 ü".encode()),
+    sample(7, 1_000_002_000, (0x7020, 0x7000, IN_INNER), STACK_OF_INNER),
+    sample(7, 1_000_003_000, (0x7020, 0x7000, IN_INNER + 0x100000), STACK_OF_INNER),
 )
 
 # The program built has the build that the table lists, and calls has none, where its mapping has one.
@@ -264,6 +280,13 @@ calls = bytearray((data / "calls").read_bytes())
 assert struct.unpack_from("<i", calls, 0xCC + 20) == (-0x15,)
 struct.pack_into("<i", calls, 0xCC + 20, -0x14)
 
+# The functions of calls under other names: in UTF-8, with a sequence that clears a terminal, and with U+0085 and a byte
+# that isn't UTF-8.
+named = (data / "calls").read_bytes()
+for old, new in ((b"_start", "größ".encode()), (b"outer", b"a\x1b[2J"), (b"inner", b"b\xc2\x85\xf6\"")):
+    assert len(old) == len(new) and named.count(old + b"\0") == 1
+    named = named.replace(old + b"\0", new + b"\0")
+
 # e_machine is EM_MIPS (8) in place of EM_X86_64 (62).
 foreign = bytearray((data / "calls.o").read_bytes())
 assert struct.unpack_from("<H", foreign, 18) == (62,)
@@ -279,6 +302,8 @@ struct.pack_into("<Q", packed, flags, 0x800)
 (data / "unfaithful").write_bytes(calls)
 (data / "packed").write_bytes(packed)
 (data / "foreign.o").write_bytes(foreign)
+(data / "names").write_bytes(named)
+(data / "names.perf").write_bytes(of_names)
 (data / "calls.perf").write_bytes(of_calls)
 (data / "piped.perf").write_bytes(piped(of_calls))
 (data / "others.perf").write_bytes(of_others)

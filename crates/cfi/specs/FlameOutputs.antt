@@ -1,8 +1,8 @@
 -- What is printed for folded stacks: their flame graph, or their functions.
 --     IsOwed summary text printed      the output for the bytes of a file
-use Rattle.std.specs.Prelude.{◌≡◌, ◌⊎◌, ℕ, List, ◌++◌, codes, map}
+use Rattle.std.specs.Prelude.{◌≡◌, ◌⊎◌, ℕ, List, ◌++◌, codes}
 use Rattle.std.specs.Fmt.{decimal}
-use Rattle.cfi_flame.specs.Flames.{Drawing, IsOfPlain, IsPlainRefused, drawing_view}
+use Rattle.cfi_flame.specs.Flames.{Drawing, IsOfPlain, IsPlainRefused, as_drawn, drawing_view}
 use Rattle.cfi_flame.specs.FoldedStacks.{plain}
 use Rattle.cfi_flame.specs.Functions.{Row}
 use Rattle.cfi_flame.specs.Reports.{IsRanking, IsReport, IsReportRefused}
@@ -58,14 +58,14 @@ IsOfObjects text printed =
 
 -- of the stacks of a text
 abbrev pub IsMade : OfStacks → List ℕ → List ℕ → Type 0
-IsMade (graph drawing) text made = IsOfPlain drawing (map plain text) made
-IsMade (table Text) text made = IsReport (map plain text) made
-IsMade (table Json) text made = AreObjects (map plain text) made
+IsMade (graph drawing) text made = IsOfPlain (as_drawn drawing) (plain text) made
+IsMade (table Text) text made = IsReport (plain text) made
+IsMade (table Json) text made = AreObjects (plain text) made
 
 -- why there is none
 abbrev pub IsUnmade : OfStacks → List ℕ → FoldedError → Type 0
-IsUnmade (graph drawing) text error = IsPlainRefused drawing (map plain text) error
-IsUnmade (table format) text error = IsReportRefused (map plain text) error
+IsUnmade (graph drawing) text error = IsPlainRefused drawing (plain text) error
+IsUnmade (table format) text error = IsReportRefused (plain text) error
 
 abbrev pub IsOutput : OfStacks → List ℕ → Line → Type 0
 IsOutput summary text printed =

@@ -5,10 +5,12 @@ ghost use Rattle.cfi.specs.Openings.{FileKind, of_any_kind, regular};
 
 use crate::arguments::{asks_for_check, before_mark, marked_words};
 use cfi_inputs::{Beginning, read_as};
+use cfi_names::shown_name;
 use cfi_object::input::copy_part;
 use cfi_object::{FileInput, InputError};
 use clap::Error;
-use std::alloc::{AllocGlobal, Global};
+use std::alloc::{AllocError, AllocGlobal, Global};
+use std::fmt::Display;
 use std::fs::File;
 use std::io::{Read, Seek, SeekFrom};
 use std::rt::{Env, Files};
@@ -113,6 +115,24 @@ impl<'rt, P> Host<'rt, P> {
     }
 }
 
+impl<P: Eprint + AllocGlobal> Host<'_, P> {
+    /// Says on standard error something of the file or text with this name.
+    fn tell<D: Display + Drop>(&self, name: &[u8], sentence: D) {
+        let shown = shown_name(self.rt.alloc(), name);
+        let name = text_of(&shown);
+        // There is no other place to say that standard error can't be written.
+        let _ = eprintln!(self.rt; "cfi: {name}: {sentence}");
+    }
+}
+
+/// Returns the text of a name as it is printed; what stands for it where memory was refused.
+fn text_of(shown: &Result<Vec<u8>, AllocError>) -> &str {
+    match shown {
+        Ok(text) => str::from_utf8(text.as_slice()).unwrap_or("a file"),
+        Err(_) => "a file",
+    }
+}
+
 impl<P: Env + Files + Print + Eprint + AllocGlobal> System for Host<'_, P> {
     type File = HostFile<P::File>;
 
@@ -142,8 +162,7 @@ impl<P: Env + Files + Print + Eprint + AllocGlobal> System for Host<'_, P> {
             Ok(file) => Some(HostFile { file, bytes: None }),
             Err(error) => {
                 self.clear_progress();
-                // There is no other place to say that standard error can't be written.
-                let _ = eprintln!(self.rt; "cfi: {path}: {error}");
+                self.tell(path.as_bytes(), error);
                 None
             }
         }
@@ -155,7 +174,7 @@ impl<P: Env + Files + Print + Eprint + AllocGlobal> System for Host<'_, P> {
             Ok(metadata) if metadata.is_file() => self.open(path),
             Ok(_) => None,
             Err(error) => {
-                let _ = eprintln!(self.rt; "cfi: {path}: {error}");
+                self.tell(path.as_bytes(), error);
                 None
             }
         }
@@ -176,8 +195,9 @@ impl<P: Env + Files + Print + Eprint + AllocGlobal> System for Host<'_, P> {
     }
 
     fn tell_no_times(&self, text: &str) {
-        let _ = eprintln!(self.rt;
-            "cfi: {text}: no times: FROM,UNTIL are seconds with at most nine decimals, or empty"
+        self.tell(
+            text.as_bytes(),
+            "no times: FROM,UNTIL are seconds with at most nine decimals, or empty",
         );
     }
 
@@ -186,23 +206,23 @@ impl<P: Env + Files + Print + Eprint + AllocGlobal> System for Host<'_, P> {
     }
 
     fn tell_missing(&self, name: &[u8]) {
-        let name = str::from_utf8(name).unwrap_or("a file");
-        let _ = eprintln!(self.rt; "cfi: {name}: no file of the build that ran is here");
+        self.tell(name, "no file of the build that ran is here");
     }
 
     fn tell_without_stacks(&self, path: &str) {
-        let _ = eprintln!(self.rt;
-            "cfi: {path}: recorded without copies of stacks; frames are perf's call chains: \
-             record with --call-graph dwarf for unwound stacks"
+        self.tell(
+            path.as_bytes(),
+            "recorded without copies of stacks; frames are perf's call chains: \
+             record with --call-graph dwarf for unwound stacks",
         );
     }
 
     fn tell_lost(&self, path: &str, records: u64, samples: u64) {
         if records != 0 {
-            let _ = eprintln!(self.rt; "cfi: {path}: lost {records} records");
+            self.tell(path.as_bytes(), format_args!("lost {records} records"));
         }
         if samples != 0 {
-            let _ = eprintln!(self.rt; "cfi: {path}: lost {samples} samples");
+            self.tell(path.as_bytes(), format_args!("lost {samples} samples"));
         }
     }
 
@@ -212,6 +232,8 @@ impl<P: Env + Files + Print + Eprint + AllocGlobal> System for Host<'_, P> {
 
     fn show_progress(&self, number: usize, files: usize, file: &str) {
         if self.has_reader {
+            let shown = shown_name(self.rt.alloc(), file.as_bytes());
+            let file = text_of(&shown);
             // A run goes on where its progress can't be shown.
             let _ = eprint!(self.rt; "\r\x1b[K{number} of {files} {file}");
         }

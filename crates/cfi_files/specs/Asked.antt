@@ -1,12 +1,13 @@
--- What stands before the answer to a word: the word as it was given, and the address that it names.
+-- What stands before the answer to a word: the word that was given, and the address that it names.
 --     asked_text format has_several word address      before the answer: in text where there are
 --         several; in JSON always, as the beginning of an object
 use Rattle.std.specs.Prelude.{ℕ, Bool, true, false, List, [], ◌∷◌, ◌++◌, Option, Some, None, codes}
 use Rattle.std.specs.Prelude.{Result, Ok, Err, length, nat_lt}
 use Rattle.cfi_elf.specs.declared.error.ElfError.{ElfError}
 use Rattle.cfi_object.specs.Numbers.{number}
+use Rattle.cfi_names.specs.Names.{shown}
 use Rattle.cfi_programs.specs.Lines.{address_text}
-use Rattle.cfi_programs.specs.JsonLines.{escaped}
+use Rattle.cfi_programs.specs.JsonLines.{json_name}
 use Rattle.cfi_programs.specs.declared.style.Format.{Format}
 use Rattle.cfi_programs.specs.declared.style.Format.TheVariants.{Text, Json}
 
@@ -29,7 +30,7 @@ place_text None (Some address) = codes " " ++ address_text address
 
 -- `WORD: `, or `WORD 0xADDRESS: `
 abbrev pub word_text : List ℕ → Option ℕ → List ℕ
-word_text word address = word ++ (place_text (number word) address ++ codes ": ")
+word_text word address = shown word ++ (place_text (number word) address ++ codes ": ")
 
 -- ---- in JSON
 
@@ -39,7 +40,7 @@ address_member (Some address) = codes "\",\"address\":\"" ++ (address_text addre
 
 -- `{"asked":"WORD","address":"0xADDRESS",`
 abbrev pub word_members : List ℕ → Option ℕ → List ℕ
-word_members word address = codes "{\"asked\":\"" ++ (escaped word ++ address_member address)
+word_members word address = codes "{\"asked\":\"" ++ (json_name word ++ address_member address)
 
 -- ---- by the format
 

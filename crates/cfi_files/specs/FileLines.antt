@@ -6,7 +6,8 @@ use Rattle.cfi_elf.specs.ErrorNames.{name_of_elf}
 use Rattle.cfi_elf.specs.ErrorTexts.{text_of_elf}
 use Rattle.cfi_read_core.specs.declared.error.Error.TheVariants.{OutOfMemory}
 use Rattle.cfi_programs.specs.Lines.{Line, reason_line, refusal_in, refused_line}
-use Rattle.cfi_programs.specs.JsonLines.{escaped, json_section}
+use Rattle.cfi_names.specs.Names.{shown}
+use Rattle.cfi_programs.specs.JsonLines.{json_name, json_section}
 use Rattle.cfi_programs.specs.declared.style.Format.{Format}
 use Rattle.cfi_programs.specs.declared.style.Format.TheVariants.{Text, Json}
 
@@ -51,8 +52,8 @@ section_line Json name = json_section name ++ 10 ∷ []
 
 -- before what is said of a file
 abbrev pub file_label : Format → List ℕ → List ℕ
-file_label Text name = name ++ codes ": "
-file_label Json name = codes "{\"file\":\"" ++ (escaped name ++ codes "\",")
+file_label Text name = shown name ++ codes ": "
+file_label Json name = codes "{\"file\":\"" ++ (json_name name ++ codes "\",")
 
 -- ---- outputs that are put together
 

@@ -7,8 +7,8 @@ ghost use Rattle.cfi_files.specs.Asked.{place_text, word_members, word_text};
 
 use cfi_elf::ElfError;
 use cfi_object::number_in;
-use cfi_programs::json::write_escaped;
 use cfi_programs::lines::{Address, write_part, write_text};
+use cfi_programs::names::{write_json_name, write_name};
 use cfi_programs::style::Format;
 use std::io;
 use std::io::Write;
@@ -54,7 +54,7 @@ fn write_word<W: Write>(output: &mut W, word: &str, address: Option<u64>) -> io:
     ensures { Writes (W.contents output.old) (W.contents output.new) result
         (word_text word.now address) }
 {
-    write_text(output, word.as_bytes())?;
+    write_name(output, word.as_bytes())?;
     write_place(output, number_in(word), address)?;
     write_text(output, b": ")
 }
@@ -83,7 +83,7 @@ fn write_members<W: Write>(output: &mut W, word: &str, address: Option<u64>) -> 
         (word_members word.now address) }
 {
     write_text(output, b"{\"asked\":\"")?;
-    write_escaped(output, word.as_bytes())?;
+    write_json_name(output, word.as_bytes())?;
     write_address_member(output, address)
 }
 

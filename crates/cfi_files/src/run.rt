@@ -21,8 +21,9 @@ use cfi_elf::{ElfError, ElfFile, Image};
 use cfi_object::input::{FileInput, InputError};
 use cfi_object::machine_names::names_in;
 use cfi_object::parts::{read_parts, read_whole};
-use cfi_programs::json::write_escaped;
-use cfi_programs::lines::{write_between, write_refusal_in, write_text};
+use cfi_programs::lines::{write_refusal_in, write_text};
+use cfi_programs::names;
+use cfi_programs::names::write_json_name;
 use cfi_programs::style::{Format, Style};
 use gimli_cfi::Error;
 use std::alloc::Global;
@@ -150,9 +151,18 @@ fn write_name<W: Write>(format: Format, name: &str, output: &mut W) -> io::Resul
         (file_label format name.now) }
 {
     match format {
-        Format::Text => write_between(output, b"", name.as_bytes(), b": "),
+        Format::Text => write_name_label(name, output),
         Format::Json => write_name_member(name, output),
     }
+}
+
+/// Writes the name of the file and a colon.
+fn write_name_label<W: Write>(name: &str, output: &mut W) -> io::Result<()>
+    ensures { Writes (W.contents output.old) (W.contents output.new) result
+        (file_label Format.Text name.now) }
+{
+    names::write_name(output, name.as_bytes())?;
+    write_text(output, b": ")
 }
 
 /// Writes the beginning of an object, with the name of the file.
@@ -161,7 +171,7 @@ fn write_name_member<W: Write>(name: &str, output: &mut W) -> io::Result<()>
         (file_label Format.Json name.now) }
 {
     write_text(output, b"{\"file\":\"")?;
-    write_escaped(output, name.as_bytes())?;
+    write_json_name(output, name.as_bytes())?;
     write_text(output, b"\",")
 }
 

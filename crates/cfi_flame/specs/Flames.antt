@@ -11,7 +11,7 @@ use Rattle.cfi_flame.specs.declared.folded.FoldedError.TheVariants.{OutOfMemory,
 use Rattle.cfi_flame.specs.declared.folded.FoldedError.TheVariants.{NoSamples, TooManySamples}
 use Rattle.cfi_flame.specs.declared.folded.Stack.{Stack as StackOfCode}
 use Rattle.cfi_flame.specs.Boxes.{Box, boxes_of, total_of, wide_boxes}
-use Rattle.cfi_flame.specs.FoldedStacks.{IsRefused, Stack, stack_view, stacks_of}
+use Rattle.cfi_flame.specs.FoldedStacks.{IsRefused, Stack, drawn, stack_view, stacks_of}
 use Rattle.cfi_flame.specs.Graphs.{graph_text}
 use Rattle.cfi_flame.specs.Turned.{as_read}
 
@@ -26,6 +26,14 @@ drawing_view drawing = record {
   title = drawing.title.now;
   reverse = drawing.reverse;
   least = drawing.least_width;
+}
+
+-- with the title as it is drawn
+abbrev pub as_drawn : Drawing → Drawing
+as_drawn drawing = record {
+  title = drawn drawing.title;
+  reverse = drawing.reverse;
+  least = drawing.least;
 }
 
 -- the boxes of sorted stacks, but for the narrow ones

@@ -1,28 +1,43 @@
 -- Folded stacks: a line for each, with the names of its functions from the outermost one in between
 -- semicolons, and behind a space the number of its samples.
---     plain byte      a byte of a text whose semicolons are separators
+--     drawn name      what stands for a name in the graph
+--     plain text      a text whose semicolons are separators
 --     stack_of line      the stack of a line
 --     stacks_of text      those of all lines, or the number of the first that is none
-use Rattle.std.specs.Prelude.{◌≡◌, ℕ, ◌-◌, ◌+◌, ◌*◌, ◌^◌, ◌==◌, ◌&&◌, not, nat_le, nat_lt}
+use Rattle.std.specs.Prelude.{◌≡◌, ℕ, ◌-◌, ◌+◌, ◌*◌, ◌^◌, ◌==◌, ◌&&◌, ◌||◌, not, nat_lt}
 use Rattle.std.specs.Prelude.{List, [], ◌∷◌, ◌++◌, Option, Some, None, Result, Ok, Err, drop}
 use Rattle.std.specs.Prelude.{length, option_and_then, option_map, take, if◌then◌else◌}
 use Rattle.std.specs.Char.{is_ascii_digit}
-use Rattle.std.specs.List.{slice_split, suffix_len}
+use Rattle.std.specs.List.{flat_map, slice_split, suffix_len}
+use Rattle.cfi_names.specs.Names.{Part, byte_escape, parts, shown_part}
+use Rattle.cfi_names.specs.Utf8.{scalar}
 use Rattle.cfi_flame.specs.declared.folded.FoldedError.{FoldedError}
 use Rattle.cfi_flame.specs.declared.folded.FoldedError.TheVariants.{OutOfMemory, NotFolded}
 use Rattle.cfi_flame.specs.declared.folded.FoldedError.TheVariants.{NoSamples, TooManySamples}
 use Rattle.cfi_flame.specs.declared.folded.Stack.{Stack as StackOfCode}
 
--- ---- a byte
+-- ---- a text
 
--- a semicolon is the unit separator of ASCII, which comes before every printable character; what
--- isn't printable ASCII is a question mark, but for a line feed
-abbrev pub plain : ℕ → ℕ
-plain c =
-    if c == 10 then 10
-    else if c == 59 then 31
-    else if nat_le 32 c && nat_le c 126 then c
-    else 63
+-- as names are shown, but an XML document has no U+FFFE and no U+FFFF (section 2.2) either
+abbrev pub drawn_part : Part → List ℕ
+drawn_part part =
+    if scalar part.bytes == 0xfffe || scalar part.bytes == 0xffff
+    then flat_map byte_escape part.bytes
+    else shown_part part
+
+abbrev pub drawn : List ℕ → List ℕ
+drawn name = flat_map drawn_part (parts name)
+
+-- a semicolon (59) is the unit separator of ASCII, which comes before every character that is
+-- shown; a line feed ends a line
+abbrev pub plain_part : Part → List ℕ
+plain_part part =
+    if scalar part.bytes == 10 then 10 ∷ []
+    else if scalar part.bytes == 59 then 31 ∷ []
+    else drawn_part part
+
+abbrev pub plain : List ℕ → List ℕ
+plain text = flat_map plain_part (parts text)
 
 -- ---- a stack
 

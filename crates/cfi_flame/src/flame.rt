@@ -2,12 +2,12 @@
 ghost use Rattle.std.specs.Prelude.{◌≡◌, ◌<◌, IfErr, IfOk, map};
 ghost use Rattle.cfi_flame.specs.Boxes.{total_of};
 ghost use Rattle.cfi_flame.specs.Flames.{IsOfPlain, IsOfSorted, IsOfStacks, IsPlainRefused};
-ghost use Rattle.cfi_flame.specs.Flames.{IsSortedRefused, IsStacksRefused, drawing_view};
+ghost use Rattle.cfi_flame.specs.Flames.{IsSortedRefused, IsStacksRefused, as_drawn, drawing_view};
 ghost use Rattle.cfi_flame.specs.FoldedStacks.{plain, stack_view};
 ghost use Rattle.cfi_flame.specs.Turned.{as_read, turned, turned_stack};
 
 use crate::boxes::{FlameBox, boxes_of, total_of, wide_boxes};
-use crate::folded::{FoldedError, Stack, plain_text, read_stacks};
+use crate::folded::{FoldedError, Stack, drawn_name, plain_text, read_stacks};
 use crate::graph::flame_graph;
 use crate::turned::{turned_frames, turned_stacks};
 use std::alloc::{AllocError, Global};
@@ -32,9 +32,30 @@ pub struct Drawing<'w> {
 /// and with `OutOfMemory`. Allocates for the stacks, the boxes and the file.
 pub fn flame_of(alloc: Global, drawing: Drawing<'_>, text: &[u8]) -> Result<Vec<u8>, FoldedError>
     ensures drawn { IfOk result (λ graph.
-        IsOfPlain (drawing_view drawing.entry) (map plain text.now) graph.items) }
+        IsOfPlain (as_drawn (drawing_view drawing.entry)) (plain text.now) graph.items) }
     ensures refused { IfErr result
-        (IsPlainRefused (drawing_view drawing.entry) (map plain text.now)) }
+        (IsPlainRefused (drawing_view drawing.entry) (plain text.now)) }
+{
+    match drawn_name(alloc, drawing.title) {
+        Ok(title) => flame_of_text(
+            alloc,
+            Drawing {
+                title: title.as_slice(),
+                reverse: drawing.reverse,
+                least_width: drawing.least_width,
+            },
+            text,
+        ),
+        Err(_) => Err(FoldedError::OutOfMemory),
+    }
+}
+
+/// Returns the flame graph of folded stacks, with a title as it is drawn.
+fn flame_of_text(alloc: Global, drawing: Drawing<'_>, text: &[u8]) -> Result<Vec<u8>, FoldedError>
+    ensures drawn { IfOk result (λ graph.
+        IsOfPlain (drawing_view drawing.entry) (plain text.now) graph.items) }
+    ensures refused { IfErr result
+        (IsPlainRefused (drawing_view drawing.entry) (plain text.now)) }
 {
     match plain_text(alloc, text) {
         Ok(plainer) => flame_of_plain(alloc, drawing, plainer.as_slice()),

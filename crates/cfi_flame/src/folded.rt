@@ -3,14 +3,17 @@
 ghost use Rattle.std.specs.Prelude.{◌≡◌, ◌==◌, ◌+◌, ◌++◌, IfErr, IfOk, Ok, OnOk, length, map};
 ghost use Rattle.std.specs.Prelude.{not, option_map};
 ghost use Rattle.std.specs.List.{slice_split, suffix_len};
-ghost use Rattle.cfi_flame.specs.FoldedStacks.{IsAdded, IsRefused, lines_of, number_of, plain};
+ghost use Rattle.cfi_names.specs.Names.{part_view};
+ghost use Rattle.cfi_flame.specs.FoldedStacks.{IsAdded, IsRefused, drawn, drawn_part, lines_of};
+ghost use Rattle.cfi_flame.specs.FoldedStacks.{number_of, plain, plain_part};
 ghost use Rattle.cfi_flame.specs.FoldedStacks.{stack_of, stack_view, stacks_from, stacks_of};
 ghost use Rattle.cfi_flame.specs.FoldedStacks.{with_digit};
 
+use cfi_names::{Part, first_part, push_escapes, push_part, scalar};
 use std::alloc::{AllocError, Global};
 
 /// What stands between the names of functions once a text is plain: the unit separator of ASCII,
-/// which comes before every printable character in the order of bytes.
+/// which comes before every character that is shown in the order of bytes.
 pub const SEPARATOR: u8 = 31;
 
 /// A stack and the number of its samples.
@@ -35,23 +38,57 @@ pub enum FoldedError {
     TooManySamples,
 }
 
-/// Returns the text with separators for semicolons, and with question marks for bytes that aren't
-/// printable ASCII, but for line feeds. Allocates for it.
+/// Returns the text with separators for semicolons, and otherwise as it is drawn, but for line
+/// feeds. Allocates for it.
 pub fn plain_text(alloc: Global, text: &[u8]) -> Result<Vec<u8>, AllocError>
-    ensures { IfOk result (λ plainer. plainer.items ≡ map plain text.now) }
+    ensures { IfOk result (λ plainer. plainer.items ≡ plain text.now) }
 {
-    text.iter().map(|byte| plain(*byte)).collect(alloc)
+    let mut plainer = Vec::new(alloc);
+    let mut left = text;
+    while !left.is_empty() {
+        let part = first_part(left);
+        push_plain(&mut plainer, part)?;
+        left = &left[part.bytes.len()..];
+    }
+    Ok(plainer)
 }
 
-/// What a byte of a plain text is.
-fn plain(byte: u8) -> u8
-    ensures { result ≡ plain byte }
+/// Appends what a part of a plain text is.
+fn push_plain(text: &mut Vec<u8>, part: Part<'_>) -> Result<(), AllocError>
+    ensures { OnOk result
+        (text.new.items ≡ text.old.items ++ plain_part (part_view part.entry)) }
 {
-    match byte {
-        b'\n' => b'\n',
-        b';' => SEPARATOR,
-        b' '..=b'~' => byte,
-        _ => b'?',
+    match scalar(part.bytes) {
+        0x0a => text.extend_from_slice(b"\n"),
+        0x3b => text.extend_from_slice(&[SEPARATOR]),
+        _ => push_drawn(text, part),
+    }
+}
+
+/// Returns the name as it is drawn: control characters and bytes that aren't UTF-8 are escaped, as
+/// where it is printed, and so are the two characters that an XML document doesn't have. Allocates
+/// for it.
+pub fn drawn_name(alloc: Global, name: &[u8]) -> Result<Vec<u8>, AllocError>
+    ensures { IfOk result (λ text. text.items ≡ drawn name.now) }
+{
+    let mut text = Vec::new(alloc);
+    let mut left = name;
+    while !left.is_empty() {
+        let part = first_part(left);
+        push_drawn(&mut text, part)?;
+        left = &left[part.bytes.len()..];
+    }
+    Ok(text)
+}
+
+/// Appends what stands for a part of a name in the graph.
+fn push_drawn(text: &mut Vec<u8>, part: Part<'_>) -> Result<(), AllocError>
+    ensures { OnOk result
+        (text.new.items ≡ text.old.items ++ drawn_part (part_view part.entry)) }
+{
+    match scalar(part.bytes) {
+        0xfffe | 0xffff => push_escapes(text, part.bytes),
+        _ => push_part(text, part),
     }
 }
 

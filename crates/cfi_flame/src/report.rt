@@ -39,8 +39,8 @@ pub struct Ranking<'text> {
 ///
 /// Fails as `ranked_functions`. Allocates for the stacks, the functions and the table.
 pub fn report_of(alloc: Global, text: &[u8]) -> Result<Vec<u8>, FoldedError>
-    ensures made { IfOk result (λ report. IsReport (map plain text.now) report.items) }
-    ensures refused { IfErr result (IsReportRefused (map plain text.now)) }
+    ensures made { IfOk result (λ report. IsReport (plain text.now) report.items) }
+    ensures refused { IfErr result (IsReportRefused (plain text.now)) }
 {
     match plain_text(alloc, text) {
         Ok(plainer) => report_of_plain(alloc, plainer.as_slice()),

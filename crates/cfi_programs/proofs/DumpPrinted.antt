@@ -93,6 +93,6 @@ the_greatest = refl
 no_room : moved 1 4 (Some 0xfffffff0) (variant.AdvanceLoc 16) ≡ None
 no_room = refl
 
--- escape, delete and two bytes above ASCII
-not_printable : function_text (Some (0x1b ∷ 0x61 ∷ 0x7f ∷ 0xc3 ∷ 0xa9 ∷ 0x7e ∷ [])) ≡ codes " ?a???~"
-not_printable = refl
+-- escape, delete, a character of two bytes, and the first of them alone
+not_all_shown : function_text (Some (0x1b ∷ 0x61 ∷ 0x7f ∷ 0xc3 ∷ 0xa9 ∷ 0xc3 ∷ 0x7e ∷ [])) ≡ codes " \\x1ba\\x7f" ++ 0xc3 ∷ 0xa9 ∷ codes "\\xc3~"
+not_all_shown = refl

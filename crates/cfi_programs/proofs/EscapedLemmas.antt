@@ -2,7 +2,6 @@
 use Rattle.std.proofs.Common.{◌≡◌, ◌∙◌, ℕ, ◌+◌, ◌<◌, ◌≤◌, List, [], ◌∷◌, ◌++◌, length, get_or, drop, map, Option, Result, refl, sym, ap, subst, add-one, append_assoc, codes}
 use Rattle.std.proofs.Math.Seq.{drop-cons}
 use Rattle.std.proofs.lemmas.List.{drop_all}
-use Rattle.cfi_programs.specs.FunctionLines.{shown}
 use Rattle.cfi_programs.specs.JsonLines.{escape, escaped}
 use Rattle.cfi_programs.specs.WriterOutput.{Writes}
 use Rattle.cfi_programs.proofs.WrittenLemmas.{IsGiven}
@@ -16,19 +15,6 @@ next_escaped old now text i whole h given = subst (λ (left : List ℕ). IsGiven
 
 pub none_escaped : (text : List ℕ) (i : ℕ) → length text ≤ i → escaped (drop i text) ≡ []
 none_escaped text i h = rw drop_all refl
-
--- ---- what is shown of a name
-
-shown_first : (name : List ℕ) (i d : ℕ) → i < length name → escaped (map shown (drop i name)) ≡ escape (shown (get_or name i d)) ++ escaped (map shown (drop (i + 1) name))
-shown_first name i d h = rw (drop-cons name i d, add-one) refl
-
-pub next_shown_escaped : (old now : Option (List ℕ)) (name : List ℕ) (i b : ℕ) (whole : List ℕ) → i < length name → b ≡ shown (get_or name i 0) → IsGiven old now (escaped (map shown (drop i name))) whole →
-    IsGiven old now (escape b ++ escaped (map shown (drop (i + 1) name))) whole
-next_shown_escaped old now name i b whole h is given =
-    subst (λ (left : List ℕ). IsGiven old now left whole) (shown_first name i 0 h ∙ ap (λ (c : ℕ). escape c ++ escaped (map shown (drop (i + 1) name))) (sym is)) given
-
-pub none_shown_escaped : (name : List ℕ) (i : ℕ) → length name ≤ i → escaped (map shown (drop i name)) ≡ []
-none_shown_escaped name i h = rw drop_all refl
 
 -- the end of the object of an FDE, part by part
 pub function_regrouped : {T E : Type 0} (old new : Option (List ℕ)) (r : Result T E) (name : List ℕ) → Writes old new r (codes ",\"function\":\"" ++ (name ++ (codes "\"}}" ++ 10 ∷ []))) →

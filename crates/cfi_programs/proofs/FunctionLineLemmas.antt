@@ -1,35 +1,12 @@
--- The line of an FDE's addresses and its function's name, part by part, and the name byte by byte.
+-- The line of an FDE's addresses and its function's name, part by part.
 use Rattle.std.proofs.Common.{◌≡◌, ◌∙◌, ℕ, ◌+◌, ◌<◌, ◌≤◌, List, [], ◌∷◌, ◌++◌, length, get_or, drop, map, Option, Result, refl, sym, ap, subst, add-one}
 use Rattle.std.proofs.Math.Seq.{drop-cons}
 use Rattle.std.proofs.lemmas.List.{drop_all}
 use Rattle.cfi_entry.specs.Fdes.{Fde, end_of}
 use Rattle.cfi_programs.specs.WriterOutput.{Writes}
-use Rattle.cfi_programs.specs.FunctionLines.{shown}
 use Rattle.cfi_programs.specs.DumpRowTexts.{addresses_in, addresses_line, function_in}
 use Rattle.cfi_programs.specs.declared.style.Format.{Format}
 use Rattle.cfi_programs.proofs.WrittenLemmas.{IsGiven}
-
--- ---- a name
-
-shown_first : (name : List ℕ) (i d : ℕ) → i < length name → map shown (drop i name) ≡ shown (get_or name i d) ∷ map shown (drop (i + 1) name)
-shown_first name i d h = rw (drop-cons name i d, add-one) refl
-
-pub next_shown : (old now : Option (List ℕ)) (name : List ℕ) (i b : ℕ) → i < length name → b ≡ shown (get_or name i 0) → IsGiven old now (map shown (drop i name)) (map shown name) →
-    IsGiven old now ((b ∷ []) ++ map shown (drop (i + 1) name)) (map shown name)
-next_shown old now name i b h is given =
-    subst (λ (left : List ℕ). IsGiven old now left (map shown name)) (shown_first name i 0 h ∙ ap (λ (c : ℕ). c ∷ map shown (drop (i + 1) name)) (sym is)) given
-
-pub none_shown : (name : List ℕ) (i : ℕ) → length name ≤ i → map shown (drop i name) ≡ []
-none_shown name i h = rw drop_all refl
-
--- a name of which each byte is written as it is
-pub whole_more : (name : List ℕ) (i : ℕ) → i < length name → shown (get_or name i 0) ≡ get_or name i 0 → map shown (drop (i + 1) name) ≡ drop (i + 1) name → map shown (drop i name) ≡ drop i name
-whole_more name i h same rest =
-    let first : drop i name ≡ get_or name i 0 ∷ drop (i + 1) name = rw (drop-cons name i 0 h, add-one) refl in
-    shown_first name i 0 h ∙ ap (λ (c : ℕ). c ∷ map shown (drop (i + 1) name)) same ∙ ap (λ (xs : List ℕ). get_or name i 0 ∷ xs) rest ∙ sym first
-
-pub whole_none : (name : List ℕ) (i : ℕ) → length name ≤ i → map shown (drop i name) ≡ drop i name
-whole_none name i h = rw drop_all refl
 
 -- ---- the line
 

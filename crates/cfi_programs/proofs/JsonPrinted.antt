@@ -8,7 +8,7 @@ use Rattle.cfi_state.specs.declared.table.rules.RegisterRule.TheVariants as rule
 use Rattle.cfi_state.specs.Row.{Row}
 use Rattle.std.specs.FinMap as map
 use Rattle.cfi_object.specs.declared.register_names.RegisterNames.TheVariants.{X86_64}
-use Rattle.cfi_programs.specs.JsonLines.{bytes_of_rule, escaped, json_addresses, json_function, json_head, json_number, json_rule, json_section, rules_end, separated}
+use Rattle.cfi_programs.specs.JsonLines.{bytes_of_rule, escaped, json_addresses, json_function, json_head, json_name, json_number, json_rule, json_section, rules_end, separated}
 use Rattle.cfi_programs.specs.Lines.{reason_behind, reason_line, refusal_in}
 use Rattle.std.specs.Fmt.{decimal}
 use Rattle.cfi_object.specs.declared.register_names.RegisterNames.{RegisterNames}
@@ -68,7 +68,7 @@ no_bytes = refl
 -- ---- an FDE
 
 named_fde : json_addresses 0x1000 0x1010 ++ json_function (Some (codes "operator\"\"_s" ++ 0x1b ∷ [])) ≡
-    codes "{\"fde\":{\"start\":\"0x1000\",\"end\":\"0x1010\",\"function\":\"operator\\\"\\\"_s?\"}}"
+    codes "{\"fde\":{\"start\":\"0x1000\",\"end\":\"0x1010\",\"function\":\"operator\\\"\\\"_s\\u001b\"}}"
 unfolding computing
 named_fde = refl
 
@@ -94,6 +94,11 @@ least_string = refl
 escaped_characters : escaped (codes "a" ++ 9 ∷ 0x1f ∷ codes "\"\\" ++ 0x7f ∷ 0xc3 ∷ 0xa9 ∷ []) ≡ codes "a\\u0009\\u001f\\\"\\\\" ++ 0x7f ∷ 0xc3 ∷ 0xa9 ∷ []
 unfolding computing
 escaped_characters = refl
+
+-- a name: escape, a quotation mark, U+0085, a character of two bytes, and the first of them alone
+name_characters : json_name (0x1b ∷ 0x22 ∷ 0xc2 ∷ 0x85 ∷ 0xc3 ∷ 0xa9 ∷ 0xc3 ∷ []) ≡ codes "\\u001b\\\"\\u0085" ++ 0xc3 ∷ 0xa9 ∷ codes "\\ufffd"
+unfolding computing
+name_characters = refl
 
 refused : refusal_in Json NoUnwindInfoForAddress ≡ record { text = codes "{\"error\":\"NoUnwindInfoForAddress\"}" ++ 10 ∷ []; status = 1 }
 refused = refl

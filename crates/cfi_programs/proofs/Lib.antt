@@ -8,6 +8,7 @@ pub mod RowLineLemmas
 mod KeptRulesLemmas
 pub mod WordLemmas
 pub mod WrittenLemmas
+pub mod NamesWritten
 mod RowsPrinted
 pub mod RowsCommandLineLemmas
 pub mod RowsAnswerLemmas

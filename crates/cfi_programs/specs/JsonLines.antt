@@ -1,12 +1,13 @@
 -- Lines of JSON, an object each (RFC 8259).
 --     json_number n      a number
 --     escaped text      the characters of a string
+--     json_name name      those of a name, which may have any bytes
 --     json_row wording row      a row
 --     json_members wording row      its members, and the brace after them
 --     json_addresses start end, json_function name      an FDE
 --     json_section name      the name of a section
 use Rattle.std.specs.Prelude.{ℕ, ◌/◌, ◌%◌, ◌^◌, Bool, true, false, ◌==◌, List, [], ◌∷◌, ◌++◌}
-use Rattle.std.specs.Prelude.{Option, Some, None, map, flat_map, nat_lt, codes, if◌then◌else◌}
+use Rattle.std.specs.Prelude.{Option, Some, None, flat_map, nat_lt, codes, if◌then◌else◌}
 use Rattle.std.specs.FinMap.{get}
 use Rattle.std.specs.Fmt.{decimal, digit_glyph}
 use Rattle.cfi_read_core.specs.declared.instruction.UnwindExpression.{UnwindExpression}
@@ -16,8 +17,11 @@ use Rattle.cfi_state.specs.declared.table.rules.RegisterRule.{RegisterRule}
 use Rattle.cfi_state.specs.Machine.{Parts}
 use Rattle.cfi_state.specs.Row.{Row}
 use Rattle.cfi_object.specs.RegisterNames.{register_text}
+use Rattle.cfi_names.specs.Names.{Part, parts}
+use Rattle.cfi_names.specs.Utf8.{scalar}
+use Rattle.cfi_names.specs.declared.Kind.{Kind}
+use Rattle.cfi_names.specs.declared.Kind.TheVariants.{Shown, Control, Stray}
 use Rattle.cfi_programs.specs.Lines.{address_text}
-use Rattle.cfi_programs.specs.FunctionLines.{shown}
 use Rattle.cfi_programs.specs.RowLines.{cfa_saying, expression_in, rule_saying, rules_by}
 use Rattle.cfi_programs.specs.Wordings.{Wording}
 
@@ -38,6 +42,25 @@ escape c =
 
 abbrev pub escaped : List ℕ → List ℕ
 escaped text = flat_map escape text
+
+-- the escape of the character with this number, below 2^16
+abbrev pub number_escape : ℕ → List ℕ
+number_escape n =
+    codes "\\u" ++ digit_glyph false (n / 0x1000 % 16) ∷ digit_glyph false (n / 0x100 % 16)
+    ∷ digit_glyph false (n / 16 % 16) ∷ digit_glyph false (n % 16) ∷ []
+
+-- a string is UTF-8 (section 8.1): U+FFFD, the replacement character, stands for each byte that
+-- isn't, and each control character is escaped, also U+007F to U+009F
+abbrev pub json_kind : Kind → List ℕ → List ℕ
+json_kind Shown bytes = escaped bytes
+json_kind Control bytes = number_escape (scalar bytes)
+json_kind Stray bytes = codes "\\ufffd"
+
+abbrev pub json_part : Part → List ℕ
+json_part part = json_kind part.kind part.bytes
+
+abbrev pub json_name : List ℕ → List ℕ
+json_name name = flat_map json_part (parts name)
 
 -- ---- a row
 
@@ -131,11 +154,10 @@ json_addresses start end =
     codes "{\"fde\":{\"start\":\"" ++ address_text start ++ codes "\",\"end\":\""
     ++ address_text end ++ codes "\""
 
--- the function that begins at the first, with a question mark for each byte that is not printable
--- ASCII; and the end
+-- the function that begins at the first, and the end
 abbrev pub json_function : Option (List ℕ) → List ℕ
 json_function None = codes "}}"
-json_function (Some name) = codes ",\"function\":\"" ++ (escaped (map shown name) ++ codes "\"}}")
+json_function (Some name) = codes ",\"function\":\"" ++ (json_name name ++ codes "\"}}")
 
 -- ---- the name of a section
 

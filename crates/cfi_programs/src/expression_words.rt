@@ -12,7 +12,7 @@ ghost use Rattle.cfi_object.specs.RegisterNames.{register_text};
 
 use crate::lines::{write_part, write_text};
 use crate::operations::{Operand, Operation, entry_of, read_operation};
-use crate::text::digit;
+use cfi_names::digit;
 use cfi_object::register_names::RegisterNames;
 use gimli_cfi::{Error, Reader, Register, UnwindExpression, UnwindSection};
 use std::fmt::{Display, Formatter};

@@ -5,7 +5,8 @@ ghost use Rattle.cfi_programs.specs.JsonLines.{escape, escaped, json_number};
 ghost use Rattle.cfi_programs.specs.WriterOutput.{Writes};
 
 use crate::lines::write_text;
-use crate::text::{Text, digit, push, push_decimal};
+use crate::text::{Text, push, push_decimal};
+use cfi_names::digit;
 use std::io::Write;
 use std::{fmt, io};
 

@@ -12,6 +12,7 @@ pub mod json;
 mod json_row;
 mod kept_rules;
 pub mod lines;
+pub mod names;
 mod operations;
 pub mod row_line;
 pub mod row_words;

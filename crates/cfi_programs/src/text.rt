@@ -5,13 +5,11 @@ ghost use Rattle.std.specs.Fmt.{decimal, digit_glyph, digits, signed_decimal};
 ghost use Rattle.cfi_programs.specs.Lines.{address_text};
 
 use arrayvec::ArrayVec;
+use cfi_names::digit;
 use std::fmt;
 
 /// Text that is not written yet, of at most 1024 bytes.
 pub type Text = ArrayVec<u8, 1024>;
-
-/// The lower-case hexadecimal digits, by their values.
-const DIGITS: [u8; 16] = *b"0123456789abcdef";
 
 /// Appends the bytes. Fails where there is no room for them.
 #[inline(always)]
@@ -262,13 +260,4 @@ fn push_pair(text: &mut Text, number: u8) -> fmt::Result
         ++ digit_glyph false (number / 16) ∷ digit_glyph false (number % 16) ∷ []) }
 {
     push_two(text, digit(number / 16), digit(number % 16))
-}
-
-/// Returns the lower-case hexadecimal digit of the value.
-#[inline(always)]
-pub(crate) fn digit(value: u8) -> u8
-    requires { value < 16 }
-    ensures { result ≡ digit_glyph false value }
-{
-    DIGITS[value as usize]
 }

@@ -2,8 +2,10 @@
 use Rattle.std.proofs.Common.{◌≡◌, ◌∙◌, ◌⊎◌, ℕ, ◌+◌, ◌<◌, ◌≤◌, ◌^◌, Bool, List, [], ◌∷◌, ◌++◌, Option, Some, None, Result, Ok, Err, OnOk, IfErr, length, get_or, take, drop, map, codes, add-one, refl, sym, ap, subst, inl, inr, append_assoc, arith, unwrap_or, true, false, nat_eq}
 use Rattle.std.specs.Option.{option_eq}
 use Rattle.std.proofs.Math.Seq.{drop-cons}
-use Rattle.std.proofs.lemmas.List.{take-append-drop}
+use Rattle.std.proofs.lemmas.List.{map-append, take-append-drop}
 use Rattle.std.specs.List.{flat_map}
+use Rattle.cfi_names.specs.Names.{Part, first_part, parts, shown, shown_part}
+use Rattle.cfi_names.proofs.NameLemmas.{one_made}
 use Rattle.cfi_flame.specs.declared.folded.FoldedError.{FoldedError}
 use Rattle.cfi_flame.specs.declared.folded.FoldedError.TheVariants.{OutOfMemory, NotFolded, NoSamples, TooManySamples}
 use Rattle.cfi_flame.specs.FoldedCounts.{AreCounted, CountsMore, IsNotAdded, counted, line_text}
@@ -37,6 +39,27 @@ one_pushed f line next all xs i d inside e h =
     let first : drop i xs ≡ get_or xs i d ∷ drop (i + 1) xs = rw (drop-cons xs i d, add-one) refl in
     ap (λ (x : List ℕ). x ++ map f (drop (i + 1) xs)) e ∙ append_assoc line (f (get_or xs i d) ∷ []) (map f (drop (i + 1) xs))
     ∙ ap (λ (rest : List ℕ). line ++ map f rest) (sym first) ∙ h
+
+-- what stands for each, of several bytes
+pub one_mapped : (f : ℕ → ℕ) (text : ℕ → List ℕ) (line next all : List ℕ) (xs : List ℕ) (i d : ℕ) → i < length xs → next ≡ line ++ map f (text (get_or xs i d)) → line ++ map f (flat_map text (drop i xs)) ≡ all
+    → next ++ map f (flat_map text (drop (i + 1) xs)) ≡ all
+one_mapped f text line next all xs i d inside e h =
+    let first : drop i xs ≡ get_or xs i d ∷ drop (i + 1) xs = rw (drop-cons xs i d, add-one) refl in
+    let one = text (get_or xs i d) in
+    let others = flat_map text (drop (i + 1) xs) in
+    ap (λ (x : List ℕ). x ++ map f others) e ∙ append_assoc line (map f one) (map f others) ∙ ap (λ (x : List ℕ). line ++ x) (sym (map-append f one others))
+    ∙ ap (λ (rest : List ℕ). line ++ map f (flat_map text rest)) (sym first) ∙ h
+
+-- a name, part by part
+mapped_parts : (f : ℕ → ℕ) (parts : List Part) → map f (flat_map shown_part parts) ≡ flat_map (λ part. map f (shown_part part)) parts
+mapped_parts f [] = refl
+mapped_parts f (part ∷ parts) = map-append f (shown_part part) (flat_map shown_part parts) ∙ ap (λ (more : List ℕ). map f (shown_part part) ++ more) (mapped_parts f parts)
+
+pub one_named_part : (f : ℕ → ℕ) (bytes line : List ℕ) (part : Part) (left next all : List ℕ) → 0 < length bytes → part ≡ first_part bytes → left ≡ drop (length part.bytes) bytes → next ≡ line ++ map f (shown_part part)
+    → line ++ map f (shown bytes) ≡ all → next ++ map f (shown left) ≡ all
+one_named_part f bytes line part left next all some first is e h =
+    ap (λ (more : List ℕ). next ++ more) (mapped_parts f (parts left))
+    ∙ one_made (λ part. map f (shown_part part)) bytes line part left next all some first is e (ap (λ (more : List ℕ). line ++ more) (sym (mapped_parts f (parts bytes))) ∙ h)
 
 pub one_named : (files : List KnownFile) (list : List MappedCode) (frames : List StackFrame) (k left : ℕ) (d : StackFrame) (start line next more : List ℕ) → k ≡ left + 1 → k ≤ length frames
     → line ≡ start ++ names_text files list (drop k frames) → next ≡ line ++ codes ";" → more ≡ next ++ frame_name files list (get_or frames left d) → more ≡ start ++ names_text files list (drop left frames)

@@ -3,8 +3,7 @@ use Rattle.std.proofs.Common.{◌≡◌, ◌∙◌, ℕ, ◌+◌, ◌<◌, ◌�
 use Rattle.std.proofs.Math.Seq.{drop-cons}
 use Rattle.std.proofs.lemmas.List.{drop_all}
 use Rattle.std.specs.List.{flat_map}
-use Rattle.cfi_programs.specs.FunctionLines.{shown}
-use Rattle.cfi_programs.specs.JsonLines.{escaped, separated}
+use Rattle.cfi_programs.specs.JsonLines.{separated}
 use Rattle.cfi_programs.proofs.WrittenLemmas.{IsGiven}
 use Rattle.cfi_stacks.specs.StackObjects.{comma, frame_object, is_nil}
 use Rattle.cfi_processes.specs.Sites.{Site}
@@ -51,12 +50,3 @@ none_behind object is_first xs i behind = none_left object is_first (drop i xs) 
 pub two_lists : {X : Type 0} (object : X → List ℕ) (xs : List X) (more : List ℕ) → separated true (flat_map (led object) xs ++ more) ≡ separated true (flat_map (led object) xs) ++ separated (not (not (is_nil xs))) more
 two_lists object [] more = refl
 two_lists object (x ∷ xs) more = refl
-
--- ---- a string, byte by byte
-
-pub next_escaped : (old now : Option (List ℕ)) (name : List ℕ) (i b : ℕ) → i < length name → b ≡ shown (get_or name i 0) → IsGiven old now (escaped (map shown (drop i name))) (escaped (map shown name))
-    → IsGiven old now (escaped (b ∷ []) ++ escaped (map shown (drop (i + 1) name))) (escaped (map shown name))
-next_escaped old now name i b inside is given =
-    let first : drop i name ≡ get_or name i 0 ∷ drop (i + 1) name = rw (drop-cons name i 0, add-one) refl in
-    subst (λ (text : List ℕ). IsGiven old now text (escaped (map shown name)))
-    (ap (λ (xs : List ℕ). escaped (map shown xs)) first ∙ (ap (λ (c : ℕ). escaped (c ∷ map shown (drop (i + 1) name))) (sym is) ∙ ap (λ (front : List ℕ). front ++ escaped (map shown (drop (i + 1) name))) (sym (append-nil _)))) given

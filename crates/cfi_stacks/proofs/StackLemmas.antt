@@ -3,31 +3,12 @@ use Rattle.std.proofs.Common.{◌≡◌, ◌∙◌, ℕ, ◌+◌, ◌<◌, ◌�
 use Rattle.std.proofs.Math.Seq.{drop-cons}
 use Rattle.std.proofs.lemmas.List.{drop_all}
 use Rattle.std.specs.List.{flat_map, list_all}
-use Rattle.cfi_programs.specs.FunctionLines.{shown}
+use Rattle.cfi_names.specs.Names.{shown}
 use Rattle.cfi_programs.proofs.WrittenLemmas.{IsGiven}
 use Rattle.cfi_perf.specs.Samples.{Sample}
 use Rattle.cfi_processes.specs.Names.{is_printable}
 use Rattle.cfi_processes.specs.Sites.{Site}
 use Rattle.cfi_stacks.specs.StackTexts.{file_text, function_text, numbers_text}
-
--- ---- a name
-
-shown_first : (name : List ℕ) (i d : ℕ) → i < length name → map shown (drop i name) ≡ shown (get_or name i d) ∷ map shown (drop (i + 1) name)
-shown_first name i d h = rw (drop-cons name i d, add-one) refl
-
-pub next_shown : (old now : Option (List ℕ)) (name : List ℕ) (i b : ℕ) → i < length name → b ≡ shown (get_or name i 0) → IsGiven old now (map shown (drop i name)) (map shown name) →
-    IsGiven old now ((b ∷ []) ++ map shown (drop (i + 1) name)) (map shown name)
-next_shown old now name i b h is given =
-    subst (λ (left : List ℕ). IsGiven old now left (map shown name)) (shown_first name i 0 h ∙ ap (λ (c : ℕ). c ∷ map shown (drop (i + 1) name)) (sym is)) given
-
--- a name without other bytes is shown as it is
-pub all_shown : (name : List ℕ) → list_all is_printable name ≡ true → map shown name ≡ name
-all_shown [] plain = refl
-all_shown (c ∷ cs) plain = by (is_printable c) refl plain (all_shown cs)
-  where
-    by : (b : Bool) → is_printable c ≡ b → (b && list_all is_printable cs) ≡ true → (list_all is_printable cs ≡ true → map shown cs ≡ cs) → map shown (c ∷ cs) ≡ c ∷ cs
-    by true printable rest others = ap₂ (λ (x : ℕ) (xs : List ℕ). x ∷ xs) (ap (λ (b : Bool). cond b c 63) printable) (others rest)
-    by false printable rest others = absurd (true≢false (sym rest))
 
 -- ---- the parts of a sample's first line, each from its place on
 
@@ -35,7 +16,7 @@ abbrev pub colon : List ℕ
 colon = codes ":" ++ 10 ∷ []
 
 abbrev pub from_event : Sample → List ℕ
-from_event s = map shown s.event ++ colon
+from_event s = shown s.event ++ colon
 
 abbrev pub from_numbers : ℕ → Sample → List ℕ
 from_numbers time s = numbers_text time s ++ from_event s

@@ -1,14 +1,14 @@
 -- The folded stack of a sample: the thread, and the functions from the outermost one in, between
 -- semicolons.
---     harmless byte      what stands for a byte of a name: a semicolon is a colon
+--     folded_name space name      what stands for a name: for its semicolons colons
 --     site_name site      the name of a frame's function, or that of its file in brackets
 --     folded_text in_kernel files list name s result room      the stack of a sample: of a walk, or
 --         of its call chain, and the frames of the kernel
 use Rattle.std.specs.Prelude.{ℕ, ◌==◌, List, [], ◌∷◌, ◌++◌, Option, Some, None, Result, Ok, Err}
 use Rattle.std.specs.Prelude.{codes, drop, map, take, if◌then◌else◌}
+use Rattle.cfi_names.specs.Names.{shown}
 use Rattle.cfi_flame.specs.FoldedStacks.{last_part}
 use Rattle.cfi_elf.specs.FunctionPlaces.{Place}
-use Rattle.cfi_programs.specs.FunctionLines.{shown}
 use Rattle.cfi_perf.specs.Samples.{Sample, kernel_frames, user_frames}
 use Rattle.cfi_step.specs.declared.walk.StackFrame.{StackFrame}
 use Rattle.cfi_step.specs.declared.walk.Walk.{Walk}
@@ -21,17 +21,17 @@ use Rattle.cfi_stacks.specs.StackTexts.{name_text, unknown}
 
 -- ---- names
 
--- printable ASCII, or a question mark; a semicolon, which stands between names, is a colon
-abbrev pub harmless : ℕ → ℕ
-harmless c = if c == 59 then 58 else shown c
+-- a semicolon (59), which stands between names, is a colon, and a space the byte that is given
+abbrev pub harmless : ℕ → ℕ → ℕ
+harmless space c = if c == 59 then 58 else if c == 32 then space else c
 
--- and a space is an underscore
-abbrev pub joined : ℕ → ℕ
-joined c = if c == 32 then 95 else harmless c
+abbrev pub folded_name : ℕ → List ℕ → List ℕ
+folded_name space name = map (harmless space) (shown name)
 
--- where none is known, as in the line before the frames of a sample
+-- with underscores (95) for spaces; where none is known, as in the line before the frames of a
+-- sample
 abbrev pub thread_name : ℕ → Option (List ℕ) → List ℕ
-thread_name tid (Some name) = map joined name
+thread_name tid (Some name) = folded_name 95 name
 thread_name tid None = name_text tid None
 
 -- behind the last slash
@@ -40,11 +40,11 @@ base_name path = drop (last_part 47 path) path
 
 abbrev pub file_name : Option (List ℕ) → List ℕ
 file_name None = unknown
-file_name (Some path) = codes "[" ++ (map harmless (base_name path) ++ codes "]")
+file_name (Some path) = codes "[" ++ (folded_name 32 (base_name path) ++ codes "]")
 
 abbrev pub name_at : Option Place → Option (List ℕ) → List ℕ
 name_at None file = file_name file
-name_at (Some place) file = map harmless place.name
+name_at (Some place) file = folded_name 32 place.name
 
 abbrev pub site_name : Site → List ℕ
 site_name site = name_at site.function site.file

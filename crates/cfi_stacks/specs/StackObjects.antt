@@ -14,8 +14,8 @@ use Rattle.cfi_perf.specs.Samples.{Sample}
 use Rattle.cfi_processes.specs.Sites.{Site}
 use Rattle.cfi_programs.specs.declared.style.Format.{Format}
 use Rattle.cfi_programs.specs.declared.style.Format.TheVariants.{Text, Json}
-use Rattle.cfi_programs.specs.FunctionLines.{shown}
-use Rattle.cfi_programs.specs.JsonLines.{escaped, json_number, separated}
+use Rattle.cfi_names.specs.Names.{shown}
+use Rattle.cfi_programs.specs.JsonLines.{json_name, json_number, separated}
 use Rattle.cfi_programs.specs.Lines.{address_text}
 use Rattle.cfi_stacks.specs.Reasons.{Reason}
 use Rattle.cfi_stacks.specs.Signals.{signal_name}
@@ -33,11 +33,11 @@ offset_member offset = codes "\",\"offset\":" ++ json_number offset
 abbrev pub function_members : Option Place → List ℕ
 function_members None = []
 function_members (Some place) =
-    codes ",\"function\":\"" ++ (escaped (map shown place.name) ++ offset_member place.offset)
+    codes ",\"function\":\"" ++ (json_name place.name ++ offset_member place.offset)
 
 abbrev pub file_member : Option (List ℕ) → List ℕ
 file_member None = []
-file_member (Some name) = codes ",\"file\":\"" ++ (escaped (map shown name) ++ codes "\"")
+file_member (Some name) = codes ",\"file\":\"" ++ (json_name name ++ codes "\"")
 
 -- raw: the function is left out
 abbrev pub function_in : Bool → Option Place → Option Place
@@ -85,7 +85,7 @@ object_end reason = codes "]" ++ (end_member reason ++ (codes "}" ++ 10 ∷ []))
 
 -- the name of its thread; where none is known its number, but for the idle thread
 abbrev pub comm_text : ℕ → Option (List ℕ) → List ℕ
-comm_text tid (Some name) = escaped (map shown name)
+comm_text tid (Some name) = json_name name
 comm_text tid None = name_text tid None
 
 -- nanoseconds as seconds, with nine digits behind the point
@@ -114,7 +114,7 @@ abbrev pub sample_head : Option (List ℕ) → ℕ → Sample → List ℕ
 sample_head name time s =
     codes "{\"comm\":\""
     ++ (comm_text s.tid name
-    ++ (number_members time s ++ (escaped (map shown s.event) ++ codes "\",\"frames\":[")))
+    ++ (number_members time s ++ (json_name s.event ++ codes "\",\"frames\":[")))
 
 -- ---- what comes before the frames of a thread of a core file
 
@@ -142,7 +142,7 @@ tid_members tid signal fault =
 
 abbrev pub process_member : Option (List ℕ) → List ℕ
 process_member None = []
-process_member (Some name) = codes ",\"process\":\"" ++ (escaped (map shown name) ++ codes "\"")
+process_member (Some name) = codes ",\"process\":\"" ++ (json_name name ++ codes "\"")
 
 abbrev pub thread_head : ℕ → ℕ → Option Fault → Option (List ℕ) → List ℕ
 thread_head tid signal fault name =

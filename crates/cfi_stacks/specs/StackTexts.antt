@@ -9,7 +9,7 @@ use Rattle.std.specs.Prelude.{ℕ, ◌-◌, ◌/◌, ◌%◌, ◌==◌, Bool, Li
 use Rattle.std.specs.Prelude.{codes, false, length, map, take, if◌then◌else◌}
 use Rattle.std.specs.Fmt.{decimal, digits}
 use Rattle.cfi_elf.specs.FunctionPlaces.{Place}
-use Rattle.cfi_programs.specs.FunctionLines.{shown}
+use Rattle.cfi_names.specs.Names.{shown}
 use Rattle.cfi_programs.specs.Lines.{address_text}
 use Rattle.cfi_cores.specs.declared.fault.Fault.{Fault}
 use Rattle.cfi_perf.specs.Samples.{Sample}
@@ -37,7 +37,7 @@ left fill number = decimal number ++ take (length fill - length (decimal number)
 
 -- the name of a thread; where none is known its number, but for the idle thread
 abbrev pub name_text : ℕ → Option (List ℕ) → List ℕ
-name_text tid (Some name) = map shown name
+name_text tid (Some name) = shown name
 name_text tid None = if tid == 0 then codes "swapper" else codes ":" ++ decimal tid
 
 abbrev pub thread_text : ℕ → ℕ → List ℕ
@@ -60,7 +60,7 @@ numbers_text time s =
 abbrev pub head_line : Option (List ℕ) → ℕ → Sample → List ℕ
 head_line name time s =
     name_text s.tid name
-    ++ (numbers_text time s ++ (map shown s.event ++ (codes ":" ++ 10 ∷ [])))
+    ++ (numbers_text time s ++ (shown s.event ++ (codes ":" ++ 10 ∷ [])))
 
 -- behind a space, where there is one
 abbrev pub signal_name_text : Option (List ℕ) → List ℕ
@@ -85,7 +85,7 @@ thread_start tid signal fault = codes "thread " ++ decimal tid ++ signal_text si
 
 abbrev pub process_text : Option (List ℕ) → List ℕ
 process_text None = []
-process_text (Some name) = codes " of " ++ map shown name
+process_text (Some name) = codes " of " ++ shown name
 
 abbrev pub thread_line : ℕ → ℕ → Option Fault → Option (List ℕ) → List ℕ
 thread_line tid signal fault name =
@@ -98,11 +98,11 @@ unknown = codes "[unknown]"
 
 abbrev pub function_text : Option Place → List ℕ
 function_text None = unknown
-function_text (Some place) = map shown place.name ++ (codes "+" ++ address_text place.offset)
+function_text (Some place) = shown place.name ++ (codes "+" ++ address_text place.offset)
 
 abbrev pub file_text : Option (List ℕ) → List ℕ
 file_text None = unknown
-file_text (Some name) = map shown name
+file_text (Some name) = shown name
 
 -- behind a tab, in sixteen columns
 abbrev pub number_column : ℕ → List ℕ

@@ -1,6 +1,7 @@
 //! The folded stack of a sample.
 ghost use Rattle.std.specs.Prelude.{◌≡◌, ◌≤◌, ◌++◌, IfOk, None, OnOk, codes, length, map};
-ghost use Rattle.std.specs.Prelude.{option_map};
+ghost use Rattle.std.specs.Prelude.{flat_map, option_map};
+ghost use Rattle.cfi_names.specs.Names.{byte_escape, part_view, shown_part};
 ghost use Rattle.cfi_perf.specs.CallChains.{addresses_left};
 ghost use Rattle.cfi_perf.specs.Samples.{sample_view};
 ghost use Rattle.cfi_processes.specs.KnownFiles.{chain_site, kernel_site, known_view};
@@ -9,12 +10,12 @@ ghost use Rattle.cfi_processes.specs.Sites.{site_view};
 ghost use Rattle.cfi_processes.specs.ThreadNames.{bytes_of};
 ghost use Rattle.cfi_stacks.specs.FoldedTexts.{base_name, chain_names, file_name, folded_text};
 ghost use Rattle.cfi_stacks.specs.FoldedTexts.{frame_name, user_names};
-ghost use Rattle.cfi_stacks.specs.FoldedTexts.{harmless, joined, names_text, site_name};
+ghost use Rattle.cfi_stacks.specs.FoldedTexts.{folded_name, harmless, names_text, site_name};
 ghost use Rattle.cfi_stacks.specs.FoldedTexts.{thread_name, walk_names};
 
 use cfi_flame::folded::last_part;
+use cfi_names::{Kind, Part, byte_escape, first_part, is_plain};
 use cfi_perf::{Addresses, Sample};
-use cfi_processes::names::is_printable;
 use cfi_processes::process_code::ProcessCode;
 use cfi_processes::sample_stack::NoFrames;
 use cfi_processes::{Name, Site};
@@ -30,8 +31,8 @@ use std::alloc::AllocError;
 /// `addresses` is room for those of a call chain.
 ///
 /// A frame without a function has the name of its file in brackets, without the folders, or
-/// `[unknown]`. A semicolon in a name becomes a colon, a space in a thread's an underscore, and a
-/// byte that isn't printable ASCII a question mark. Fails where memory is refused.
+/// `[unknown]`. Names are as they are printed, but a semicolon becomes a colon, and a space in a
+/// thread's name an underscore. Fails where memory is refused.
 pub fn push_stack(
     line: &mut Vec<u8>,
     addresses: &mut Vec<u64>,
@@ -153,7 +154,7 @@ fn push_thread(line: &mut Vec<u8>, tid: u32, name: Option<Name<'_>>) -> Result<(
         (line.new.items ≡ line.old.items ++ thread_name tid (bytes_of name.entry)) }
 {
     match name {
-        Some(name) => push_joined(line, name.bytes),
+        Some(name) => push_name(line, name.bytes, b'_'),
         None => push_number_of(line, tid),
     }
 }
@@ -168,16 +169,6 @@ fn push_number_of(line: &mut Vec<u8>, tid: u32) -> Result<(), AllocError>
     let mut digits = Buffer::new();
     line.extend_from_slice(b":")?;
     line.extend_from_slice(digits.format(tid).as_bytes())
-}
-
-/// Appends a name, with underscores for its spaces.
-fn push_joined(line: &mut Vec<u8>, name: &[u8]) -> Result<(), AllocError>
-    ensures { OnOk result (line.new.items ≡ line.old.items ++ map joined name.now) }
-{
-    for byte in name {
-        line.push(joined(*byte))?;
-    }
-    Ok(())
 }
 
 /// Appends the functions of the frames, of which the first is the innermost.
@@ -219,7 +210,7 @@ fn push_site(line: &mut Vec<u8>, site: Site<'_>) -> Result<(), AllocError>
         (line.new.items ≡ line.old.items ++ site_name (site_view site.entry)) }
 {
     match site.function {
-        Some(place) => push_harmless(line, place.name),
+        Some(place) => push_name(line, place.name, b' '),
         None => push_file(line, site.file),
     }
 }
@@ -238,10 +229,10 @@ fn push_file(line: &mut Vec<u8>, file: Option<Name<'_>>) -> Result<(), AllocErro
 /// Appends a name in brackets.
 fn push_in_brackets(line: &mut Vec<u8>, name: &[u8]) -> Result<(), AllocError>
     ensures { OnOk result (line.new.items
-        ≡ line.old.items ++ (codes "[" ++ (map harmless name.now ++ codes "]"))) }
+        ≡ line.old.items ++ (codes "[" ++ (folded_name 32 name.now ++ codes "]"))) }
 {
     line.extend_from_slice(b"[")?;
-    push_harmless(line, name)?;
+    push_name(line, name, b' ')?;
     line.extend_from_slice(b"]")
 }
 
@@ -252,32 +243,61 @@ fn base_name(path: &[u8]) -> &[u8]
     &path[last_part(path, b'/')..]
 }
 
-/// Appends a name.
-fn push_harmless(line: &mut Vec<u8>, name: &[u8]) -> Result<(), AllocError>
-    ensures { OnOk result (line.new.items ≡ line.old.items ++ map harmless name.now) }
+/// Appends a name, with this byte for its spaces.
+fn push_name(line: &mut Vec<u8>, name: &[u8], space: u8) -> Result<(), AllocError>
+    ensures { OnOk result (line.new.items ≡ line.old.items ++ folded_name space name.now) }
 {
-    for byte in name {
-        line.push(harmless(*byte))?;
+    if is_plain(name) {
+        return push_harmless(line, name, space);
+    }
+    let mut left = name;
+    while !left.is_empty() {
+        let part = first_part(left);
+        push_part(line, part, space)?;
+        left = &left[part.bytes.len()..];
     }
     Ok(())
 }
 
-/// What stands for a byte of a name.
-fn harmless(byte: u8) -> u8
-    ensures { result ≡ harmless byte }
+/// Appends what is shown of a part of a name.
+fn push_part(line: &mut Vec<u8>, part: Part<'_>, space: u8) -> Result<(), AllocError>
+    ensures { OnOk result (line.new.items
+        ≡ line.old.items ++ map (harmless space) (shown_part (part_view part.entry))) }
 {
-    if byte == b';' {
-        b':'
-    } else if is_printable(byte) {
-        byte
-    } else {
-        b'?'
+    match part.kind {
+        Kind::Shown => push_harmless(line, part.bytes, space),
+        Kind::Control | Kind::Stray => push_escapes(line, part.bytes, space),
     }
 }
 
-/// What stands for a byte of a thread's name.
-fn joined(byte: u8) -> u8
-    ensures { result ≡ joined byte }
+/// Appends what stands for the bytes where they aren't shown.
+fn push_escapes(line: &mut Vec<u8>, bytes: &[u8], space: u8) -> Result<(), AllocError>
+    ensures { OnOk result (line.new.items
+        ≡ line.old.items ++ map (harmless space) (flat_map byte_escape bytes.now)) }
 {
-    if byte == b' ' { b'_' } else { harmless(byte) }
+    for byte in bytes {
+        push_harmless(line, &byte_escape(*byte), space)?;
+    }
+    Ok(())
+}
+
+/// Appends what stands for the bytes.
+fn push_harmless(line: &mut Vec<u8>, bytes: &[u8], space: u8) -> Result<(), AllocError>
+    ensures { OnOk result (line.new.items ≡ line.old.items ++ map (harmless space) bytes.now) }
+{
+    for byte in bytes {
+        line.push(harmless(space, *byte))?;
+    }
+    Ok(())
+}
+
+/// What stands for a byte, where this one stands for a space.
+fn harmless(space: u8, byte: u8) -> u8
+    ensures { result ≡ harmless space byte }
+{
+    match byte {
+        b';' => b':',
+        b' ' => space,
+        _ => byte,
+    }
 }

@@ -4,21 +4,20 @@ ghost use Rattle.cfi_elf.specs.FunctionPlaces.{place_view};
 ghost use Rattle.cfi_processes.specs.KnownFiles.{known_view, site_of};
 ghost use Rattle.cfi_processes.specs.Mappings.{AreInOrder};
 ghost use Rattle.cfi_processes.specs.Sites.{site_view};
-ghost use Rattle.cfi_programs.specs.FunctionLines.{shown};
-ghost use Rattle.cfi_programs.specs.JsonLines.{escaped};
+ghost use Rattle.cfi_programs.specs.JsonLines.{json_name};
 ghost use Rattle.cfi_programs.specs.WriterOutput.{Writes};
 ghost use Rattle.cfi_stacks.specs.Reasons.{reason_view};
 ghost use Rattle.cfi_stacks.specs.StackObjects.{end_member, file_member, frame_object};
 ghost use Rattle.cfi_stacks.specs.StackObjects.{function_in, function_members, object_end};
 ghost use Rattle.cfi_stacks.specs.StackObjects.{offset_member, place_member};
 
-use crate::names::shown;
 use crate::reasons::Reason;
 use cfi_elf::FunctionPlace;
 use cfi_processes::process_code::ProcessCode;
 use cfi_processes::{Name, Site};
-use cfi_programs::json::{push_number, write_escaped};
+use cfi_programs::json::push_number;
 use cfi_programs::lines::{write_between, write_text};
+use cfi_programs::names::write_json_name;
 use cfi_programs::text::{Text, push, push_address};
 use std::io::Write;
 use std::{fmt, io};
@@ -107,7 +106,7 @@ fn write_function<W: Write>(output: &mut W, place: FunctionPlace<'_>) -> io::Res
         (function_members (Some (place_view place.entry))) }
 {
     write_text(output, b",\"function\":\"")?;
-    write_string(output, place.name)?;
+    write_json_name(output, place.name)?;
     write_offset_member(output, place.offset)
 }
 
@@ -135,22 +134,11 @@ fn write_file_member<W: Write>(output: &mut W, name: Option<Name<'_>>) -> io::Re
 /// Writes a name as the rest of a string whose beginning this is.
 pub(crate) fn write_named<W: Write>(output: &mut W, before: &[u8], name: &[u8]) -> io::Result<()>
     ensures { Writes (W.contents output.old) (W.contents output.new) result
-        (before.now ++ (escaped (map shown name.now) ++ codes "\"")) }
+        (before.now ++ (json_name name.now ++ codes "\"")) }
 {
     write_text(output, before)?;
-    write_string(output, name)?;
+    write_json_name(output, name)?;
     write_text(output, b"\"")
-}
-
-/// Writes a name in a string: a byte that isn't printable ASCII as a question mark.
-pub(crate) fn write_string<W: Write>(output: &mut W, name: &[u8]) -> io::Result<()>
-    ensures { Writes (W.contents output.old) (W.contents output.new) result
-        (escaped (map shown name.now)) }
-{
-    for byte in name {
-        write_escaped(output, &[shown(*byte)])?;
-    }
-    Ok(())
 }
 
 /// Writes the end of the object of a stack: why there are no more frames, if there is a reason.

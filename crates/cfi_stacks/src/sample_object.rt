@@ -16,7 +16,7 @@ ghost use Rattle.cfi_stacks.specs.StackObjects.{closing, comm_text, comma, cpu_m
 ghost use Rattle.cfi_stacks.specs.StackObjects.{listed};
 ghost use Rattle.cfi_stacks.specs.StackObjects.{nanoseconds_text, number_members, sample_head};
 
-use crate::object_lines::{write_code_object, write_frame_object, write_object_end, write_string};
+use crate::object_lines::{write_code_object, write_frame_object, write_object_end};
 use crate::reasons::{Reason, reason_of, reason_without};
 use crate::stack_lines::{push_filled, write_without_name};
 use cfi_perf::{Addresses, Sample};
@@ -25,6 +25,7 @@ use cfi_processes::process_code::ProcessCode;
 use cfi_processes::sample_stack::NoFrames;
 use cfi_programs::json::push_number;
 use cfi_programs::lines::write_text;
+use cfi_programs::names::write_json_name;
 use cfi_programs::text::{Text, push, push_decimal};
 use cfi_step::{StackFrame, Walk, row_address};
 use std::io::Write;
@@ -71,7 +72,7 @@ fn write_sample_head<W: Write>(
     write_text(output, b"{\"comm\":\"")?;
     write_comm(output, sample.tid, name)?;
     write_number_members(output, time, sample)?;
-    write_string(output, sample.event)?;
+    write_json_name(output, sample.event)?;
     write_text(output, b"\",\"frames\":[")
 }
 
@@ -81,7 +82,7 @@ fn write_comm<W: Write>(output: &mut W, tid: u32, name: Option<Name<'_>>) -> io:
         (comm_text tid (bytes_of name.entry)) }
 {
     match name {
-        Some(name) => write_string(output, name.bytes),
+        Some(name) => write_json_name(output, name.bytes),
         None => write_without_name(output, tid),
     }
 }

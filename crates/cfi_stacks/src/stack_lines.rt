@@ -12,11 +12,12 @@ ghost use Rattle.cfi_stacks.specs.StackTexts.{name_text, number_column, numbers_
 ghost use Rattle.cfi_stacks.specs.StackTexts.{right, seconds_text, site_line, thread_text};
 ghost use Rattle.cfi_stacks.specs.StackTexts.{time_text};
 
-use crate::names::{push_known_name, push_name, write_known_name, write_name};
+use crate::names::{push_known_name, push_name, write_known_name};
 use cfi_elf::FunctionPlace;
 use cfi_perf::Sample;
 use cfi_processes::{Name, Site};
 use cfi_programs::lines::write_text;
+use cfi_programs::names::write_name;
 use cfi_programs::text::{Text, push, push_address, push_decimal};
 use std::io::Write;
 use std::{fmt, io};
@@ -198,8 +199,7 @@ fn write_numbers<W: Write>(output: &mut W, time: u64, sample: &Sample<'_>) -> io
 
 /// Writes the line of a frame part by part: a tab, the place in the file in sixteen columns, the
 /// function and how far into it the address is, and the file in parentheses. `[unknown]` stands for
-/// a function or a file that isn't known. Bytes of names that aren't printable ASCII are question
-/// marks.
+/// a function or a file that isn't known.
 fn write_frame_line<W: Write>(output: &mut W, site: Site<'_>) -> io::Result<()>
     ensures { Writes (W.contents output.old) (W.contents output.new) result
         (frame_line (site_view site.entry)) }

@@ -1,15 +1,17 @@
 //! The end of the line of an FDE's addresses: the name of the function that begins there.
-ghost use Rattle.std.specs.Prelude.{◌≡◌, ◌++◌, [], ◌∷◌, Some, map, option_map, true, false};
+ghost use Rattle.std.specs.Prelude.{◌≡◌, ◌++◌, [], ◌∷◌, Some, option_map, true, false};
 ghost use Rattle.std.specs.Prelude.{IfOk, OnOk};
+ghost use Rattle.cfi_names.specs.Names.{shown};
 ghost use Rattle.cfi_programs.specs.WriterOutput.{Writes};
-ghost use Rattle.cfi_programs.specs.FunctionLines.{function_text, shown};
-ghost use Rattle.cfi_programs.specs.JsonLines.{escaped, json_function};
+ghost use Rattle.cfi_programs.specs.FunctionLines.{function_text};
+ghost use Rattle.cfi_programs.specs.JsonLines.{json_function};
 ghost use Rattle.cfi_programs.specs.DumpRowTexts.{function_in};
 
-use crate::json::write_escape;
 use crate::lines::write_text;
+use crate::names::{write_json_name, write_name};
 use crate::style::Format;
 use crate::text::{Text, push};
+use cfi_names::is_plain;
 use std::io::Write;
 use std::{fmt, io};
 
@@ -17,7 +19,7 @@ use std::{fmt, io};
 const LONGEST: usize = 512;
 
 /// Appends the end of a line of text, after a space and the name where there is one, if the name is
-/// not long and each of its bytes is written as it is. Returns whether it does; not in JSON. Fails
+/// not long and each of its bytes is printable ASCII. Returns whether it does; not in JSON. Fails
 /// where there is no room for it.
 pub(crate) fn push_end(
     text: &mut Text,
@@ -47,10 +49,10 @@ fn push_line_feed(text: &mut Text) -> Result<bool, fmt::Error>
 /// Appends the end of a line of text, after a space and the name, as `push_end` does.
 fn push_named_end(text: &mut Text, name: &[u8]) -> Result<bool, fmt::Error>
     ensures pushed { IfOk result (λ pushed. pushed ≡ true → text.new.items ≡ text.old.items
-        ++ ((32 ∷ map shown name.now) ++ 10 ∷ [])) }
+        ++ ((32 ∷ shown name.now) ++ 10 ∷ [])) }
     ensures left { IfOk result (λ pushed. pushed ≡ false → text.new.items ≡ text.old.items) }
 {
-    if name.len() > LONGEST || !is_shown_whole(name) {
+    if name.len() > LONGEST || !is_plain(name) {
         return Ok(false);
     }
     push(text, b" ")?;
@@ -59,8 +61,7 @@ fn push_named_end(text: &mut Text, name: &[u8]) -> Result<bool, fmt::Error>
     Ok(true)
 }
 
-/// Ends a line, after the name where there is one. A byte of the name that is not a printable
-/// character of ASCII is written as a question mark.
+/// Ends a line, after the name where there is one.
 pub(crate) fn end_line<W: Write>(
     output: &mut W,
     format: Format,
@@ -89,55 +90,11 @@ fn end_text<W: Write>(output: &mut W, name: Option<&[u8]>) -> io::Result<()>
 /// Ends a line of text, after a space and the name.
 fn end_named_line<W: Write>(output: &mut W, name: &[u8]) -> io::Result<()>
     ensures { Writes (W.contents output.old) (W.contents output.new) result
-        ((32 ∷ map shown name.now) ++ 10 ∷ []) }
+        ((32 ∷ shown name.now) ++ 10 ∷ []) }
 {
     write_text(output, b" ")?;
-    write_shown(output, name)?;
+    write_name(output, name)?;
     write_text(output, b"\n")
-}
-
-/// Writes the name: at once where each byte is written as it is, and so it mostly is.
-fn write_shown<W: Write>(output: &mut W, name: &[u8]) -> io::Result<()>
-    ensures { Writes (W.contents output.old) (W.contents output.new) result
-        (map shown name.now) }
-{
-    if is_shown_whole(name) {
-        return write_text(output, name);
-    }
-    write_by_byte(output, name)
-}
-
-/// Returns whether each byte of the name is written as it is.
-fn is_shown_whole(name: &[u8]) -> bool
-    ensures { result ≡ true → map shown name.now ≡ name.now }
-{
-    let mut is_whole = true;
-    for byte in name {
-        is_whole = is_whole & (shown(*byte) == *byte);
-    }
-    is_whole
-}
-
-/// Writes the name byte by byte.
-fn write_by_byte<W: Write>(output: &mut W, name: &[u8]) -> io::Result<()>
-    ensures { Writes (W.contents output.old) (W.contents output.new) result
-        (map shown name.now) }
-{
-    for byte in name {
-        write_text(output, &[shown(*byte)])?;
-    }
-    Ok(())
-}
-
-/// Returns what is written of a byte of a name.
-fn shown(byte: u8) -> u8
-    ensures { result ≡ shown byte }
-{
-    if 0x20 <= byte && byte < 0x7f {
-        byte
-    } else {
-        b'?'
-    }
 }
 
 /// Ends the object of an FDE, after the name where there is one.
@@ -157,17 +114,6 @@ fn end_named_object<W: Write>(output: &mut W, name: &[u8]) -> io::Result<()>
         (json_function (Some name.now) ++ 10 ∷ []) }
 {
     write_text(output, b",\"function\":\"")?;
-    write_shown_escaped(output, name)?;
+    write_json_name(output, name)?;
     write_text(output, b"\"}}\n")
-}
-
-/// Writes the name within a string of JSON.
-fn write_shown_escaped<W: Write>(output: &mut W, name: &[u8]) -> io::Result<()>
-    ensures { Writes (W.contents output.old) (W.contents output.new) result
-        (escaped (map shown name.now)) }
-{
-    for byte in name {
-        write_escape(output, shown(*byte))?;
-    }
-    Ok(())
 }

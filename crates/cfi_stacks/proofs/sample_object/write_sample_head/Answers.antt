@@ -1,8 +1,8 @@
 use Rattle.cfi_programs.proofs.DumpSectionWritten.{first_refused, last_written}
 use Rattle.std.proofs.Common.{◌++◌, codes, map}
 use Rattle.cfi_perf.specs.Samples.{sample_view}
-use Rattle.cfi_programs.specs.FunctionLines.{shown}
-use Rattle.cfi_programs.specs.JsonLines.{escaped}
+use Rattle.cfi_names.specs.Names.{shown}
+use Rattle.cfi_programs.specs.JsonLines.{json_name}
 use Rattle.cfi_processes.specs.ThreadNames.{bytes_of}
 use Rattle.cfi_stacks.specs.StackObjects.{comm_text, number_members}
 use Rattle.cfi_stacks.proofs.sample_object.write_sample_head.Goals as goal
@@ -12,7 +12,7 @@ returns-in_err-write_text g c =
     let s = sample_view c.args.sample.now in
     let comm = comm_text s.tid (bytes_of c.args.name) in
     let numbers = number_members c.args.time s in
-    let event = escaped (map shown s.event) in
+    let event = json_name s.event in
     first_refused _ _ _ (codes "{\"comm\":\"") (comm ++ (numbers ++ (event ++ ((codes "\",\"frames\":["))))) c.from_residual.ensures.0 c.in_err-write_text.ensures
 
 pub returns-in_err-write_comm : goal.returns-in_err-write_comm
@@ -20,7 +20,7 @@ returns-in_err-write_comm g c =
     let s = sample_view c.args.sample.now in
     let comm = comm_text s.tid (bytes_of c.args.name) in
     let numbers = number_members c.args.time s in
-    let event = escaped (map shown s.event) in
+    let event = json_name s.event in
     last_written _ _ _ _ (codes "{\"comm\":\"") (comm ++ (numbers ++ (event ++ ((codes "\",\"frames\":["))))) c.in_ok-write_text.ensures
     (first_refused _ _ _ comm (numbers ++ (event ++ ((codes "\",\"frames\":[")))) c.from_residual-in_err-write_comm.ensures.0 c.in_err-write_comm.ensures)
 
@@ -29,29 +29,29 @@ returns-in_err-write_number_members g c =
     let s = sample_view c.args.sample.now in
     let comm = comm_text s.tid (bytes_of c.args.name) in
     let numbers = number_members c.args.time s in
-    let event = escaped (map shown s.event) in
+    let event = json_name s.event in
     last_written _ _ _ _ (codes "{\"comm\":\"") (comm ++ (numbers ++ (event ++ ((codes "\",\"frames\":["))))) c.in_ok-write_text.ensures
     (last_written _ _ _ _ comm (numbers ++ (event ++ ((codes "\",\"frames\":[")))) c.in_ok-write_comm.ensures
     (first_refused _ _ _ numbers (event ++ ((codes "\",\"frames\":["))) c.from_residual-in_err-write_number_members.ensures.0 c.in_err-write_number_members.ensures))
 
-pub returns-in_err-write_string : goal.returns-in_err-write_string
-returns-in_err-write_string g c =
+pub returns-in_err-write_json_name : goal.returns-in_err-write_json_name
+returns-in_err-write_json_name g c =
     let s = sample_view c.args.sample.now in
     let comm = comm_text s.tid (bytes_of c.args.name) in
     let numbers = number_members c.args.time s in
-    let event = escaped (map shown s.event) in
+    let event = json_name s.event in
     last_written _ _ _ _ (codes "{\"comm\":\"") (comm ++ (numbers ++ (event ++ ((codes "\",\"frames\":["))))) c.in_ok-write_text.ensures
     (last_written _ _ _ _ comm (numbers ++ (event ++ ((codes "\",\"frames\":[")))) c.in_ok-write_comm.ensures
     (last_written _ _ _ _ numbers (event ++ ((codes "\",\"frames\":["))) c.in_ok-write_number_members.ensures
-    (first_refused _ _ _ event ((codes "\",\"frames\":[")) c.from_residual-in_err-write_string.ensures.0 c.in_err-write_string.ensures)))
+    (first_refused _ _ _ event ((codes "\",\"frames\":[")) c.from_residual-in_err-write_json_name.ensures.0 c.in_err-write_json_name.ensures)))
 
 pub returns : goal.returns
 returns g c =
     let s = sample_view c.args.sample.now in
     let comm = comm_text s.tid (bytes_of c.args.name) in
     let numbers = number_members c.args.time s in
-    let event = escaped (map shown s.event) in
+    let event = json_name s.event in
     last_written _ _ _ _ (codes "{\"comm\":\"") (comm ++ (numbers ++ (event ++ ((codes "\",\"frames\":["))))) c.in_ok-write_text.ensures
     (last_written _ _ _ _ comm (numbers ++ (event ++ ((codes "\",\"frames\":[")))) c.in_ok-write_comm.ensures
     (last_written _ _ _ _ numbers (event ++ ((codes "\",\"frames\":["))) c.in_ok-write_number_members.ensures
-    (last_written _ _ _ _ event ((codes "\",\"frames\":[")) c.in_ok-write_string.ensures c.write_text-2.ensures)))
+    (last_written _ _ _ _ event ((codes "\",\"frames\":[")) c.in_ok-write_json_name.ensures c.write_text-2.ensures)))

@@ -1,6 +1,6 @@
 use Rattle.std.proofs.Common.{map}
 use Rattle.cfi_perf.specs.Samples.{sample_view}
-use Rattle.cfi_programs.specs.FunctionLines.{shown}
+use Rattle.cfi_names.specs.Names.{shown}
 use Rattle.cfi_programs.proofs.DumpSectionWritten.{first_refused, last_written}
 use Rattle.cfi_processes.specs.ThreadNames.{bytes_of}
 use Rattle.cfi_stacks.specs.StackTexts.{name_text, numbers_text}
@@ -23,11 +23,11 @@ returns-in_err-write_name g c =
     let s = sample_view c.args.sample.now in
     last_written _ _ _ _ (name_text s.tid (bytes_of c.args.name)) (from_numbers c.args.time s) c.in_ok-write_thread_name.ensures
     (last_written _ _ _ _ (numbers_text c.args.time s) (from_event s) c.in_ok-write_numbers.ensures
-    (first_refused _ _ _ (map shown s.event) colon c.from_residual-in_err-write_name.ensures.0 c.in_err-write_name.ensures))
+    (first_refused _ _ _ (shown s.event) colon c.from_residual-in_err-write_name.ensures.0 c.in_err-write_name.ensures))
 
 pub returns : goal.returns
 returns g c =
     let s = sample_view c.args.sample.now in
     last_written _ _ _ _ (name_text s.tid (bytes_of c.args.name)) (from_numbers c.args.time s) c.in_ok-write_thread_name.ensures
     (last_written _ _ _ _ (numbers_text c.args.time s) (from_event s) c.in_ok-write_numbers.ensures
-    (last_written _ _ _ _ (map shown s.event) colon c.in_ok-write_name.ensures c.write_text.ensures))
+    (last_written _ _ _ _ (shown s.event) colon c.in_ok-write_name.ensures c.write_text.ensures))

@@ -1,20 +1,20 @@
-use Rattle.std.proofs.Common.{[], ◌∷◌, ◌++◌, map}
-use Rattle.cfi_programs.specs.FunctionLines.{shown}
+use Rattle.std.proofs.Common.{[], ◌∷◌, ◌++◌}
+use Rattle.cfi_names.specs.Names.{shown}
 use Rattle.cfi_programs.proofs.DumpSectionWritten.{first_refused, last_written}
 use Rattle.cfi_programs.proofs.dump.function_line.end_named_line.Goals as goal
 
 pub returns-in_err-write_text : goal.returns-in_err-write_text
 returns-in_err-write_text g c =
-    first_refused _ _ _ (32 ∷ []) (map shown c.args.name.now ++ 10 ∷ []) c.from_residual.ensures.0 c.in_err-write_text.ensures
+    first_refused _ _ _ (32 ∷ []) (shown c.args.name.now ++ 10 ∷ []) c.from_residual.ensures.0 c.in_err-write_text.ensures
 
-pub returns-in_err-write_shown : goal.returns-in_err-write_shown
-returns-in_err-write_shown g c =
-    let name = map shown c.args.name.now in
+pub returns-in_err-write_name : goal.returns-in_err-write_name
+returns-in_err-write_name g c =
+    let name = shown c.args.name.now in
     last_written _ _ _ _ (32 ∷ []) (name ++ 10 ∷ []) c.in_ok-write_text.ensures
-    (first_refused _ _ _ name (10 ∷ []) c.from_residual-in_err-write_shown.ensures.0 c.in_err-write_shown.ensures)
+    (first_refused _ _ _ name (10 ∷ []) c.from_residual-in_err-write_name.ensures.0 c.in_err-write_name.ensures)
 
 pub returns : goal.returns
 returns g c =
-    let name = map shown c.args.name.now in
+    let name = shown c.args.name.now in
     last_written _ _ _ _ (32 ∷ []) (name ++ 10 ∷ []) c.in_ok-write_text.ensures
-    (last_written _ _ _ _ name (10 ∷ []) c.in_ok-write_shown.ensures c.write_text-2.ensures)
+    (last_written _ _ _ _ name (10 ∷ []) c.in_ok-write_name.ensures c.write_text-2.ensures)
