@@ -7,6 +7,7 @@ samples have the thread, the time, the registers rbp, rsp and rip, and a part of
 notes of Linux for x86-64.
 """
 import struct
+import zlib
 from pathlib import Path
 
 MMAP, LOST, COMM, SAMPLE, MMAP2, LOST_SAMPLES = 1, 2, 3, 9, 10, 13
@@ -167,6 +168,25 @@ of_chains = profile(
     fields=IP | TID | TIME | CALLCHAIN,
 )
 
+# Of a program with .debug_frame alone; of one whose debug file has it and the symbols, by a link; and of one whose link has
+# another checksum. The addresses are those of bare.
+IN_BARE_INNER, IN_BARE_OUTER, IN_BARE_START = 0x40008E, 0x400088, 0x40007D
+
+of_linked = profile(
+    mapping(1_000_001_000, 0x400000, b"bare"),
+    mapping(1_000_001_000, 0x500000, b"linked"),
+    mapping(1_000_001_000, 0x600000, b"mislinked"),
+    *(
+        sample(
+            7,
+            1_000_002_000 + n * 1000,
+            (0x7020, 0x7000, IN_BARE_INNER + n * 0x100000),
+            [1, 2, 3, IN_BARE_OUTER + n * 0x100000, 0x7FE0, IN_BARE_START + n * 0x100000, 0],
+        )
+        for n in range(3)
+    ),
+)
+
 # ---- core files
 
 PT_LOAD, PT_NOTE, EXECUTABLE, WRITABLE = 1, 4, 5, 6
@@ -240,6 +260,14 @@ of_threads = core(
     (WRITABLE, 0x9000, 4096, STACK_OF_INNER[:5]),
 )
 
+of_linked_thread = core(
+    thread(8, 11, 0x7020, 0x7000, IN_BARE_INNER)
+    + process(b"linked")
+    + files((0x400000, 0x401000, 0, b"linked")),
+    CODE,
+    (WRITABLE, 0x7000, 4096, [1, 2, 3, IN_BARE_OUTER, 0x7FE0, IN_BARE_START, 0]),
+)
+
 # No mappings, and bytes behind the only thread that are no whole note.
 cut_off = core(thread(8, 11, 0x7020, 0x7000, IN_INNER) + bytes(5), CODE, (WRITABLE, 0x7000, 4096, STACK_OF_INNER))
 
@@ -299,6 +327,14 @@ flags = headers + 64 * 4 + 8
 assert struct.unpack_from("<Q", packed, flags) == (0,)
 struct.pack_into("<Q", packed, flags, 0x800)
 
+# The last byte of linked's .gnu_debuglink, at 0x94, is the checksum's.
+mislinked = bytearray((data / "linked").read_bytes())
+assert mislinked[0x94:0xA4] == b"bare.debug\0\0" + struct.pack("<I", zlib.crc32((data / "bare.debug").read_bytes()))
+mislinked[0xA3] += 1
+
+(data / "mislinked").write_bytes(mislinked)
+(data / "linked.perf").write_bytes(of_linked)
+(data / "linked.core").write_bytes(of_linked_thread)
 (data / "unfaithful").write_bytes(calls)
 (data / "packed").write_bytes(packed)
 (data / "foreign.o").write_bytes(foreign)

@@ -23,14 +23,14 @@ use Rattle.cfi_files.specs.declared.finding.Finding.TheVariants.{Unreadable}
 use Rattle.cfi_files.specs.declared.request.Request.{Request}
 use Rattle.cfi_processes.specs.CodeMaps.{map_name}
 use Rattle.cfi_processes.specs.Wanted.{FilePlace, at_path, code_map, copy_of, debug_of}
-use Rattle.cfi_processes.specs.Wanted.{kernel_symbols}
+use Rattle.cfi_processes.specs.Wanted.{kernel_symbols, linked}
 use Rattle.cfi_stacks.specs.CoreOutputs.{IsOwed as IsOwedOfCore}
 use Rattle.cfi_stacks.specs.ProfileOutputs.{IsListingOwed as IsOwedOfProfile}
 use Rattle.cfi_stacks.specs.Choices.{Choice}
 use Rattle.cfi_stacks.specs.declared.listing.Listing.{Listing}
 use Rattle.cfi_stacks.specs.declared.listing.ThreadListing.{ThreadListing}
 use Rattle.cfi.specs.CommandLine.{Asked, cfi_app}
-use Rattle.cfi.specs.Folders.{Folders, copy_path, debug_path, path_below}
+use Rattle.cfi.specs.Folders.{Folders, copy_path, debug_path, folder_of, linked_path, path_below}
 use Rattle.cfi.specs.Forms.{format_names}
 use Rattle.cfi.specs.Openings.{FileKind, of_any_kind, path_of, regular}
 use Rattle.cfi.specs.FlameOutputs.{IsOwed as IsOwedOfFolded, OfStacks, graph, table}
@@ -150,6 +150,8 @@ MayOpenAt disk folders (copy_of build) opened =
     IsNone opened ⊎ ((home : Text) × disk.MayOpen regular (copy_path folders home build) opened)
 MayOpenAt disk folders (debug_of build) opened =
     IsNone opened ⊎ disk.MayOpen regular (debug_path folders build) opened
+MayOpenAt disk folders (linked place name link) opened =
+    IsNone opened ⊎ disk.MayOpen regular (linked_path folders place (folder_of name) link) opened
 MayOpenAt disk folders kernel_symbols opened =
     disk.MayOpen regular (codes "/proc/kallsyms") opened
 MayOpenAt disk folders (code_map pid) opened =

@@ -1,7 +1,9 @@
 //! The folders in which the files are that a profile or a core file names.
 ghost use Rattle.std.specs.Prelude.{◌≡◌, ◌++◌, IfSome, codes, string_bytes};
-ghost use Rattle.cfi.specs.Folders.{build_path, debug_path, folders_view, path_below};
+ghost use Rattle.cfi.specs.Folders.{build_path, debug_folder, debug_path, folder_of, folders_view};
+ghost use Rattle.cfi.specs.Folders.{linked_path, path_below};
 
+use cfi_processes::LinkFolder;
 use std::alloc::Global;
 
 /// The folders in which the files are that a profile or a core file names.
@@ -41,12 +43,83 @@ pub fn debug_path(alloc: Global, folders: Folders, build: &[u8]) -> Option<Strin
     ensures { IfSome result (λ path. string_bytes path
         ≡ debug_path (folders_view folders.entry) build.now) }
 {
+    let folder = debug_folder(alloc, folders)?;
+    build_path(alloc, folder.as_str(), build, ".debug")
+}
+
+/// Returns the folder of debug files. `None` where memory is refused.
+fn debug_folder(alloc: Global, folders: Folders) -> Option<String>
+    ensures { IfSome result (λ path. string_bytes path
+        ≡ debug_folder (folders_view folders.entry)) }
+{
     match folders.debug_dir {
-        Some(folder) => build_path(alloc, folder, build, ".debug"),
-        None => {
-            let folder = path_below(alloc, folders, "/usr/lib/debug")?;
-            build_path(alloc, folder.as_str(), build, ".debug")
-        }
+        Some(folder) => joined(alloc, folder, ""),
+        None => path_below(alloc, folders, "/usr/lib/debug"),
+    }
+}
+
+/// Returns the path of the debug file with the name `link`, as the file's own link has it, in a
+/// folder where it may be of the file in this folder (gdb's manual, "Separate Debug Files"). `None`
+/// where memory is refused.
+pub fn linked_path(
+    alloc: Global,
+    folders: Folders,
+    place: LinkFolder,
+    folder: &str,
+    link: &str,
+) -> Option<String>
+    ensures { IfSome result (λ path. string_bytes path
+        ≡ linked_path (folders_view folders.entry) place folder.now link.now) }
+{
+    match place {
+        LinkFolder::Beside => path_in_root(alloc, folders, folder, "/", link),
+        LinkFolder::Below => path_in_root(alloc, folders, folder, "/.debug/", link),
+        LinkFolder::Central => central_path(alloc, folders, folder, link),
+    }
+}
+
+/// Returns the path of the debug file in the folder of the file, or below that. `None` where memory
+/// is refused.
+fn path_in_root(
+    alloc: Global,
+    folders: Folders,
+    folder: &str,
+    below: &str,
+    link: &str,
+) -> Option<String>
+    ensures { IfSome result (λ path. string_bytes path
+        ≡ path_below (folders_view folders.entry).symfs (folder.now ++ below.now ++ link.now)) }
+{
+    let path = path_of_three(alloc, folder, below, link)?;
+    path_below(alloc, folders, path.as_str())
+}
+
+/// Returns the path of the debug file in the folder of debug files. `None` where memory is refused.
+fn central_path(alloc: Global, folders: Folders, folder: &str, link: &str) -> Option<String>
+    ensures { IfSome result (λ path. string_bytes path
+        ≡ debug_folder (folders_view folders.entry) ++ folder.now ++ codes "/" ++ link.now) }
+{
+    let root = debug_folder(alloc, folders)?;
+    let folder = joined(alloc, root.as_str(), folder)?;
+    path_of_three(alloc, folder.as_str(), "/", link)
+}
+
+/// Returns three texts, one behind the other. `None` where memory is refused.
+fn path_of_three(alloc: Global, first: &str, second: &str, third: &str) -> Option<String>
+    ensures { IfSome result (λ text. string_bytes text ≡ first.now ++ second.now ++ third.now) }
+{
+    let front = joined(alloc, first, second)?;
+    joined(alloc, front.as_str(), third)
+}
+
+/// Returns the path of the folder of a file: what is before the last slash of its path; nothing
+/// where there is no slash. Does not allocate.
+pub fn folder_of(path: &[u8]) -> &[u8]
+    ensures { result.now ≡ folder_of path.now }
+{
+    match path.iter().rposition(|byte| *byte == b'/') {
+        Some(length) => &path[..length],
+        None => &[],
     }
 }
 

@@ -1,12 +1,12 @@
 //! The files that a profile or a core file names, as the system opens them.
 ghost use Rattle.std.specs.Prelude.{◌≡◌, IfSome, string_bytes};
-ghost use Rattle.cfi.specs.Folders.{folders_view, path_below};
+ghost use Rattle.cfi.specs.Folders.{folder_of, folders_view, linked_path, path_below};
 ghost use Rattle.cfi.specs.Process.{MayOpenAt, disk_of};
 
-use crate::folders::{Folders, copy_path, debug_path, path_below};
+use crate::folders::{Folders, copy_path, debug_path, folder_of, linked_path, path_below};
 use crate::system::System;
-use cfi_processes::Opener;
 use cfi_processes::code_map::map_name;
+use cfi_processes::{LinkFolder, Opener};
 use std::alloc::Global;
 use std::str;
 
@@ -34,6 +34,23 @@ fn path_of(alloc: Global, folders: Folders, name: &[u8]) -> Option<String>
         Ok(name) => path_below(alloc, folders, name),
         Err(_) => None,
     }
+}
+
+/// Returns the path of the debug file with the name `link`, in a folder where it may be of the file
+/// with this name, if both are UTF-8. `None` also where memory is refused.
+fn linked_path_of(
+    alloc: Global,
+    folders: Folders,
+    place: LinkFolder,
+    name: &[u8],
+    link: &[u8],
+) -> Option<String>
+    ensures { IfSome result (λ path. string_bytes path
+        ≡ linked_path (folders_view folders.entry) place (folder_of name.now) link.now) }
+{
+    let folder = str::from_utf8(folder_of(name)).ok()?;
+    let link = str::from_utf8(link).ok()?;
+    linked_path(alloc, folders, place, folder, link)
 }
 
 impl<S: System> Opener for ProfileOpener<'_, S> {
@@ -68,6 +85,11 @@ impl<S: System> Opener for ProfileOpener<'_, S> {
     fn open_debug(&self, build: &[u8]) -> Option<S::File> {
         let debug = debug_path(self.system.alloc(), self.folders, build)?;
         self.system.find_regular(debug.as_str())
+    }
+
+    fn open_linked(&self, folder: LinkFolder, name: &[u8], link: &[u8]) -> Option<S::File> {
+        let linked = linked_path_of(self.system.alloc(), self.folders, folder, name, link)?;
+        self.system.find_regular(linked.as_str())
     }
 
     fn open_kernel_symbols(&self) -> Option<S::File> {

@@ -17,6 +17,7 @@ use Rattle.gimli_cfi.specs.RowsByHeader.{FoundByHeader}
 use Rattle.cfi_expression.specs.declared.error.FrameError.{FrameError}
 use Rattle.cfi_expression.specs.Frames.{Frame}
 use Rattle.cfi_step.specs.declared.abi.Abi.{Abi}
+use Rattle.cfi_step.specs.declared.module.DebugTable.{DebugTable}
 use Rattle.cfi_step.specs.declared.module.LoadedModule.{LoadedModule}
 use Rattle.cfi_step.specs.declared.step.Caller.{Caller}
 use Rattle.cfi_compiled.specs.CompiledTables.{TableContents}
@@ -24,7 +25,7 @@ use Rattle.cfi_step.specs.Modules.{address_in_file}
 use Rattle.cfi_step.specs.declared.function.Function.{Function}
 use Rattle.cfi_step.specs.declared.function.FunctionStep.{FunctionStep}
 use Rattle.cfi_step.specs.Functions.{IsStepInFunction, function_in}
-use Rattle.cfi_step.specs.Modules.{IsFoundBy, IsStepByFde as IsStepByLoaded, IsStepByFound, IsStepIn, IsStepVia}
+use Rattle.cfi_step.specs.Modules.{IsFoundBy, IsStepByDebug, IsStepByFde as IsStepByLoaded, IsStepByFound, IsStepIn, IsStepOr, IsStepVia}
 use Rattle.cfi_step.specs.Steps.{IsStepBy}
 use Rattle.cfi_step.specs.Walks.{State, address_of}
 use Rattle.cfi_c.specs.declared.CfiBases.{CfiBases}
@@ -104,11 +105,14 @@ module _ {R : Type 0} (position : R → Position) (stack : CfiStack) (passed : C
       → (eh_frame_view position loaded.frame).position ≡ slice_over passed.section.now passed.bases.big_endian
       → section_view position loaded.frame loaded.bases ≡ section_beside (header_in passed.header.now) (sized stack.address_size passed.bases) passed.section.now
       → option_map (λ header. unparsed_view position header stack.address_size loaded.bases) loaded.header ≡ option_map (header_of (sized stack.address_size passed.bases)) (header_in passed.header.now)
-      → loaded.compiled ≡ None → loaded.bias ≡ 0 → a < 2 ^ 64 → IsStepIn position (λ (n : ℕ). n) frame abi (Some 192) (Some 4) true loaded a result caller
+      → loaded.compiled ≡ None → loaded.debug ≡ None → loaded.bias ≡ 0 → a < 2 ^ 64 → IsStepIn position (λ (n : ℕ). n) frame abi (Some 192) (Some 4) true loaded a result caller
       → IsStepInModule stack passed s result caller
-  as_passed s frame abi a result caller frames abis addresses bytes sections headers none unmoved fits is =
+  as_passed s frame abi a result caller frames abis addresses bytes sections headers none alone unmoved fits is =
+      let in_file = address_in_file loaded.bias a in
+      let first : IsStepVia position (λ (n : ℕ). n) frame abi (Some 192) (Some 4) true loaded.compiled loaded in_file result caller =
+      subst (λ (d : Option (DebugTable R)). IsStepOr d (IsStepVia position (λ (n : ℕ). n) frame abi (Some 192) (Some 4) true loaded.compiled loaded in_file) (λ debug. IsStepByDebug position frame abi debug in_file) result caller) alone is in
       let at : IsStepVia position (λ (n : ℕ). n) frame abi (Some 192) (Some 4) true loaded.compiled loaded a result caller =
-      subst (λ (n : ℕ). IsStepVia position (λ (n : ℕ). n) frame abi (Some 192) (Some 4) true loaded.compiled loaded n result caller) (not_moved loaded.bias a unmoved fits) is in
+      subst (λ (n : ℕ). IsStepVia position (λ (n : ℕ). n) frame abi (Some 192) (Some 4) true loaded.compiled loaded n result caller) (not_moved loaded.bias a unmoved fits) first in
       let found : IsStepByFound position (λ (n : ℕ). n) frame abi (Some 192) (Some 4) true loaded a result caller =
       subst (λ (o : Option (Bor TableContents)). IsStepVia position (λ (n : ℕ). n) frame abi (Some 192) (Some 4) true o loaded a result caller) none at in
       let framed : IsStepByFound position (λ (n : ℕ). n) (frame_of stack s) abi (Some 192) (Some 4) true loaded a result caller =

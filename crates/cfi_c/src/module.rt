@@ -178,6 +178,7 @@ pub fn loaded_of<'a>(
         (λ header. unparsed_view (slice_position is_big) header size result.bases) result.header
         ≡ option_map (header_of (sized size module.now.bases)) (header_in module.now.header.now) }
     ensures compiled { result.compiled ≡ None }
+    ensures debug { result.debug ≡ None }
     ensures bias { result.bias ≡ 0 }
 {
     let bases = &module.bases;
@@ -193,6 +194,7 @@ pub fn loaded_of<'a>(
         header: header_of(module),
         bases: bases_of(bases),
         compiled: None,
+        debug: None,
     }
 }
 

@@ -14,3 +14,4 @@ mod FileKinds
 mod NearestFunctions
 mod Worked
 mod WorkedRelocations
+mod WorkedLinks

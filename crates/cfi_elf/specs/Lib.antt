@@ -11,6 +11,8 @@ pub mod Images
 pub mod ElfFiles
 pub mod Sections
 pub mod FoundSections
+pub mod Checksums
+pub mod DebugLinks
 pub mod Segments
 pub mod SegmentLists
 pub mod Notes

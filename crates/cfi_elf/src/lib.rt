@@ -4,13 +4,16 @@
 //! Loading and Dynamic Linking").
 //!
 //! `image` is a file that may be read by parts. `elf_file` reads the file header, `sections` finds
-//! sections by name, `segments` what is loaded at an address, `notes` what notes say, `symbols`
-//! addresses by name and functions by address, `relocate` gives a relocatable file addresses.
-//! Nothing is copied, and only the lists of functions are allocated.
+//! sections by name, `segments` what is loaded at an address, `notes` what notes say, `debug_link`
+//! the link to a debug file, `symbols` addresses by name and functions by address, `relocate` gives
+//! a relocatable file addresses. `checksum` has the CRC-32 of bytes. Nothing is copied, and only
+//! the lists of functions are allocated.
 
 mod best_name;
 pub mod bytes;
+pub mod checksum;
 pub mod constants;
+pub mod debug_link;
 pub mod elf_file;
 pub mod error;
 pub mod file_header;
@@ -32,6 +35,8 @@ mod symbol;
 mod symbol_addresses;
 mod symbols;
 
+pub use checksum::crc32;
+pub use debug_link::DebugLink;
 pub use elf_file::{ElfFile, Section};
 pub use error::ElfError;
 pub use file_header::{Class, FileHeader};

@@ -69,8 +69,9 @@ pub fn debug_frame<'file>(file: &ElfFile<'file>) -> Result<Option<SectionSource<
     }
 }
 
-/// A section of these bytes, as the file's header says of all. It has no bases and no header.
-fn section_in<'file>(
+/// Returns a section of these bytes, as the file's header says of all. It has no bases and no
+/// header. Does not allocate.
+pub fn section_in<'file>(
     file: &ElfFile<'file>,
     kind: SectionKind,
     bytes: &'file [u8],

@@ -12,7 +12,7 @@ pub mod parts;
 pub mod register_names;
 pub mod target;
 
-pub use call_frames::{bases_at, debug_frame, eh_frame};
+pub use call_frames::{bases_at, debug_frame, eh_frame, section_in};
 pub use input::{FileInput, InputError};
 pub use machine_names::names_in;
 pub use numbers::number_in;

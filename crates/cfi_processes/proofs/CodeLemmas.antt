@@ -11,7 +11,7 @@ use Rattle.cfi_processes.specs.declared.mappings.MappedCode.{MappedCode}
 use Rattle.cfi_processes.specs.KnownFiles.{KnownCode, KnownFile, mapped_at, module_at, module_in, modules_in}
 use Rattle.cfi_processes.specs.Mappings.{AreInOrder, has_byte_at}
 use Rattle.cfi_processes.specs.Modules.{Module, loaded_module, module_view}
-use Rattle.cfi_processes.specs.Objects.{bias_of, module_of}
+use Rattle.cfi_processes.specs.Objects.{bias_of, debug_by, module_of}
 
 -- ---- the order of modules
 
@@ -27,13 +27,13 @@ same_order low (m ∷ ms) = ap (λ (b : Bool). begins_from low m && b) (same_ord
 abbrev Spans : MappedCode → Module → Type 0
 Spans mapped m = (m.start ≡ mapped.start) × (m.end ≡ mapped.end)
 
-spans_of : (mapped : MappedCode) (number : ℕ) (code : KnownCode) (bias : Option ℕ) (m : Module) → option_map (loaded_module number code.object.section code.object.header code.table mapped) bias ≡ Some m → Spans mapped m
+spans_of : (mapped : MappedCode) (number : ℕ) (code : KnownCode) (bias : Option ℕ) (m : Module) → option_map (loaded_module number code.object.section code.object.header code.tables.table (debug_by code.object.debug code.tables.debug) mapped) bias ≡ Some m → Spans mapped m
 spans_of mapped number code None m e = cc
 spans_of mapped number code (Some bias) m e =
-    let is : m ≡ loaded_module number code.object.section code.object.header code.table mapped bias = cc in
+    let is : m ≡ loaded_module number code.object.section code.object.header code.tables.table (debug_by code.object.debug code.tables.debug) mapped bias = cc in
     (ap (λ (x : Module). x.start) is, ap (λ (x : Module). x.end) is)
 
-spans_in : (mapped : MappedCode) (number : ℕ) (o : Option KnownCode) (m : Module) → option_and_then (λ code. module_of number code.object code.table mapped) o ≡ Some m → Spans mapped m
+spans_in : (mapped : MappedCode) (number : ℕ) (o : Option KnownCode) (m : Module) → option_and_then (λ code. module_of number code.object code.tables mapped) o ≡ Some m → Spans mapped m
 spans_in mapped number None m e = cc
 spans_in mapped number (Some code) m e = spans_of mapped number code (bias_of code.object mapped) m e
 

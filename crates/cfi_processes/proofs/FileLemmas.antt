@@ -32,7 +32,7 @@ module _ {Handle : Type 0} (may_open : FilePlace → Option Handle → Type 0) (
 
   pub one_opened : (all : List Wanted) (files : List WantedFile) (i : ℕ) (d : WantedFile) (first next : List Opened) (bytes debug : Option (List ℕ)) → i < length files
       → next ≡ first ++ opened_as (wanted_view (get_or files i d)) bytes debug ∷ [] → OpensOn all (map wanted_view (drop i files)) first → IsContents may_open remaining (wanted_view (get_or files i d)) bytes
-      → IsDebugOf may_open remaining bytes debug
+      → IsDebugOf may_open remaining (wanted_view (get_or files i d)).name bytes debug
       → OpensOn all (map wanted_view (drop (i + 1) files)) next
   one_opened all files i d first next bytes debug inside is so contents of_debug = record {
     opens_on = λ others are.

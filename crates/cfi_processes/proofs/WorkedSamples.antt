@@ -50,7 +50,7 @@ frames = record {
 -- file 3 with these, mapped 0x7f0000000000 higher
 abbrev mapped_higher : Module
 mapped_higher =
-    loaded_module 3 (given_section frames) (given_header frames) None
+    loaded_module 3 (given_section frames) (given_header frames) None None
     (record { start = 0x7f0000001000; end = 0x7f0000002000; offset = 0x1000; object = Some 3 }) 0x7f0000000000
 
 its_bases : mapped_higher.section.bases ≡ record { section = Some 0x2040; text = Some 0x1000; data_base = None }

@@ -1,6 +1,6 @@
 -- The files of a profile, as far as they can be read, and their code in a process.
---     KnownCode, code_view      a file's call frames and their compiled table, if it has one, and
---         those of the code
+--     KnownCode, code_view      a file's call frames and their compiled tables, if it has these,
+--         and those of the code
 --     KnownFile, known_view      a file by its name, its functions, its code and, of the kernel,
 --         its symbols, and that of the code
 --     mapped_at list a      the mapping that has an address
@@ -16,7 +16,6 @@ use Rattle.std.specs.List.{filter_map}
 use Rattle.std.specs.Option.{option_and_then}
 use Rattle.std.specs.Str.{bytes_eq}
 use Rattle.cfi_elf.specs.Options.{or_else}
-use Rattle.cfi_compiled.specs.CompiledTables.{TableContents}
 use Rattle.cfi_processes.specs.declared.mappings.MappedCode.{MappedCode}
 use Rattle.cfi_processes.specs.declared.file_code.FileCode.{FileCode}
 use Rattle.cfi_processes.specs.declared.profile_files.ProfileFile.{ProfileFile}
@@ -28,19 +27,22 @@ use Rattle.cfi_processes.specs.KernelSymbols.{is_kernel_name, kernel_image, symb
 use Rattle.cfi_processes.specs.TextSymbols.{Symbol}
 use Rattle.cfi_processes.specs.Mappings.{has_byte_at, place_in}
 use Rattle.cfi_processes.specs.Modules.{Module}
-use Rattle.cfi_processes.specs.Objects.{Object, module_of, object_view}
+use Rattle.cfi_processes.specs.Objects.{Object, Tables, module_of, object_view}
 use Rattle.cfi_processes.specs.Sites.{Site}
 use Rattle.cfi_elf.specs.FunctionPlaces.{Place}
 
 pub record KnownCode : Type 0 where
   pub object : Object
-  pub table : Option TableContents
+  pub tables : Tables
 
 abbrev pub code_view : FileCode → KnownCode
-code_view code = record { object = object_view code.object; table = code.table }
+code_view code = record {
+  object = object_view code.object;
+  tables = record { table = code.table; debug = code.debug_table };
+}
 
 -- A file by its name, and by its build if that is known: it has no functions where it can't be
--- opened or read, or is no ELF file, and no code also where it has no .eh_frame.
+-- opened or read, or is no ELF file, and no code also where it has no call frames.
 pub record KnownFile : Type 0 where
   pub name : List ℕ
   pub build_id : Option (List ℕ)
@@ -155,7 +157,7 @@ chain_site is_kernel files list a =
 
 abbrev pub module_in : MappedCode → ℕ → KnownFile → Option Module
 module_in mapped number file =
-    option_and_then (λ code. module_of number code.object code.table mapped) file.code
+    option_and_then (λ code. module_of number code.object code.tables mapped) file.code
 
 -- the number of a file is its place among those of the profile
 abbrev pub module_at : List KnownFile → MappedCode → Option Module

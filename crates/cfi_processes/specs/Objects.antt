@@ -1,36 +1,48 @@
 -- A file of a profile, and the module that it is where a process has mapped it.
 --     Object, object_view      its segments and its call frames, and that of the code
---     object_of bytes      the file of these bytes, if it has .eh_frame
+--     debug_for file debug      .debug_frame of a file, or else of its debug file
+--     object_of bytes debug      the file of these bytes, if it has call frames; its debug file has
+--         those of debug
 --     bias_in file mapped, bias_of object mapped      how far its code is moved
 --     has_table object      whether a compiled table is made
---     module_of number object table mapped      the module, with the file's number and this
---         compiled table, if there is one
+--     IsDebugTable section table      a compiled table of .debug_frame, if there is one
+--     module_of number object tables mapped      the module, with the file's number and these
+--         compiled tables
 --     HasFramesOf number object loaded      a module of the code has the file's number and its call
 --         frames
-use Rattle.std.specs.Prelude.{◌≡◌, ℕ, Bool, not, List, Option, None, Result, Ok, Err, option_map}
+use Rattle.std.specs.Prelude.{◌≡◌, ℕ, ◌==◌, Bool, not, List, [], Option, Some, None, Result, Ok}
+use Rattle.std.specs.Prelude.{Err, length, option_map, unwrap_or, if◌then◌else◌}
 use Rattle.std.specs.Option.{is_some, option_and_then}
 use Rattle.std.specs.Result.{result_ok}
 use Rattle.cfi_read_core.specs.ByteOrder.{is_big}
 use Rattle.cfi_read_core.specs.SliceReaders.{EndianSlice, slice_position}
 use Rattle.cfi_read_core.specs.declared.endianity.RunTimeEndian.{RunTimeEndian}
-use Rattle.cfi_entry.specs.Sections.{EhFrame, Section}
+use Rattle.cfi_entry.specs.Sections.{DebugFrame, EhFrame, Section, position_of, section_of}
 use Rattle.gimli_cfi.specs.EhFrameHdr.{HeaderSection}
 use Rattle.gimli_cfi.specs.HeaderViews.{section_view}
+use Rattle.cfi_entry.specs.SectionViews.{debug_frame_view}
 use Rattle.gimli_cfi.specs.SectionSources.{GivenSection, given_as, given_header}
+use Rattle.gimli_cfi.specs.declared.source.SectionKind.TheVariants as given
 use Rattle.cfi_elf.specs.declared.error.ElfError.{ElfError}
 use Rattle.cfi_elf.specs.ElfFiles.{File, elf_file, file_view}
-use Rattle.cfi_compiled.specs.CompiledTables.{TableContents}
+use Rattle.cfi_elf.specs.Options.{or_else}
+use Rattle.cfi_compiled.specs.CompiledTables.{TableContents, IsCompiled}
 use Rattle.cfi_elf.specs.Segments.{address_of_offset, minus}
-use Rattle.cfi_object.specs.CallFrames.{eh_frame_of}
+use Rattle.cfi_object.specs.CallFrames.{debug_frame_of, eh_frame_of, section_in}
 use Rattle.cfi_step.specs.declared.module.LoadedModule.{LoadedModule}
 use Rattle.cfi_processes.specs.declared.mappings.MappedCode.{MappedCode}
+use Rattle.cfi_processes.specs.declared.objects.DebugSection.{DebugSection}
 use Rattle.cfi_processes.specs.declared.objects.Object.{Object as ObjectOfCode}
-use Rattle.cfi_processes.specs.Modules.{Module, header_beside, loaded_module}
+use Rattle.cfi_processes.specs.Modules.{DebugModule, Module, header_beside, loaded_module}
 
 pub record Object : Type 0 where
   pub file : File
   pub section : Section  -- .eh_frame
   pub header : Option HeaderSection  -- .eh_frame_hdr, if there is one
+  pub debug : Option Section  -- .debug_frame, if there is one
+
+abbrev pub debug_section : DebugSection → Section
+debug_section debug = section_of (debug_frame_view (slice_position is_big) debug.frame) debug.bases
 
 -- what an `Object` of the code is
 abbrev pub object_view : ObjectOfCode → Object
@@ -38,6 +50,7 @@ object_view object = record {
   file = file_view object.file;
   section = section_view (slice_position is_big) object.frame object.bases;
   header = header_beside object.frame object.bases object.header;
+  debug = option_map debug_section object.debug;
 }
 
 -- the value, if it is there and no error is in its place
@@ -45,17 +58,40 @@ abbrev pub there : {A : Type 0} → Result (Option A) ElfError → Option A
 there (Ok found) = found
 there (Err e) = None
 
--- the file with its call frames as .eh_frame
-abbrev pub object_with : File → GivenSection → Object
-object_with file frames =
-    record { file = file; section = given_as EhFrame frames; header = given_header frames }
+-- .debug_frame of a file, if the file can be read and has bytes of it
+abbrev pub if_bytes : GivenSection → Option GivenSection
+if_bytes frames = if length frames.bytes == 0 then None else Some frames
 
-abbrev pub with_frames : File → Option Object
-with_frames file = option_map (object_with file) (there (eh_frame_of file))
+abbrev pub debug_in : File → Option GivenSection
+debug_in file = option_and_then if_bytes (there (debug_frame_of file))
 
--- the file of these bytes, if it can be read and has .eh_frame
-abbrev pub object_of : List ℕ → Option Object
-object_of bytes = option_and_then with_frames (result_ok (elf_file bytes))
+-- that of the file, or else that of its debug file, which has the same addresses
+abbrev pub debug_for : File → Option (List ℕ) → Option GivenSection
+debug_for file debug =
+    or_else (debug_in file)
+    (option_and_then (λ bytes. option_and_then debug_in (result_ok (elf_file bytes))) debug)
+
+-- the file with these sections
+abbrev pub object_with : File → GivenSection → Option GivenSection → Object
+object_with file frames debug = record {
+  file = file;
+  section = given_as EhFrame frames;
+  header = given_header frames;
+  debug = option_map (given_as DebugFrame) debug;
+}
+
+-- with either of the two; .eh_frame that isn't there has no entries
+abbrev pub with_either : File → Option GivenSection → Option GivenSection → Option Object
+with_either file (Some frames) debug = Some (object_with file frames debug)
+with_either file None debug =
+    option_map (λ frames. object_with file (section_in file given.EhFrame []) (Some frames)) debug
+
+abbrev pub with_frames : Option (List ℕ) → File → Option Object
+with_frames debug file = with_either file (there (eh_frame_of file)) (debug_for file debug)
+
+-- the file of these bytes, if it can be read and has call frames
+abbrev pub object_of : List ℕ → Option (List ℕ) → Option Object
+object_of bytes debug = option_and_then (with_frames debug) (result_ok (elf_file bytes))
 
 -- the byte at the first mapped address is that at the offset in the file, which has an address of
 -- the file's own
@@ -69,9 +105,30 @@ bias_of object mapped = bias_in object.file mapped
 abbrev pub has_table : Object → Bool
 has_table object = not (is_some object.header)
 
-abbrev pub module_of : ℕ → Object → Option TableContents → MappedCode → Option Module
-module_of number object table mapped =
-    option_map (loaded_module number object.section object.header table mapped)
+-- in a storage of 192 rules and 4 rows
+abbrev pub IsDebugTable : Option Section → Option TableContents → Type 0
+IsDebugTable None table = table ≡ None
+IsDebugTable (Some section) table =
+    (made : TableContents) × IsCompiled (Some 192) (Some 4) section made × (table ≡ Some made)
+
+-- The compiled tables of a file: of .eh_frame and of .debug_frame.
+pub record Tables : Type 0 where
+  pub table : Option TableContents
+  pub debug : Option TableContents
+
+-- .debug_frame with its table
+abbrev pub debug_module : Section → TableContents → DebugModule
+debug_module section table = record { bytes = position_of section; compiled = table }
+
+abbrev pub debug_by : Option Section → Option TableContents → Option DebugModule
+debug_by None table = None
+debug_by (Some section) table = option_map (debug_module section) table
+
+abbrev pub module_of : ℕ → Object → Tables → MappedCode → Option Module
+module_of number object tables mapped =
+    option_map
+    (loaded_module number object.section object.header tables.table
+    (debug_by object.debug tables.debug) mapped)
     (bias_of object mapped)
 
 -- wherever the file is mapped

@@ -3,7 +3,8 @@
 --     Opened, opened_view      a file by its name, its build, its bytes and its debug file's, none
 --         where these can't be had, and that of the code
 --     IsContents may_open remaining file bytes      what was read of a file that is wanted
---     IsDebugOf may_open remaining bytes debug      what was read of the debug file of these bytes
+--     IsDebugOf may_open remaining name bytes debug      what was read of the debug file of a file
+--         of this name and these bytes
 --     AreOpened .. files opened      these files
 --     AreFilesOf opened files      what they are as files of a profile
 use Rattle.std.specs.Prelude.{◌≡◌, ◌⊎◌, ℕ, Bool, true, false, not, ◌&&◌, List, [], ◌∷◌, Option}
@@ -20,9 +21,12 @@ use Rattle.cfi_processes.specs.FileFunctions.{Functions, functions_of}
 use Rattle.cfi_processes.specs.KernelNames.{KernelText}
 use Rattle.cfi_processes.specs.KernelSymbols.{is_kernel_name, kernel_image}
 use Rattle.cfi_processes.specs.KnownFiles.{KnownCode, KnownFile}
-use Rattle.cfi_processes.specs.Objects.{Object, has_table, object_of}
+use Rattle.cfi_processes.specs.Objects.{Object, IsDebugTable, has_table, object_of}
 use Rattle.cfi_processes.specs.Wanted.{FilePlace, Wanted, at_path, copy_of, debug_of, has_build}
-use Rattle.cfi_processes.specs.Wanted.{code_map, id_of, kernel_symbols}
+use Rattle.cfi_processes.specs.Wanted.{code_map, id_of, is_linked, kernel_symbols, link_of, linked}
+use Rattle.cfi_processes.specs.declared.wanted.LinkFolder.{LinkFolder}
+use Rattle.cfi_processes.specs.declared.wanted.LinkFolder.TheVariants.{Below, Beside, Central}
+use Rattle.cfi_elf.specs.DebugLinks.{Link}
 
 pub record Opened : Type 0 where
   pub name : List ℕ
@@ -75,6 +79,16 @@ abbrev pub if_built : List ℕ → Option (List ℕ) → Option (List ℕ)
 if_built build None = None
 if_built build (Some bytes) = if has_build build bytes then Some bytes else None
 
+-- the bytes, if the link of a file of this build leads to them
+abbrev pub if_linked : Link → Option (List ℕ) → Option (List ℕ) → Option (List ℕ)
+if_linked link build None = None
+if_linked link build (Some bytes) = if is_linked link build bytes then Some bytes else None
+
+-- what was found, or else something else
+abbrev pub IsOr : Option (List ℕ) → (Option (List ℕ) → Type 0) → Option (List ℕ) → Type 0
+IsOr (Some found) Other bytes = bytes ≡ Some found
+IsOr None Other bytes = Other bytes
+
 module _ {Handle : Type 0} (remaining : Handle → Option (List ℕ)) where
   abbrev pub IsReadOf : Option Handle → Option (List ℕ) → Type 0
   IsReadOf None bytes = bytes ≡ None
@@ -125,15 +139,38 @@ module _ {Handle : Type 0} (may_open : FilePlace → Option Handle → Type 0)
   IsDebug None debug = debug ≡ None
   IsDebug (Some build) debug = IsBuild build (debug_of build) debug
 
-  -- the build is what the file itself says
-  abbrev pub IsDebugOf : Option (List ℕ) → Option (List ℕ) → Type 0
-  IsDebugOf bytes debug = IsDebug (option_and_then id_of bytes) debug
+  -- in one folder only the file to which the link leads
+  abbrev pub IsLinkedIn :
+      List ℕ → Link → Option (List ℕ) → LinkFolder → Option (List ℕ) → Type 0
+  IsLinkedIn name link build folder debug =
+      (read : Option (List ℕ)) × IsRead (linked folder name link.name) read
+      × (debug ≡ if_linked link build read)
+
+  -- below the file's folder, or else in that of debug files
+  abbrev pub IsElsewhere : List ℕ → Link → Option (List ℕ) → Option (List ℕ) → Type 0
+  IsElsewhere name link build debug =
+      (found : Option (List ℕ)) × IsLinkedIn name link build Below found
+      × IsOr found (IsLinkedIn name link build Central) debug
+
+  -- beside the file, or else elsewhere
+  abbrev pub IsByLink : List ℕ → Option (List ℕ) → Option Link → Option (List ℕ) → Type 0
+  IsByLink name build None debug = debug ≡ None
+  IsByLink name build (Some link) debug =
+      (found : Option (List ℕ)) × IsLinkedIn name link build Beside found
+      × IsOr found (IsElsewhere name link build) debug
+
+  -- that of the build which the file itself says, or else the one to which its link leads
+  abbrev pub IsDebugOf : List ℕ → Option (List ℕ) → Option (List ℕ) → Type 0
+  IsDebugOf name None debug = debug ≡ None
+  IsDebugOf name (Some bytes) debug =
+      (found : Option (List ℕ)) × IsDebug (id_of bytes) found
+      × IsOr found (IsByLink name (id_of bytes) (link_of bytes)) debug
 
   abbrev pub AreOpened : List Wanted → List Opened → Type 0
   AreOpened [] opened = opened ≡ []
   AreOpened (file ∷ files) opened =
       (bytes debug : Option (List ℕ)) × (others : List Opened) × IsContents file bytes
-      × IsDebugOf bytes debug × AreOpened files others
+      × IsDebugOf file.name bytes debug × AreOpened files others
       × (opened ≡ opened_as file bytes debug ∷ others)
 
 -- ---- as files of a profile
@@ -148,8 +185,10 @@ IsTableIf false section table = table ≡ None
 abbrev pub IsCodeOf : Option Object → Option KnownCode → Type 0
 IsCodeOf None code = code ≡ None
 IsCodeOf (Some object) code =
-    (table : Option TableContents) × IsTableIf (has_table object) object.section table
-    × (code ≡ Some (record { object = object; table = table }))
+    (table debug : Option TableContents) × IsTableIf (has_table object) object.section table
+    × IsDebugTable object.debug debug
+    × (code
+    ≡ Some (record { object = object; tables = record { table = table; debug = debug } }))
 
 abbrev pub functions_in : Opened → Option Functions
 functions_in opened = option_and_then (λ bytes. functions_of bytes opened.debug) opened.bytes
@@ -174,7 +213,7 @@ IsFileOf opened file =
     (file.name ≡ opened.name) × (file.build_id ≡ opened.build_id)
     × (file.functions ≡ functions_in opened) × (file.kernel ≡ kernel_of opened)
     × (file.process ≡ opened.process) × (file.code_map ≡ map_of opened)
-    × IsCodeOf (option_and_then object_of opened.bytes) file.code
+    × IsCodeOf (option_and_then (λ bytes. object_of bytes opened.debug) opened.bytes) file.code
 
 abbrev pub AreFilesOf : List Opened → List KnownFile → Type 0
 AreFilesOf [] files = files ≡ []

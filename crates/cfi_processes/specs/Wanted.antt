@@ -3,14 +3,20 @@
 --         that is no file's by its name and its process; that of the code
 --     FilePlace      where a file is opened
 --     has_build build bytes      whether the file of these bytes is of the build
+--     link_of bytes      the link of the file of these bytes to its debug file
+--     is_linked link build bytes      whether it is the one to which the link of a file of this
+--         build leads
 use Rattle.std.specs.Prelude.{ℕ, Bool, true, false, ◌&&◌, List, drop, length, Option, Some, None}
 use Rattle.std.specs.Prelude.{nat_eq, option_map, ◌==◌}
 use Rattle.std.specs.List.{list_all, starts_with}
 use Rattle.std.specs.Option.{option_and_then}
 use Rattle.std.specs.Result.{result_ok}
 use Rattle.std.specs.Str.{bytes_eq}
+use Rattle.cfi_elf.specs.Checksums.{crc32}
+use Rattle.cfi_elf.specs.DebugLinks.{Link, debug_link}
 use Rattle.cfi_elf.specs.ElfFiles.{elf_file}
 use Rattle.cfi_elf.specs.Notes.{build_id}
+use Rattle.cfi_processes.specs.declared.wanted.LinkFolder.{LinkFolder}
 use Rattle.cfi_processes.specs.declared.wanted.WantedFile.{WantedFile}
 use Rattle.cfi_processes.specs.Objects.{there}
 
@@ -42,12 +48,14 @@ abbrev pub is_same : Wanted → Wanted → Bool
 is_same a b =
     bytes_eq a.name b.name && same_id a.build_id b.build_id && same_process a.process b.process
 
--- at a path, where the recorder keeps a copy of each build, where debug files are, where the kernel
--- tells its symbols, or where a process tells the functions of code that it made
+-- at a path, where the recorder keeps a copy of each build, where debug files are, in a folder to
+-- which the link of the file of a name may lead, where the kernel tells its symbols, or where a
+-- process tells the functions of code that it made
 pub data FilePlace : Type 0 where
   at_path : List ℕ → FilePlace
   copy_of : List ℕ → FilePlace
   debug_of : List ℕ → FilePlace
+  linked : LinkFolder → (name link : List ℕ) → FilePlace
   kernel_symbols : FilePlace
   code_map : ℕ → FilePlace
 
@@ -68,3 +76,18 @@ id_of bytes = option_and_then (λ file. there (build_id file)) (result_ok (elf_f
 
 abbrev pub has_build : List ℕ → List ℕ → Bool
 has_build build bytes = is_known_build build (id_of bytes)
+
+-- ---- the debug file to which a link leads
+
+-- none where it is no ELF file, or has none that can be read
+abbrev pub link_of : List ℕ → Option Link
+link_of bytes = option_and_then (λ file. there (debug_link file)) (result_ok (elf_file bytes))
+
+-- where both are known they are the same
+abbrev pub may_be_of : Option (List ℕ) → Option (List ℕ) → Bool
+may_be_of None other = true
+may_be_of (Some a) None = true
+may_be_of (Some a) (Some b) = bytes_eq a b
+
+abbrev pub is_linked : Link → Option (List ℕ) → List ℕ → Bool
+is_linked link build bytes = (crc32 bytes == link.checksum) && may_be_of build (id_of bytes)

@@ -39,4 +39,4 @@ pub use replay::Replay;
 pub use sample_stack::{NoFrames, unwind_sample};
 pub use stack_walk::unwind_from;
 pub use threads::Threads;
-pub use wanted::WantedFile;
+pub use wanted::{LinkFolder, WantedFile};

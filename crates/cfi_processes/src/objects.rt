@@ -1,17 +1,41 @@
 //! Files of a profile as modules: their call frames, where a process has mapped them.
-ghost use Rattle.std.specs.Prelude.{◌≡◌, ⊤};
+ghost use Rattle.std.specs.Prelude.{◌≡◌, ⊤, option_map};
+ghost use Rattle.cfi_entry.specs.Sections.{DebugFrame as debug_frame_kind};
+ghost use Rattle.gimli_cfi.specs.SectionSources.{given_as, source_view};
 ghost use Rattle.cfi_elf.specs.ElfFiles.{file_view};
-ghost use Rattle.cfi_processes.specs.Objects.{bias_in};
+ghost use Rattle.cfi_object.specs.CallFrames.{eh_frame_of};
+ghost use Rattle.cfi_processes.specs.Modules.{debug_view};
+ghost use Rattle.cfi_processes.specs.Objects.{bias_in, debug_by, debug_for, debug_in};
+ghost use Rattle.cfi_processes.specs.Objects.{debug_section, there};
 
 use crate::mappings::MappedCode;
 use cfi_compiled::CompiledTable;
 use cfi_elf::ElfFile;
-use cfi_object::eh_frame;
-use cfi_step::LoadedModule;
+use cfi_object::{debug_frame, eh_frame, section_in};
+use cfi_step::{DebugTable, LoadedModule};
 use gimli_cfi::{
-    BaseAddresses, EhFrame, EhFrameHdr, EndianSlice, Error, RunTimeEndian, SectionSource,
+    BaseAddresses, DebugFrame, EhFrame, EhFrameHdr, EndianSlice, Error, RunTimeEndian, SectionKind,
+    SectionSource,
 };
 use std::alloc::{AllocError, Global};
+
+/// `.debug_frame`, with the bases of its pointers.
+pub struct DebugSection<'file> {
+    frame: DebugFrame<EndianSlice<'file, RunTimeEndian>>,
+    bases: BaseAddresses,
+}
+
+impl Clone for DebugSection<'_> {
+    ghost is_clone = { λ x y. y ≡ x };
+
+    ghost is_infallible = { λ _. ⊤ };
+
+    fn clone(&self) -> std::result::Result<Self, AllocError> {
+        Ok(*self)
+    }
+}
+
+impl Copy for DebugSection<'_> {}
 
 /// A file of a profile: its segments and its call frames. The bytes are borrowed, not copied.
 pub struct Object<'file> {
@@ -22,6 +46,8 @@ pub struct Object<'file> {
     header: Option<EhFrameHdr<EndianSlice<'file, RunTimeEndian>>>,
     /// Where both are in the file's addresses.
     bases: BaseAddresses,
+    /// `.debug_frame` of the file or of its debug file, if there is one.
+    debug: Option<DebugSection<'file>>,
 }
 
 impl Clone for Object<'_> {
@@ -41,36 +67,63 @@ impl<'file> Object<'file> {
     ghost use Rattle.cfi_compiled.specs.CompiledTables.{IsCompiled};
     ghost use Rattle.cfi_elf.specs.ElfFiles.{file_view};
     ghost use Rattle.cfi_processes.specs.Modules.{loaded_module, module_view};
-    ghost use Rattle.cfi_processes.specs.Objects.{HasFramesOf, bias_of, has_table, module_of};
-    ghost use Rattle.cfi_processes.specs.Objects.{object_of, object_view, object_with};
+    ghost use Rattle.cfi_processes.specs.Objects.{HasFramesOf, IsDebugTable, bias_of, has_table};
+    ghost use Rattle.cfi_processes.specs.Objects.{module_of, object_of, object_view, object_with};
+    ghost use Rattle.cfi_processes.specs.Objects.{with_either};
     ghost use Rattle.gimli_cfi.specs.SectionSources.{source_view};
     ghost use Rattle.gimli_cfi.specs.Words.{OutOfMemory};
 
-    /// The file that these bytes are. Returns `None` where they are no ELF file, and where the file
-    /// has no `.eh_frame` or its headers can't be read (`cfi_elf::ElfFile::parse`,
-    /// `cfi_object::eh_frame`). Does not allocate.
-    pub fn of(bytes: &'file [u8]) -> Option<Object<'file>>
-        ensures { option_map object_view result ≡ object_of bytes.now }
+    /// The file that these bytes are, whose debug file has those of `debug`. `.eh_frame` is the
+    /// file's; `.debug_frame` is the file's, or where it has no bytes of one the debug file's.
+    /// Returns `None` where they are no ELF file, and where it has neither section or its headers
+    /// can't be read (`cfi_elf::ElfFile::parse`, `cfi_object::{eh_frame, debug_frame}`). A
+    /// compressed `.debug_frame` isn't read. Does not allocate.
+    pub fn of(bytes: &'file [u8], debug: Option<&'file [u8]>) -> Option<Object<'file>>
+        ensures { option_map object_view result ≡ object_of bytes.entry.now
+            (option_map (λ debug. debug.now) debug.entry) }
     {
         let Ok(file) = ElfFile::parse(bytes) else {
             return None;
         };
-        match eh_frame(&file) {
-            Ok(Some(frames)) => Some(Self::with_frames(file, frames)),
-            _ => None,
+        Self::with_either(file, eh_frame_in(&file), debug_for(&file, debug))
+    }
+
+    /// The file, if it has either section.
+    fn with_either(
+        file: ElfFile<'file>,
+        frames: Option<SectionSource<'file>>,
+        debug: Option<SectionSource<'file>>,
+    ) -> Option<Object<'file>>
+        ensures { option_map object_view result ≡ with_either (file_view file.entry)
+            (option_map source_view frames.entry) (option_map source_view debug.entry) }
+    {
+        match frames {
+            Some(frames) => Some(Self::with_frames(file, frames, debug)),
+            None => match debug {
+                Some(debug) => {
+                    let frames = section_in(&file, SectionKind::EhFrame, &[]);
+                    Some(Self::with_frames(file, frames, Some(debug)))
+                }
+                None => None,
+            },
         }
     }
 
-    /// The file with this `.eh_frame`.
-    fn with_frames(file: ElfFile<'file>, frames: SectionSource<'file>) -> Object<'file>
-        ensures { object_view result
-            ≡ object_with (file_view file.entry) (source_view frames.entry) }
+    /// The file with these sections.
+    fn with_frames(
+        file: ElfFile<'file>,
+        frames: SectionSource<'file>,
+        debug: Option<SectionSource<'file>>,
+    ) -> Object<'file>
+        ensures { object_view result ≡ object_with (file_view file.entry)
+            (source_view frames.entry) (option_map source_view debug.entry) }
     {
         Object {
             file,
             frame: frames.eh_frame(),
             header: frames.header(),
             bases: frames.bases,
+            debug: debug_made(debug),
         }
     }
 
@@ -112,22 +165,39 @@ impl<'file> Object<'file> {
         CompiledTable::new(alloc, &self.frame, &self.bases)
     }
 
+    /// Returns the compiled table of `.debug_frame`, at the addresses that the file has; `None`
+    /// where there is no such section. Fails with `OutOfMemory`, only where memory is refused.
+    pub fn compile_debug(&self, alloc: Global) -> Result<Option<CompiledTable>, Error>
+        ensures table { IfOk result (IsDebugTable (object_view self.now).debug) }
+        ensures err { IfErr result (λ error. error ≡ OutOfMemory) }
+    {
+        match &self.debug {
+            Some(debug) => Ok(Some(CompiledTable::new(alloc, &debug.frame, &debug.bases)?)),
+            None => Ok(None),
+        }
+    }
+
     /// The module that the file is where it is mapped, with the file's number among those of the
-    /// profile and this compiled table of it: its code is that between the two addresses, and its
+    /// profile and these compiled tables of it: its code is that between the two addresses, and its
     /// sections are at the addresses of the file. Returns `None` where there is no bias. Does not
     /// allocate.
     pub fn module<'a>(
-        &self,
+        &'a self,
         number: usize,
         table: Option<&'a CompiledTable>,
+        debug: Option<&'a CompiledTable>,
         mapped: &MappedCode,
     ) -> Option<LoadedModule<'a, EndianSlice<'file, RunTimeEndian>>>
         ensures module { option_map module_view result ≡ module_of number (object_view self.now)
-            (option_map (λ table. table.now) table.entry) mapped.now }
+            (record {
+              table = option_map (λ table. table.now) table.entry;
+              debug = option_map (λ table. table.now) debug.entry;
+            }) mapped.now }
         ensures frames { IfSome result (HasFramesOf number self.now) }
     {
         let bias = self.bias(mapped)?;
-        Some(self.module_with(bias, number, table, mapped))
+        let debug = debug_by(&self.debug, debug);
+        Some(self.module_with(bias, number, table, debug, mapped))
     }
 
     /// The module, with this bias.
@@ -136,11 +206,12 @@ impl<'file> Object<'file> {
         bias: u64,
         number: usize,
         table: Option<&'a CompiledTable>,
+        debug: Option<DebugTable<'a, EndianSlice<'file, RunTimeEndian>>>,
         mapped: &MappedCode,
     ) -> LoadedModule<'a, EndianSlice<'file, RunTimeEndian>>
         ensures module { module_view result ≡ loaded_module number (object_view self.now).section
-            (object_view self.now).header (option_map (λ table. table.now) table.entry) mapped.now
-            bias }
+            (object_view self.now).header (option_map (λ table. table.now) table.entry)
+            (option_map debug_view debug.entry) mapped.now bias }
         ensures frames { HasFramesOf number self.now result }
     {
         LoadedModule {
@@ -152,7 +223,90 @@ impl<'file> Object<'file> {
             header: self.header,
             bases: self.bases,
             compiled: table,
+            debug,
         }
+    }
+}
+
+/// `.eh_frame` of a file, if it can be read.
+fn eh_frame_in<'file>(file: &ElfFile<'file>) -> Option<SectionSource<'file>>
+    ensures { option_map source_view result ≡ there (eh_frame_of (file_view file.now)) }
+{
+    match eh_frame(file) {
+        Ok(frames) => frames,
+        Err(_) => None,
+    }
+}
+
+/// `.debug_frame` of a file, if it can be read and has bytes.
+fn debug_in<'file>(file: &ElfFile<'file>) -> Option<SectionSource<'file>>
+    ensures { option_map source_view result ≡ debug_in (file_view file.now) }
+{
+    match debug_frame(file) {
+        Ok(Some(frames)) => {
+            if frames.bytes.is_empty() {
+                None
+            } else {
+                Some(frames)
+            }
+        }
+        _ => None,
+    }
+}
+
+/// `.debug_frame` of a file, or else of its debug file.
+fn debug_for<'file>(
+    file: &ElfFile<'file>,
+    debug: Option<&'file [u8]>,
+) -> Option<SectionSource<'file>>
+    ensures { option_map source_view result ≡ debug_for (file_view file.now)
+        (option_map (λ debug. debug.now) debug.entry) }
+{
+    if let Some(frames) = debug_in(file) {
+        return Some(frames);
+    }
+    let debug_file = ElfFile::parse(debug?).ok()?;
+    debug_in(&debug_file)
+}
+
+/// The section as `.debug_frame`, if there is one.
+fn debug_made<'file>(source: Option<SectionSource<'file>>) -> Option<DebugSection<'file>>
+    ensures { option_map debug_section result
+        ≡ option_map (given_as debug_frame_kind) (option_map source_view source.entry) }
+{
+    match source {
+        Some(source) => Some(debug_section(&source)),
+        None => None,
+    }
+}
+
+/// The section as `.debug_frame`.
+fn debug_section<'file>(source: &SectionSource<'file>) -> DebugSection<'file>
+    ensures { debug_section result ≡ given_as debug_frame_kind (source_view source.now) }
+{
+    let mut frame = DebugFrame::new(source.bytes, source.endian);
+    frame.set_address_size(source.address_size.bytes());
+    frame.set_vendor(source.vendor);
+    DebugSection {
+        frame,
+        bases: source.bases,
+    }
+}
+
+/// `.debug_frame` with its compiled table, if both are there.
+fn debug_by<'a, 'file>(
+    debug: &'a Option<DebugSection<'file>>,
+    table: Option<&'a CompiledTable>,
+) -> Option<DebugTable<'a, EndianSlice<'file, RunTimeEndian>>>
+    ensures { option_map debug_view result ≡ debug_by (option_map debug_section debug.now)
+        (option_map (λ table. table.now) table.entry) }
+{
+    match debug {
+        Some(debug) => Some(DebugTable {
+            frame: &debug.frame,
+            compiled: table?,
+        }),
+        None => None,
     }
 }
 

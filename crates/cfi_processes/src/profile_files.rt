@@ -10,8 +10,9 @@ ghost use Rattle.cfi_processes.specs.KernelNames.{kernel_view};
 ghost use Rattle.cfi_processes.specs.KnownFiles.{code_view, known_view};
 ghost use Rattle.cfi_processes.specs.Objects.{object_of};
 ghost use Rattle.cfi_processes.specs.OpenedFiles.{AreFilesOf, AreOpened, IsBuild, IsBuildOf};
-ghost use Rattle.cfi_processes.specs.OpenedFiles.{IsCodeOf, IsContents, IsDebug, IsDebugOf};
-ghost use Rattle.cfi_processes.specs.OpenedFiles.{IsFileOf, IsFound, functions_in};
+ghost use Rattle.cfi_processes.specs.OpenedFiles.{IsByLink, IsCodeOf, IsContents, IsDebug};
+ghost use Rattle.cfi_processes.specs.OpenedFiles.{IsDebugOf, IsElsewhere, IsFileOf, IsFound};
+ghost use Rattle.cfi_processes.specs.OpenedFiles.{IsLinkedIn, functions_in, if_linked};
 ghost use Rattle.cfi_processes.specs.OpenedFiles.{IsReadOf, IsReading, IsTold, bytes_view};
 ghost use Rattle.cfi_processes.specs.OpenedFiles.{if_built, kernel_of, kernel_text, map_by, map_of};
 ghost use Rattle.cfi_processes.specs.OpenedFiles.{is_file_name, opened_view};
@@ -19,7 +20,8 @@ ghost use Rattle.cfi_processes.specs.Replays.{code_file, has_kernel, has_kernel_
 ghost use Rattle.cfi_processes.specs.Replays.{is_among, is_code_file, is_of, wanted_in, wanted_of};
 ghost use Rattle.cfi_processes.specs.Replays.{process_of, with_file};
 ghost use Rattle.cfi_processes.specs.Wanted.{FilePlace, at_path, code_map, copy_of, debug_of};
-ghost use Rattle.cfi_processes.specs.Wanted.{kernel_symbols, wanted_view};
+ghost use Rattle.cfi_processes.specs.Wanted.{kernel_symbols, linked, wanted_view};
+ghost use Rattle.cfi_elf.specs.DebugLinks.{link_view};
 
 use crate::code_map::{CodeMap, is_memory_name, map_name};
 use crate::file_code::FileCode;
@@ -28,7 +30,10 @@ use crate::kernel_names::KernelNames;
 use crate::kernel_symbols::{KERNEL_IMAGE, is_kernel_name};
 use crate::names::Name;
 use crate::objects::Object;
-use crate::wanted::{WantedFile, has_build, id_of, same_id, same_process};
+use crate::wanted::{
+    LinkFolder, WantedFile, has_build, id_of, is_linked, link_of, same_id, same_process,
+};
+use cfi_elf::DebugLink;
 use cfi_elf::bytes::bytes_from;
 use cfi_object::input::{FileInput, InputError, read_all};
 use cfi_object::parts::read_whole;
@@ -61,6 +66,11 @@ pub trait Opener {
     /// was stripped of; `None` where it can't be opened. Says nothing.
     fn open_debug(&self, build: &[u8]) -> Option<Self::File>
         ensures { may_open self.now (debug_of build.now) result };
+
+    /// Opens the debug file to which the link of the file with this name may lead, in a folder;
+    /// `None` where it can't be opened. Says nothing.
+    fn open_linked(&self, folder: LinkFolder, name: &[u8], link: &[u8]) -> Option<Self::File>
+        ensures { may_open self.now (linked folder name.now link.now) result };
 
     /// Opens what the kernel tells of its symbols (`/proc/kallsyms`, proc(5)); `None` where it
     /// can't be opened. Says nothing.
@@ -98,8 +108,8 @@ pub struct OpenedFile<'run> {
     /// build is known, also where no file of it was found. Of the kernel, what it tells of its
     /// symbols; of memory of a process, what that tells of its code.
     pub bytes: Option<Vec<u8>>,
-    /// The bytes of its debug file; `None` where it can't be opened or read, or is of another
-    /// build.
+    /// The bytes of its debug file; `None` where it can't be opened or read, is of another build,
+    /// or hasn't the checksum of the link that leads to it.
     pub debug: Option<Vec<u8>>,
     /// The process whose memory it is, where it is no file's.
     pub process: Option<u32>,
@@ -116,7 +126,7 @@ pub struct ProfileFile<'run> {
     pub build_id: Option<&'run [u8]>,
     /// Its functions; `None` where it can't be opened or read, or is no ELF file.
     pub functions: Option<FileFunctions<'run>>,
-    /// Its code; `None` where it can't be opened or read, is no ELF file, or has no `.eh_frame`.
+    /// Its code; `None` where it can't be opened or read, is no ELF file, or has no call frames.
     pub code: Option<FileCode<'run>>,
     /// The symbols of the kernel that runs, if it is the kernel itself, and they can be read.
     pub kernel: Option<KernelNames<'run>>,
@@ -252,7 +262,8 @@ fn is_among(files: &[WantedFile<'_>], file: &WantedFile<'_>) -> bool
 
 /// Opens and reads the files. Of a build that is known only a file of it is taken: the one at the
 /// path, or else the copy that the recorder kept. Also reads the debug file of each file that says
-/// of which build it is. Fails where memory is refused.
+/// of which build it is, or else that to which the file's link leads. Fails where memory is
+/// refused.
 pub fn read_files<'run, O: Opener>(
     alloc: Global,
     opener: &O,
@@ -264,7 +275,7 @@ pub fn read_files<'run, O: Opener>(
     let mut opened = Vec::new(alloc);
     for file in files {
         let bytes = read_file(alloc, opener, file)?;
-        let debug = read_debug(alloc, opener, &bytes)?;
+        let debug = read_debug(alloc, opener, file.name, &bytes)?;
         let map_name = map_name_of(alloc, file.process)?;
         opened.push(OpenedFile {
             name: file.name,
@@ -288,18 +299,96 @@ fn map_name_of(alloc: Global, process: Option<u32>) -> Result<Option<String>, Al
     }
 }
 
-/// Reads the debug file of a file of these bytes.
+/// Reads the debug file of a file of this name and these bytes.
 fn read_debug<O: Opener>(
     alloc: Global,
     opener: &O,
+    name: &[u8],
     bytes: &Option<Vec<u8>>,
 ) -> Result<Option<Vec<u8>>, AllocError>
     ensures { IfOk result (λ debug. IsDebugOf (O.may_open opener.now) O.File.remaining
-        (bytes_view bytes.now) (bytes_view debug)) }
+        name.now (bytes_view bytes.now) (bytes_view debug)) }
+{
+    let Some(bytes) = bytes else {
+        return Ok(None);
+    };
+    let build = id_of(bytes.as_slice());
+    match read_debug_of(alloc, opener, build)? {
+        Some(debug) => Ok(Some(debug)),
+        None => read_by_link(alloc, opener, name, build, link_of(bytes.as_slice())),
+    }
+}
+
+/// Reads the debug file to which the link of a file of this name and this build leads.
+fn read_by_link<O: Opener>(
+    alloc: Global,
+    opener: &O,
+    name: &[u8],
+    build: Option<&[u8]>,
+    link: Option<DebugLink<'_>>,
+) -> Result<Option<Vec<u8>>, AllocError>
+    ensures { IfOk result (λ debug. IsByLink (O.may_open opener.now) O.File.remaining name.now
+        (option_map (λ build. build.now) build.entry) (option_map link_view link.entry)
+        (bytes_view debug)) }
+{
+    let Some(link) = link else {
+        return Ok(None);
+    };
+    match read_linked(alloc, opener, name, build, &link, LinkFolder::Beside)? {
+        Some(debug) => Ok(Some(debug)),
+        None => read_elsewhere(alloc, opener, name, build, &link),
+    }
+}
+
+/// The same, where it isn't beside the file.
+fn read_elsewhere<O: Opener>(
+    alloc: Global,
+    opener: &O,
+    name: &[u8],
+    build: Option<&[u8]>,
+    link: &DebugLink<'_>,
+) -> Result<Option<Vec<u8>>, AllocError>
+    ensures { IfOk result (λ debug. IsElsewhere (O.may_open opener.now) O.File.remaining name.now
+        (link_view link.now) (option_map (λ build. build.now) build.entry)
+        (bytes_view debug)) }
+{
+    match read_linked(alloc, opener, name, build, link, LinkFolder::Below)? {
+        Some(debug) => Ok(Some(debug)),
+        None => read_linked(alloc, opener, name, build, link, LinkFolder::Central),
+    }
+}
+
+/// Reads the debug file in one folder, if the link leads to it.
+fn read_linked<O: Opener>(
+    alloc: Global,
+    opener: &O,
+    name: &[u8],
+    build: Option<&[u8]>,
+    link: &DebugLink<'_>,
+    folder: LinkFolder,
+) -> Result<Option<Vec<u8>>, AllocError>
+    ensures { IfOk result (λ debug. IsLinkedIn (O.may_open opener.now) O.File.remaining name.now
+        (link_view link.now) (option_map (λ build. build.now) build.entry) folder
+        (bytes_view debug)) }
+{
+    let bytes = read_opened::<O>(alloc, opener.open_linked(folder, name, link.name))?;
+    Ok(if_linked(link, build, bytes))
+}
+
+/// The bytes, if the link of a file of this build leads to them.
+fn if_linked(link: &DebugLink<'_>, build: Option<&[u8]>, bytes: Option<Vec<u8>>) -> Option<Vec<u8>>
+    ensures { bytes_view result ≡ if_linked (link_view link.now)
+        (option_map (λ build. build.now) build.entry) (bytes_view bytes) }
 {
     match bytes {
-        Some(bytes) => read_debug_of(alloc, opener, id_of(bytes.as_slice())),
-        None => Ok(None),
+        Some(bytes) => {
+            if is_linked(link, build, bytes.as_slice()) {
+                Some(bytes)
+            } else {
+                None
+            }
+        }
+        None => None,
     }
 }
 
@@ -504,7 +593,7 @@ fn profile_file<'opened>(
 {
     let functions = functions_of(alloc, opened)?;
     let code = match &opened.bytes {
-        Some(bytes) => code_of(alloc, bytes.as_slice())?,
+        Some(bytes) => code_of(alloc, bytes.as_slice(), slice_of(&opened.debug))?,
         None => None,
     };
     let kernel = kernel_of(alloc, opened)?;
@@ -601,12 +690,17 @@ fn slice_of(bytes: &Option<Vec<u8>>) -> Option<&[u8]>
     }
 }
 
-/// The code of the file that these bytes are.
-fn code_of<'run>(alloc: Global, bytes: &'run [u8]) -> Result<Option<FileCode<'run>>, AllocError>
-    ensures { IfOk result (λ code.
-        IsCodeOf (object_of bytes.now) (option_map code_view code)) }
+/// The code of the file that these bytes are, whose debug file has those of `debug`.
+fn code_of<'run>(
+    alloc: Global,
+    bytes: &'run [u8],
+    debug: Option<&'run [u8]>,
+) -> Result<Option<FileCode<'run>>, AllocError>
+    ensures { IfOk result (λ code. IsCodeOf
+        (object_of bytes.entry.now (option_map (λ debug. debug.now) debug.entry))
+        (option_map code_view code)) }
 {
-    match Object::of(bytes) {
+    match Object::of(bytes, debug) {
         Some(object) => Ok(Some(FileCode::of(alloc, object)?)),
         None => Ok(None),
     }

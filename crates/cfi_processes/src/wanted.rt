@@ -2,10 +2,24 @@
 ghost use Rattle.std.specs.Prelude.{◌≡◌, ◌==◌, option_map};
 ghost use Rattle.std.specs.List.{list_all};
 ghost use Rattle.cfi_processes.specs.Wanted.{has_build, id_of, is_build, is_same, same_id};
+ghost use Rattle.cfi_processes.specs.Wanted.{is_linked, link_of, may_be_of};
 ghost use Rattle.cfi_processes.specs.Wanted.{same_process, wanted_view};
+ghost use Rattle.cfi_elf.specs.DebugLinks.{link_view};
 
-use cfi_elf::ElfFile;
 use cfi_elf::bytes::bytes_from;
+use cfi_elf::{DebugLink, ElfFile, crc32};
+
+/// Where the debug file is looked for to which the link of a file leads (GDB's manual, "Separate
+/// Debug Files").
+#[derive(Clone, Copy, Debug)]
+pub enum LinkFolder {
+    /// The folder of the file.
+    Beside,
+    /// The folder `.debug` in that of the file.
+    Below,
+    /// The folder that has the path of the file's folder in that of debug files.
+    Central,
+}
 
 /// A file that a profile's mappings are of, or memory of a process.
 #[derive(Clone, Copy, Debug)]
@@ -81,6 +95,43 @@ pub fn id_of(bytes: &[u8]) -> Option<&[u8]>
     match file.build_id() {
         Ok(id) => id,
         Err(_) => None,
+    }
+}
+
+/// Returns the link of the ELF file of these bytes to its debug file. `None` where they are no ELF
+/// file, or it has none that can be read (`cfi_elf::ElfFile::debug_link`). Does not allocate.
+pub fn link_of(bytes: &[u8]) -> Option<DebugLink<'_>>
+    ensures { option_map link_view result ≡ link_of bytes.now }
+{
+    let Ok(file) = ElfFile::parse(bytes) else {
+        return None;
+    };
+    match file.debug_link() {
+        Ok(link) => link,
+        Err(_) => None,
+    }
+}
+
+/// Returns whether the file of these bytes is the one to which the link of a file of this build
+/// leads: it has the link's checksum, and no other build. Does not allocate.
+pub fn is_linked(link: &DebugLink<'_>, build: Option<&[u8]>, bytes: &[u8]) -> bool
+    ensures { result ≡ is_linked (link_view link.now)
+        (option_map (λ build. build.now) build.entry) bytes.now }
+{
+    crc32(bytes) == link.checksum && may_be_of(build, id_of(bytes))
+}
+
+/// Whether a file of the one build, if it is known, may be of the other, if that is known.
+fn may_be_of(one: Option<&[u8]>, other: Option<&[u8]>) -> bool
+    ensures { result ≡ may_be_of (option_map (λ id. id.now) one.entry)
+        (option_map (λ id. id.now) other.entry) }
+{
+    match one {
+        Some(one) => match other {
+            Some(other) => one == other,
+            None => true,
+        },
+        None => true,
     }
 }
 

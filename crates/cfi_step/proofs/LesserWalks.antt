@@ -1,5 +1,5 @@
 -- The frames of a walk where less of the memory is known: they are those where more is, unless something is lacking.
-use Rattle.std.proofs.Common.{◌≡◌, ◌∙◌, ◌⊎◌, ◌<◌, ◌≤◌, ◌==◌, ℕ, Bool, true, false, List, [], ◌∷◌, Option, Some, None, Result, Ok, Err, IfOk, OnErr, length, map, refl, sym, ap, inl, inr, true≢false, slice_index_or, arith}
+use Rattle.std.proofs.Common.{◌≡◌, ◌∙◌, ◌⊎◌, ◌<◌, ◌≤◌, ◌==◌, ℕ, Bool, true, false, List, [], ◌∷◌, Option, Some, None, Result, Ok, Err, IfOk, OnErr, length, map, refl, sym, ap, subst, inl, inr, true≢false, slice_index_or, arith}
 use Rattle.std.specs.Prelude.{if◌then◌else◌}
 use Rattle.std.specs.FinMap as fin
 use Rattle.std.specs.List.{range_with_len}
@@ -23,7 +23,7 @@ use Rattle.cfi_state.specs.MappedStates.{map_row}
 use Rattle.cfi_entry.specs.Augmentations.{is_trampoline}
 use Rattle.cfi_entry.specs.Fdes.{Fde}
 use Rattle.cfi_entry.specs.Sections.{Section}
-use Rattle.cfi_entry.specs.SectionViews.{eh_frame_view}
+use Rattle.cfi_entry.specs.SectionViews.{debug_frame_view, eh_frame_view}
 use Rattle.cfi_unwind.specs.AddressRow.{IsRowOfFde}
 use Rattle.cfi_compiled.specs.CompiledTables.{TableContents, frame_at}
 use Rattle.cfi_compiled.specs.FrameParts.{FrameParts}
@@ -35,13 +35,14 @@ use Rattle.cfi_expression.specs.Stacks.{map_value}
 use Rattle.cfi_expression.proofs.LesserFrames.{AreKnown, Extends, Same, is_lacking, lacks, same_number, same_register, same_self, same_value}
 use Rattle.cfi_step.specs.declared.abi.Abi.{Abi}
 use Rattle.cfi_step.specs.declared.step.Caller.{Caller}
+use Rattle.cfi_step.specs.declared.module.DebugTable.{DebugTable}
 use Rattle.cfi_step.specs.declared.module.LoadedModule.{LoadedModule}
 use Rattle.cfi_step.specs.declared.walk.End.{End}
 use Rattle.cfi_step.specs.declared.walk.End.TheVariants.{Failed, NoModule}
 use Rattle.cfi_step.specs.declared.walk.StackFrame.{StackFrame}
 use Rattle.cfi_step.specs.declared.walk.Start.{Start}
 use Rattle.cfi_step.specs.Callers.{AreRecovered, by_rule, cfa_of, expression_value, given, is_signed, on_ok, pc_of, read_part, recovered, recovered_by, return_address, return_by, saved_at, value_at}
-use Rattle.cfi_step.specs.Modules.{IsStepByFde, IsStepIn, IsStepVia, address_in_file, first_module, module_section}
+use Rattle.cfi_step.specs.Modules.{IsStepByDebug, IsStepByFde, IsStepIn, IsStepOr, IsStepVia, address_in_file, first_module, module_section, no_fde}
 use Rattle.cfi_step.specs.Steps.{IsCallerBy, IsStepBy, caller_by}
 use Rattle.cfi_step.specs.StepsByTable.{IsStepByFrame}
 use Rattle.cfi_step.specs.Walks.{IsStepAmong, IsStepOf, IsStepOver, IsWalkAmong, State, checked, resumed, resumed_at, address_of}
@@ -232,8 +233,31 @@ module _ {m m' : ℕ → ℕ → Option ℕ} {rs rs' : List (Option ℕ)} (size 
         (by_fde (eh_frame_view position loaded.frame).position abi number result room caller long whole rule_limit stack_limit copies_free (module_section position size loaded) a found is)
     via (Some table) a is = by_frame (eh_frame_view position loaded.frame).position abi result room caller long whole (frame_at table.now a) is
 
+  module _ {R T : Type 0} (position : R → Position) (number : T → ℕ) (abi : Abi) (rule_limit stack_limit : Option ℕ) (copies_free : Bool) (loaded : LoadedModule R) (a : ℕ) (result : Result Caller FrameError)
+      (room caller : List (Option ℕ)) (long : length caller ≡ length room) (whole : lacks result ≡ false) where
+    abbrev by_less : Result Caller FrameError → List (Option ℕ) → Type 0
+    by_less = IsStepVia position number less abi rule_limit stack_limit copies_free loaded.compiled loaded a
+
+    abbrev by_all : Result Caller FrameError → List (Option ℕ) → Type 0
+    by_all = IsStepVia position number all abi rule_limit stack_limit copies_free loaded.compiled loaded a
+
+    -- of two sections the first that has an FDE
+    either : (debug : Option (DebugTable R)) → IsStepOr debug by_less (λ debug. IsStepByDebug position less abi debug a) result caller
+        → More (IsStepOr debug by_all (λ debug. IsStepByDebug position all abi debug a) result) result room caller
+    either None is = via position number abi rule_limit stack_limit copies_free loaded result room caller long whole loaded.compiled a is
+    either (Some debug) (first, left, is, inl (none, other)) =
+        let before = via position number abi rule_limit stack_limit copies_free loaded first left left refl (ap lacks none) loaded.compiled a is in
+        more_by result room caller (λ c so. (first, before.written, before.is_step, inl (none, so)))
+        (by_frame (debug_frame_view position debug.frame.now).position abi result room caller long whole (frame_at debug.compiled.now a) other)
+    either (Some debug) (first, left, is, inr (found, same, same_caller)) =
+        let here : by_less result caller = subst (λ (r : Result Caller FrameError). by_less r caller) (sym same) (subst (λ (c : List (Option ℕ)). by_less first c) (sym same_caller) is) in
+        more_by result room caller (λ c so. (first, c, subst (λ (r : Result Caller FrameError). by_all r c) same so, inr (found, same, refl)))
+        (via position number abi rule_limit stack_limit copies_free loaded result room caller long whole loaded.compiled a here)
+
+  module _ {R T : Type 0} (position : R → Position) (number : T → ℕ) (abi : Abi) (rule_limit stack_limit : Option ℕ) (copies_free : Bool) (loaded : LoadedModule R) (result : Result Caller FrameError)
+      (room caller : List (Option ℕ)) (long : length caller ≡ length room) (whole : lacks result ≡ false) where
     in_module : (a : ℕ) → IsStepIn position number less abi rule_limit stack_limit copies_free loaded a result caller → More (IsStepIn position number all abi rule_limit stack_limit copies_free loaded a result) result room caller
-    in_module a is = via loaded.compiled (address_in_file loaded.bias a) is
+    in_module a is = either position number abi rule_limit stack_limit copies_free loaded (address_in_file loaded.bias a) result room caller long whole loaded.debug is
 
 -- ---- a walk
 

@@ -5,6 +5,7 @@ pub mod AsScanned
 pub mod SortedCode
 pub mod WorkedModules
 pub mod KeptRows
+pub mod OrSteps
 pub mod Walking
 pub mod PackedKeeps
 pub mod LesserWalks

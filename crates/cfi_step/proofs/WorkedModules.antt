@@ -16,7 +16,7 @@ below_its_own = refl
 
 module _ {R : Type 0} (frame : EhFrame R) (bases : BaseAddresses) where
   abbrev code : ℕ → ℕ → LoadedModule R
-  code start end = record { start = start; end = end; bias = 0; file = 0; frame = frame; header = None; bases = bases; compiled = None }
+  code start end = record { start = start; end = end; bias = 0; file = 0; frame = frame; header = None; bases = bases; compiled = None; debug = None }
 
   abbrev in_order : List (LoadedModule R)
   in_order = code 1 5 ∷ code 5 5 ∷ code 5 9 ∷ code 12 13 ∷ []
@@ -50,7 +50,7 @@ module _ {R : Type 0} (frame : EhFrame R) (bases : BaseAddresses) where
   -- ---- numbers of files
 
   abbrev loaded : ℕ → ℕ → EhFrame R → LoadedModule R
-  loaded bias file entries = record { start = 1; end = 5; bias = bias; file = file; frame = entries; header = None; bases = bases; compiled = None }
+  loaded bias file entries = record { start = 1; end = 5; bias = bias; file = file; frame = entries; header = None; bases = bases; compiled = None; debug = None }
 
   -- modules of one file, wherever it is loaded
   one_file : AreAlike (loaded 4096 7 frame) (loaded 8192 7 frame)

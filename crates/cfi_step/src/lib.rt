@@ -38,7 +38,7 @@ pub use compiled::step_by_compiled;
 pub use function::{Function, FunctionStep, step_in_function};
 pub use gimli_cfi::fde_by_header;
 pub use kept_function::keep_row;
-pub use module::{LoadedModule, fde_in_module};
+pub use module::{DebugTable, LoadedModule, fde_in_module};
 pub use module_steps::step_in_module;
 pub use modules::{Modules, OutOfOrder};
 pub use packed_rows::PackedRow;

@@ -10,8 +10,18 @@ ghost use Rattle.cfi_step.specs.Modules.{IsFoundIn, address_in_file, has_code};
 use crate::code::{HasCode, has_code};
 use cfi_compiled::CompiledTable;
 use gimli_cfi::{
-    BaseAddresses, EhFrame, EhFrameHdr, FrameDescriptionEntry, Reader, fde_by_header, scan_for_fde,
+    BaseAddresses, DebugFrame, EhFrame, EhFrameHdr, FrameDescriptionEntry, Reader, fde_by_header,
+    scan_for_fde,
 };
+
+/// `.debug_frame` of a module, with its compiled table.
+#[derive(Clone, Copy, Debug)]
+pub struct DebugTable<'a, R> {
+    /// `.debug_frame`, which has the bytes of the expressions in rows.
+    pub frame: &'a DebugFrame<R>,
+    /// The compiled table of it, at the addresses that the file has.
+    pub compiled: &'a CompiledTable,
+}
 
 /// A module as it is loaded: its code, and its call frames.
 ///
@@ -38,6 +48,8 @@ pub struct LoadedModule<'a, R> {
     pub bases: BaseAddresses,
     /// The compiled table of the file's `.eh_frame`, if there is one. Then the header isn't asked.
     pub compiled: Option<&'a CompiledTable>,
+    /// `.debug_frame`, if it is asked where `.eh_frame` has no FDE for an address.
+    pub debug: Option<DebugTable<'a, R>>,
 }
 
 impl<R> LoadedModule<'_, R> {
@@ -77,7 +89,7 @@ impl<R> HasCode for LoadedModule<'_, R> {
 
 /// The FDE of a module for an address of its file (`address_in_file`), by the table of its header;
 /// by a scan of its section if it has no header, or one without a table. The address size is 1, 2,
-/// 4 or 8. A compiled table has no FDEs, so it isn't asked.
+/// 4 or 8. A compiled table has no FDEs, so it isn't asked, nor is that of `.debug_frame`.
 ///
 /// The FDE contains the address. Fails as `EhFrameHdr::parse` and `EhHdrTable::fde_for_address`, or
 /// as `scan_for_fde`. Does not allocate.

@@ -223,6 +223,7 @@ pub fn module_at<'a>(
         header: None,
         bases,
         compiled: None,
+        debug: None,
     }
 }
 

@@ -18,6 +18,7 @@ fn module(code: Code) -> Module {
         header: None,
         bases: BaseAddresses::default(),
         compiled: None,
+        debug: None,
     }
 }
 

@@ -6,7 +6,7 @@
 //! appends `:HG` to the event of the first profile, which has no names.
 ghost use Rattle.std.specs.Prelude.{⊤, refl};
 
-use cfi_processes::Opener;
+use cfi_processes::{LinkFolder, Opener};
 use cfi_stacks::{Choice, Listing, list_profile, unwind_profile};
 use cfi_tests_bytes::bytes_of;
 use std::process::Abort;
@@ -250,6 +250,10 @@ impl<'a> Opener for OneFile<'a> {
     }
 
     fn open_debug(&self, _build: &[u8]) -> Option<&'a [u8]> {
+        None
+    }
+
+    fn open_linked(&self, _folder: LinkFolder, _name: &[u8], _link: &[u8]) -> Option<&'a [u8]> {
         None
     }
 

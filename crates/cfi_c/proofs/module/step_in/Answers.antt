@@ -38,5 +38,5 @@ returns-clause-step c =
     (λ i. record { registers = c.args.registers.now; memory = c.requires.of_stack.1 i; size = c.new.ensures i })
     c.requires.of_stack.2 c.row_address-address.ensures c.loaded_of-loaded.ensures.bytes
     (c.loaded_of-loaded.ensures.section ∙ of_eh_frame (sized c.args.steps.now.stack.now.address_size module_now.bases) (header_in module_now.header.now) module_now.section.now no)
-    c.loaded_of-loaded.ensures.header c.loaded_of-loaded.ensures.compiled
+    c.loaded_of-loaded.ensures.header c.loaded_of-loaded.ensures.compiled c.loaded_of-loaded.ensures.debug
     c.loaded_of-loaded.ensures.bias (omega arith) c.step_in_module.ensures.step

@@ -9,4 +9,4 @@ pub returns : goal.returns
 returns c =
     let sizes = ap (λ section. section.address_size) c.eh_frame.ensures in
     let headed = ap (λ size. option_map (λ header. unparsed_view (slice_position is_big) header size c.args.frames.bases) c.header.result) sizes ∙ c.header.ensures in
-    λ i. record { file = file_view c.args.file; section = c.eh_frame.ensures i; header = headed i }
+    λ i. record { file = file_view c.args.file; section = c.eh_frame.ensures i; header = headed i; debug = c.debug_made.ensures i }
