@@ -9,4 +9,5 @@ mod ReadLemmas
 mod ThreadLemmas
 mod CoreLemmas
 mod CoreRunLemmas
+mod QuickLemmas
 mod Worked

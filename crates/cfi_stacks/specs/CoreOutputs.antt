@@ -22,7 +22,9 @@ use Rattle.cfi_read_core.specs.declared.endianity.RunTimeEndian.{RunTimeEndian}
 use Rattle.cfi_read_core.specs.ByteOrder.{is_big}
 use Rattle.cfi_read_core.specs.SliceReaders.{EndianSlice, slice_position}
 use Rattle.cfi_programs.specs.declared.style.Format.{Format}
+use Rattle.cfi_object.specs.FileParts.{AreLeft}
 use Rattle.cfi_programs.specs.Lines.{Line, reason_line as why_line, refused_line}
+use Rattle.cfi_programs.specs.WriterOutput.{PrintsSome}
 use Rattle.cfi_step.specs.declared.module.LoadedModule.{LoadedModule}
 use Rattle.cfi_step.specs.declared.walk.StackFrame.{StackFrame}
 use Rattle.cfi_step.specs.declared.walk.Walk.{Walk}
@@ -277,6 +279,15 @@ IsOfOpened listing core opened printed =
     (files : List KnownFile) × AreFilesOf opened files
     × IsOfFiles listing core opened files printed
 
+-- the files of a core, and the vdso
+abbrev pub AreOpenedFor :
+    {Handle : Type 0} → (FilePlace → Option Handle → Type 0) → (Handle → Option (List ℕ)) →
+    Core → List Opened → Type 0
+AreOpenedFor may_open remaining core all =
+    (opened : List Opened)
+    × AreOpened may_open remaining (code_files core.segments core.mapped) opened
+    × (all ≡ with_vdso core opened)
+
 module _ (listing : ThreadListing) {Handle : Type 0}
     (may_open : FilePlace → Option Handle → Type 0) (remaining : Handle → Option (List ℕ)) where
   -- by these files and the vdso
@@ -306,3 +317,10 @@ module _ (listing : ThreadListing) {Handle : Type 0}
   -- or the input can't be read
   abbrev pub IsOwed : List ℕ → Line → Type 0
   IsOwed bytes printed = IsOutput bytes printed ⊎ (printed ≡ wrong_input_in listing.format)
+
+  -- of an input that has the known bytes, where these are known
+  abbrev pub PrintsOwed :
+      {E : Type 0} → Option (List ℕ) → Option (List ℕ) → Option (List ℕ) → Result ℕ E → Type 0
+  PrintsOwed known old new result =
+      (bytes : List ℕ) × AreLeft known bytes
+      × PrintsSome (λ line. IsOwed bytes line) old new result

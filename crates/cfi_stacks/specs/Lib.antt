@@ -9,3 +9,4 @@ pub mod ProfileOutputs
 pub mod Foldings
 pub mod ThreadStacks
 pub mod CoreOutputs
+pub mod QuickStacks

@@ -9,6 +9,7 @@ ghost use Rattle.cfi_processes.specs.KnownFiles.{known_view, modules_in};
 ghost use Rattle.cfi_processes.specs.Modules.{module_view};
 ghost use Rattle.cfi_processes.specs.OpenedFiles.{opened_view};
 ghost use Rattle.cfi_processes.specs.Wanted.{wanted_view};
+ghost use Rattle.cfi_stacks.specs.CoreOutputs.{AreOpenedFor};
 ghost use Rattle.cfi_stacks.specs.CoreOutputs.{AreWindows, bytes_named, code_file, code_files};
 ghost use Rattle.cfi_stacks.specs.CoreOutputs.{file_window, is_code, is_file_of_code};
 ghost use Rattle.cfi_stacks.specs.CoreOutputs.{mapped_code, mappings_of, part_of, vdso_file};
@@ -20,7 +21,7 @@ use cfi_cores::{Core, CoreMapping, CoreSegment};
 use cfi_elf::bytes::bytes_from;
 use cfi_processes::mappings::{MappedCode, Mappings};
 use cfi_processes::process_code::{FileModule, ProcessCode};
-use cfi_processes::profile_files::{OpenedFile, ProfileFile, push_file};
+use cfi_processes::profile_files::{OpenedFile, Opener, ProfileFile, push_file, read_files};
 use cfi_processes::wanted::WantedFile;
 use std::alloc::{AllocError, Global};
 
@@ -85,6 +86,22 @@ fn is_code(segments: &[CoreSegment<'_>], mapping: &CoreMapping<'_>) -> bool
     ensures { result ≡ is_code (map segment_view segments.now) (mapping_view mapping.now) }
 {
     segments.iter().all(|segment| segment.is_executable || segment.start != mapping.start)
+}
+
+/// Opens the files that are mapped as code, and puts the vdso behind them (`read_files`,
+/// `push_vdso`). Fails where memory is refused.
+pub(crate) fn opened_files<'run, O: Opener>(
+    alloc: Global,
+    opener: &O,
+    core: &Core<'run>,
+) -> Result<Vec<OpenedFile<'run>>, AllocError>
+    ensures { IfOk result (λ opened. AreOpenedFor (O.may_open opener.now) O.File.remaining
+        (core_view core.now) (map opened_view opened.items)) }
+{
+    let wanted = code_files(alloc, core.segments.as_slice(), core.mapped.as_slice())?;
+    let mut opened = read_files(alloc, opener, wanted.as_slice())?;
+    push_vdso(alloc, core, &mut opened)?;
+    Ok(opened)
 }
 
 /// Puts the vdso behind the files that were opened, with the bytes that the core has of it, if it

@@ -4,34 +4,35 @@ ghost use Rattle.std.specs.List.{list_any};
 ghost use Rattle.cfi_cores.specs.CoreSegments.{AreInOrder, segment_view};
 ghost use Rattle.cfi_cores.specs.CoreFiles.{core_view};
 ghost use Rattle.cfi_cores.specs.CoreThreads.{thread_view};
-ghost use Rattle.cfi_object.specs.FileParts.{AreLeft};
+ghost use Rattle.cfi_cores.specs.CoreParts.{image_of};
+ghost use Rattle.cfi_object.specs.FileParts.{AreLeft, AreOfInput};
 ghost use Rattle.cfi_processes.specs.FileModules.{AreOfFiles};
 ghost use Rattle.cfi_processes.specs.KnownFiles.{known_view, modules_in};
 ghost use Rattle.cfi_processes.specs.Modules.{module_view};
 ghost use Rattle.cfi_processes.specs.OpenedFiles.{opened_view};
 ghost use Rattle.cfi_processes.specs.SampleStacks.{HasRoom};
 ghost use Rattle.cfi_processes.specs.ThreadNames.{bytes_of};
-ghost use Rattle.cfi_processes.specs.Wanted.{wanted_view};
 ghost use Rattle.cfi_programs.specs.WriterOutput.{Prints, PrintsSome};
-ghost use Rattle.cfi_stacks.specs.CoreOutputs.{IsOfCore, IsOfFiles, IsOfOpened, IsOfWanted};
-ghost use Rattle.cfi_stacks.specs.CoreOutputs.{IsOutput, IsOwed, IsPrinted, core_refusal, ended};
+ghost use Rattle.cfi_stacks.specs.CoreOutputs.{IsOfCore, IsOfFiles, IsOfOpened, IsOutput, IsOwed};
+ghost use Rattle.cfi_stacks.specs.CoreOutputs.{IsPrinted, PrintsOwed, core_refusal, ended};
 ghost use Rattle.cfi_stacks.specs.CoreOutputs.{is_asked_for, lacks_any, lacks_thread, mappings_of};
 ghost use Rattle.cfi_stacks.specs.CoreOutputs.{memory_of};
-ghost use Rattle.cfi_stacks.specs.CoreOutputs.{with_vdso};
-ghost use Rattle.cfi_stacks.specs.ProfileOutputs.{no_memory};
+ghost use Rattle.cfi_stacks.specs.ProfileOutputs.{no_memory, wrong_input_in};
 ghost use Rattle.cfi_stacks.specs.Rooms.{KeepsNoRows};
 
-use crate::core_files::{CoreCode, code_files, core_code, push_vdso};
+use crate::core_files::{CoreCode, core_code, opened_files};
+use crate::core_quick::print_partial;
 use crate::core_text::print_thread;
 use crate::listing::ThreadListing;
 use crate::sample_text::Room;
-use cfi_cores::{Core, CoreError, CoreMemory, CoreThread, read_core};
+use cfi_cores::{
+    Core, CoreError, CoreMemory, CoreParts, CoreThread, partial_core, read_core, read_core_parts,
+};
 use cfi_object::input::{FileInput, InputError};
 use cfi_object::parts::read_whole;
 use cfi_processes::Name;
 use cfi_processes::process_code::ProcessCode;
-use cfi_processes::profile_files::{OpenedFile, Opener, ProfileFile, profile_files, read_files};
-use cfi_processes::wanted::WantedFile;
+use cfi_processes::profile_files::{OpenedFile, Opener, ProfileFile, profile_files};
 use cfi_programs::lines::{write_reason, write_refusal_in, write_refused_name};
 use cfi_programs::style::Format;
 use gimli_cfi::Error;
@@ -39,7 +40,7 @@ use std::alloc::Global;
 use std::io;
 use std::io::Write;
 
-/// Reads the core file whole, and prints the stack of each thread, in the order of its notes, or
+/// Reads the core file, and prints the stack of each thread, in the order of its notes, or
 /// only that of the thread that the listing names.
 ///
 /// For each there is a line with the thread, the signal that it got and the name of the process, a
@@ -51,6 +52,10 @@ use std::io::Write;
 /// The files of code are opened by the names that the core file has for them, and where it has the
 /// build of one, only a file of that build is taken (`cfi_processes::profile_files::read_files`);
 /// what it doesn't have of their memory is read in them. The vdso is read in the core file.
+///
+/// Of the core file only the parts are read that are needed (`cfi_cores::read_core_parts`): the
+/// headers and notes, the first pages of files, and each stack from its pointer on. Where a stack
+/// lacks something in these, the file is read whole; one that isn't the same then can't be read.
 ///
 /// Status 0: all threads are printed. Status 1: the core file, or the rest of its notes, can't be
 /// read, which prints `refused` and the name of the error; no note is of the thread that is asked
@@ -70,19 +75,69 @@ pub fn print_core<O: Opener, I: FileInput, W: Write>(
         × PrintsSome (λ line. IsOwed listing (O.may_open opener.now) O.File.remaining bytes line)
         (W.contents output.old) (W.contents output.new) result }
 {
+    match read_core_parts(alloc, input) {
+        Ok(parts) => print_parts(alloc, listing, opener, &parts, input, output),
+        Err(error) => write_unread(output, listing.format, error),
+    }
+}
+
+/// Prints the stacks by the parts that were read, or, where these don't have all headers and notes,
+/// by the whole file.
+fn print_parts<O: Opener, I: FileInput, W: Write>(
+    alloc: Global,
+    listing: ThreadListing,
+    opener: &O,
+    parts: &CoreParts,
+    input: &mut I,
+    output: &mut W,
+) -> io::Result<u8>
+    requires { AreOfInput (I.bytes input.old) (image_of parts.now) }
+    ensures { PrintsOwed listing (O.may_open opener.now) O.File.remaining (I.bytes input.old)
+        (W.contents output.old) (W.contents output.new) result }
+{
+    match partial_core(alloc, parts.image()) {
+        Ok(Some(partial)) => {
+            print_partial(alloc, listing, opener, parts, partial, input, output)
+        }
+        Ok(None) => print_whole(alloc, listing, opener, input, output),
+        Err(_) => write_refusal_in(output, listing.format, Error::OutOfMemory),
+    }
+}
+
+/// Reads the core file whole, and prints the stacks.
+fn print_whole<O: Opener, I: FileInput, W: Write>(
+    alloc: Global,
+    listing: ThreadListing,
+    opener: &O,
+    input: &mut I,
+    output: &mut W,
+) -> io::Result<u8>
+    ensures { PrintsOwed listing (O.may_open opener.now) O.File.remaining (I.bytes input.old)
+        (W.contents output.old) (W.contents output.new) result }
+{
     match read_whole(alloc, input) {
         Ok(bytes) => print_bytes(alloc, listing, opener, bytes.as_slice(), output),
-        Err(InputError::OutOfMemory) => write_refusal_in(
-            output,
-            listing.format,
-            Error::OutOfMemory,
-        ),
-        Err(_) => write_reason(output, listing.format, "wrong input", 2),
+        Err(error) => write_unread(output, listing.format, error),
+    }
+}
+
+/// Prints why a file isn't read.
+pub(crate) fn write_unread<W: Write>(
+    output: &mut W,
+    format: Format,
+    error: InputError,
+) -> io::Result<u8>
+    ensures { PrintsSome (λ line. (line ≡ no_memory format) ⊎ (line ≡ wrong_input_in format))
+        (W.contents output.old) (W.contents output.new) result }
+{
+    match error {
+        InputError::OutOfMemory => write_refusal_in(output, format, Error::OutOfMemory),
+        _ => write_reason(output, format, "wrong input", 2),
     }
 }
 
 /// Whether a thread is asked for that no note is of, all of which were read.
-fn lacks_thread(listing: ThreadListing, core: &Core<'_>) -> bool
+pub(crate) fn lacks_thread(listing: ThreadListing, core: &Core<'_>) -> bool
     ensures { result ≡ lacks_thread listing (core_view core.now) }
 {
     match listing.thread {
@@ -109,7 +164,7 @@ fn has_asked_for(listing: ThreadListing, threads: &[CoreThread<'_>]) -> bool
 }
 
 /// Whether a thread is one that is printed.
-fn is_asked_for(listing: ThreadListing, thread: &CoreThread<'_>) -> bool
+pub(crate) fn is_asked_for(listing: ThreadListing, thread: &CoreThread<'_>) -> bool
     ensures { result ≡ is_asked_for listing (thread_view thread.now) }
 {
     match listing.thread {
@@ -152,55 +207,14 @@ fn print_read<O: Opener, W: Write>(
     if lacks_thread(listing, core) {
         return write_reason(output, listing.format, "no thread", 1);
     }
-    match code_files(alloc, core.segments.as_slice(), core.mapped.as_slice()) {
-        Ok(wanted) => print_wanted(alloc, listing, opener, core, wanted.as_slice(), output),
-        Err(_) => write_refusal_in(output, listing.format, Error::OutOfMemory),
-    }
-}
-
-/// Opens these files, and prints the stacks of the threads.
-fn print_wanted<'run, O: Opener, W: Write>(
-    alloc: Global,
-    listing: ThreadListing,
-    opener: &O,
-    core: &Core<'run>,
-    wanted: &[WantedFile<'run>],
-    output: &mut W,
-) -> io::Result<u8>
-    requires { AreInOrder core.now.segments.items }
-    ensures { PrintsSome (λ line. IsOfWanted listing (O.may_open opener.now) O.File.remaining
-        (core_view core.now) (map wanted_view wanted.now) line ⊎ (line ≡ no_memory listing.format))
-        (W.contents output.old) (W.contents output.new) result }
-{
-    match read_files(alloc, opener, wanted) {
-        Ok(opened) => print_with_vdso(alloc, listing, core, opened, output),
-        Err(_) => write_refusal_in(output, listing.format, Error::OutOfMemory),
-    }
-}
-
-/// Prints the stacks of the threads, by files that were opened and the vdso.
-fn print_with_vdso<'run, W: Write>(
-    alloc: Global,
-    listing: ThreadListing,
-    core: &Core<'run>,
-    opened: Vec<OpenedFile<'run>>,
-    output: &mut W,
-) -> io::Result<u8>
-    requires { AreInOrder core.now.segments.items }
-    ensures { PrintsSome (λ line. IsOfOpened listing (core_view core.now)
-        (with_vdso (core_view core.now) (map opened_view opened.entry.items)) line
-        ⊎ (line ≡ no_memory listing.format))
-        (W.contents output.old) (W.contents output.new) result }
-{
-    let mut opened = opened;
-    match push_vdso(alloc, core, &mut opened) {
-        Ok(()) => print_opened(alloc, listing, core, opened.as_slice(), output),
+    match opened_files(alloc, opener, core) {
+        Ok(opened) => print_opened(alloc, listing, core, opened.as_slice(), output),
         Err(_) => write_refusal_in(output, listing.format, Error::OutOfMemory),
     }
 }
 
 /// Prints the stacks of the threads, by files that were opened.
-fn print_opened<W: Write>(
+pub(crate) fn print_opened<W: Write>(
     alloc: Global,
     listing: ThreadListing,
     core: &Core<'_>,
@@ -317,7 +331,7 @@ fn print_threads<W: Write>(
 }
 
 /// The name of the process, if it is known, to be printed.
-fn shown_name(name: Option<&[u8]>) -> Option<Name<'_>>
+pub(crate) fn shown_name(name: Option<&[u8]>) -> Option<Name<'_>>
     ensures { bytes_of result ≡ option_map (λ name. name.now) name.entry }
 {
     match name {
@@ -327,7 +341,11 @@ fn shown_name(name: Option<&[u8]>) -> Option<Name<'_>>
 }
 
 /// Prints the error that ended the notes, if there is one, and returns the status.
-fn write_end<W: Write>(output: &mut W, format: Format, error: Option<CoreError>) -> io::Result<u8>
+pub(crate) fn write_end<W: Write>(
+    output: &mut W,
+    format: Format,
+    error: Option<CoreError>,
+) -> io::Result<u8>
     ensures { Prints (ended format [] error)
         (W.contents output.old) (W.contents output.new) result }
 {

@@ -5,6 +5,7 @@
 //! `folding` counts the samples by their folded stacks, whose text `folded_text` makes. `core_run`
 //! prints the stacks of a core file, `core_text` that of a thread (`signals`, `core_frames`), whose
 //! frames `thread_stack` writes; `core_files` has what the files of a core say of its process.
+//! `core_quick` does the same by the parts of a core file that are mostly enough.
 //! `choice` says which samples are printed. `sample_object` and `core_object` write stacks as
 //! objects of JSON (`object_lines`).
 #![tactic(auto)]
@@ -13,6 +14,7 @@ pub mod choice;
 pub mod core_files;
 mod core_frames;
 mod core_object;
+mod core_quick;
 pub mod core_run;
 mod core_text;
 mod folded_text;
