@@ -1,24 +1,15 @@
--- Lines with an error of a file, part by part.
+-- The members of a check that was refused, part by part.
 use Rattle.std.proofs.Common.{◌≡◌, ◌∙◌, ℕ, List, Option, Result, [], ◌∷◌, ◌++◌, append_assoc, ap, codes, subst, sym}
 use Rattle.std.specs.Result.{IsErr}
 use Rattle.std.specs.Io.KnownBytes.{Appends}
 use Rattle.cfi_programs.specs.CheckLines.{reasoned}
-use Rattle.cfi_programs.specs.Lines.{error_behind, error_object}
 use Rattle.cfi_programs.specs.WriterOutput.{IsBeginning, Writes}
-use Rattle.cfi_programs.specs.declared.style.Format.TheVariants.{Json}
 use Rattle.cfi_programs.proofs.DumpSectionWritten.{first_refused, last_written}
 use Rattle.cfi_files.specs.Findings.{refused}
 
 module _ {T E : Type 0} (old new : Option (List ℕ)) (r : Result T E) where
   abbrev IsWritten : List ℕ → Type 0
   IsWritten text = Writes old new r text
-
-  -- an object of JSON with its line feed
-  pub object_written : (words : List ℕ) → IsWritten (codes "{\"error\":\"" ++ (words ++ (codes "\"}" ++ 10 ∷ []))) → IsWritten (error_object words ++ 10 ∷ [])
-  object_written words h = subst IsWritten (ap (λ (xs : List ℕ). codes "{\"error\":\"" ++ xs) (sym (append_assoc words (codes "\"}") (10 ∷ [])))) h
-
-  pub behind_written : (before words : List ℕ) → IsWritten (codes "\"error\":\"" ++ (words ++ (codes "\"}" ++ 10 ∷ []))) → IsWritten (error_behind Json before words ++ 10 ∷ [])
-  behind_written before words h = subst IsWritten (ap (λ (xs : List ℕ). codes "\"error\":\"" ++ xs) (sym (append_assoc words (codes "\"}") (10 ∷ [])))) h
 
   -- the members of a check
   abbrev found_member : List ℕ → List ℕ

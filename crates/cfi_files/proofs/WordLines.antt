@@ -22,7 +22,8 @@ use Rattle.gimli_cfi.specs.SectionSources.{GivenSection}
 use Rattle.cfi_files.specs.Asked.{address_found, asked_text, has_several}
 use Rattle.cfi_files.specs.FileLines.{AreEach, in_turn, no_lines, under}
 use Rattle.cfi_files.specs.Found.{debug_frame_in, eh_frame_in}
-use Rattle.cfi_files.specs.RowOutputs.{AreAnswersIn, several_lines, IsAnswer, IsAnswerAt, IsAnswerTo, IsWordLine, no_place, no_row_for, no_row_of}
+use Rattle.cfi_files.specs.RowOutputs.{AreAnswersIn, several_lines, IsAnswer, IsAnswerAt, IsAnswerTo, IsWordLine, no_place, no_row_of}
+use Rattle.cfi_programs.specs.Lines.{refusal_behind}
 use Rattle.cfi_files.proofs.Joined.{IsGiven}
 
 -- ---- outputs put together
@@ -42,7 +43,7 @@ regrouped a b c = λ i. record { text = sym (append_assoc a.text b.text c.text) 
 -- ---- each word has some line
 
 pub some_answer : (style : Style) (eh debug : Option (Result GivenSection ElfError)) (target : Result (Option ℕ) ElfError) → (line : Line) × IsAnswer style eh debug target line
-some_answer style eh debug (Ok (Some address)) = (no_row_for style.format OutOfMemory, inr refl)
+some_answer style eh debug (Ok (Some address)) = (refusal_behind style.format OutOfMemory, inr refl)
 some_answer style eh debug (Ok None) = (no_place style.format, refl)
 some_answer style eh debug (Err e) = (no_row_of style.format e, refl)
 

@@ -7,13 +7,13 @@ use Rattle.std.specs.Prelude.{◌≡◌, ◌⊎◌, ℕ, List, [], ◌∷◌, �
 use Rattle.std.specs.Prelude.{flat_map}
 use Rattle.cfi_read_core.specs.declared.error.Error.{Error}
 use Rattle.cfi_read_core.specs.declared.error.Error.TheVariants.{OutOfMemory}
-use Rattle.cfi_read_core.specs.RefusalNames.{name_of}
 use Rattle.cfi_state.specs.Machine.{Parts}
 use Rattle.cfi_entry.specs.Sections.{Section}
 use Rattle.cfi_compiled.specs.CompiledTables.{TableContents, IsCompiled, steps_of}
 use Rattle.cfi_compiled.specs.FrameParts.{parts_of_frame}
 use Rattle.cfi_compiled.specs.Steps.{Step}
 use Rattle.cfi_programs.specs.DumpProgramOutput.{text_output}
+use Rattle.cfi_programs.specs.ErrorWords.{error_words}
 use Rattle.cfi_programs.specs.Lines.{Line, address_text, refusal_in}
 use Rattle.cfi_programs.specs.declared.style.Format.TheVariants.{Text}
 use Rattle.cfi_programs.specs.RowLines.{frame_saying, rules_saying}
@@ -21,7 +21,8 @@ use Rattle.cfi_programs.specs.Wordings.{Wording, of_section, text_style}
 use Rattle.cfi_object.specs.declared.register_names.RegisterNames.{RegisterNames}
 
 abbrev pub error_text : ℕ → Error → List ℕ
-error_text start error = address_text start ++ codes " refused " ++ name_of error ++ 10 ∷ []
+error_text start error =
+    address_text start ++ codes " refused " ++ error_words Text error ++ 10 ∷ []
 
 abbrev pub step_text : Wording → ℕ → Result (Parts ℕ) Error → List ℕ
 step_text wording start (Ok parts) =

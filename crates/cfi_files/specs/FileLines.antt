@@ -5,6 +5,7 @@ use Rattle.cfi_elf.specs.declared.error.ElfError.TheVariants.{Compressed, Core}
 use Rattle.cfi_elf.specs.ErrorNames.{name_of_elf}
 use Rattle.cfi_elf.specs.ErrorTexts.{text_of_elf}
 use Rattle.cfi_read_core.specs.declared.error.Error.TheVariants.{OutOfMemory}
+use Rattle.cfi_programs.specs.ErrorWords.{parting}
 use Rattle.cfi_programs.specs.Lines.{Line, reason_line, refusal_in, refused_line}
 use Rattle.cfi_names.specs.Names.{shown}
 use Rattle.cfi_programs.specs.JsonLines.{json_name, json_section}
@@ -18,14 +19,9 @@ advice_on Compressed = codes "; objcopy --decompress-debug-sections decompresses
 advice_on Core = codes "; cfi stack reads core files"
 advice_on _ = []
 
--- between the two; in JSON they are two members
-abbrev pub elf_parting : Format → List ℕ
-elf_parting Text = codes ": "
-elf_parting Json = codes "\",\"reason\":\""
-
 abbrev pub elf_words : Format → ElfError → List ℕ
 elf_words format error =
-    name_of_elf error ++ (elf_parting format ++ (text_of_elf error ++ advice_on error))
+    name_of_elf error ++ (parting format ++ (text_of_elf error ++ advice_on error))
 
 -- ---- lines, with their status, by the format
 

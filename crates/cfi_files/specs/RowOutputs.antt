@@ -8,7 +8,6 @@ use Rattle.std.specs.Prelude.{Result, Ok, Err, ◌||◌, codes, length, nat_lt}
 use Rattle.cfi_read_core.specs.declared.error.Error.{Error}
 use Rattle.cfi_read_core.specs.declared.error.Error.TheVariants.{NoUnwindInfoForAddress}
 use Rattle.cfi_read_core.specs.declared.error.Error.TheVariants.{OutOfMemory}
-use Rattle.cfi_read_core.specs.RefusalNames.{name_of}
 use Rattle.cfi_state.specs.Row.{Row}
 use Rattle.cfi_unwind.specs.AddressRow.{IsRowByScan}
 use Rattle.gimli_cfi.specs.EhFrameHdr.{HeaderSection}
@@ -17,7 +16,7 @@ use Rattle.gimli_cfi.specs.SectionSources.{GivenSection, given_header, given_sec
 use Rattle.cfi_elf.specs.declared.error.ElfError.{ElfError}
 use Rattle.cfi_elf.specs.declared.error.ElfError.TheVariants as elf
 use Rattle.cfi_elf.specs.ElfFiles.{File}
-use Rattle.cfi_programs.specs.Lines.{Line, reason_behind}
+use Rattle.cfi_programs.specs.Lines.{Line, reason_behind, refusal_behind}
 use Rattle.cfi_programs.specs.AnswerLines.{answer_behind}
 use Rattle.cfi_programs.specs.Wordings.{Wording, of_section}
 use Rattle.cfi_programs.specs.declared.style.Format.{Format}
@@ -28,9 +27,6 @@ use Rattle.cfi_files.specs.FileLines.{AreEach, IsUnder, elf_words}
 use Rattle.cfi_files.specs.Found.{debug_frame_in, eh_frame_in}
 
 -- ---- why there is no row, behind what was asked for
-
-abbrev pub no_row_for : Format → Error → Line
-no_row_for format error = reason_behind format (codes "refused ") (name_of error)
 
 abbrev pub no_row_of : Format → ElfError → Line
 no_row_of format error = reason_behind format (codes "refused ") (elf_words format error)
@@ -77,8 +73,8 @@ IsPartRowOr style otherwise (Some debug_frame) address printed =
 abbrev pub OtherwiseIn : Style → Option (Result GivenSection ElfError) → Error → ℕ → Line → Type 0
 OtherwiseIn style debug_frame error address printed =
     ((error ≡ NoUnwindInfoForAddress)
-    × IsPartRowOr style (no_row_for style.format error) debug_frame address printed)
-    ⊎ ((error ≢ NoUnwindInfoForAddress) × (printed ≡ no_row_for style.format error))
+    × IsPartRowOr style (refusal_behind style.format error) debug_frame address printed)
+    ⊎ ((error ≢ NoUnwindInfoForAddress) × (printed ≡ refusal_behind style.format error))
 
 abbrev pub IsAnswered :
     Style → GivenSection → Option (Result GivenSection ElfError) → ℕ → Result (Row ℕ) Error →
@@ -129,7 +125,7 @@ abbrev pub IsRowOrRefused :
     Line → Type 0
 IsRowOrRefused style eh_frame debug_frame address printed =
     IsRowLine style eh_frame debug_frame address printed
-    ⊎ (printed ≡ no_row_for style.format OutOfMemory)
+    ⊎ (printed ≡ refusal_behind style.format OutOfMemory)
 
 -- ---- words
 

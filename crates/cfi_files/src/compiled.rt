@@ -16,9 +16,11 @@ ghost use Rattle.cfi_files.specs.CompiledTexts.{steps_text};
 
 use cfi_compiled::{CompiledRow, CompiledStep, CompiledTable};
 use cfi_object::register_names::RegisterNames;
+use cfi_programs::error_words::ErrorWords;
 use cfi_programs::lines::{Address, write_part, write_refusal, write_text};
 use cfi_programs::row_line::{HasRules, number_behind};
 use cfi_programs::row_words::{write_frame, write_rules};
+use cfi_programs::style::Format;
 use gimli_cfi::{
     _UnwindSectionPrivate, BaseAddresses, CallFrameSection, Error, Reader, Register, RegisterRule,
     SectionSource, UnwindSection,
@@ -157,8 +159,11 @@ fn write_error<W: Write>(output: &mut W, start: u64, error: Error) -> io::Result
         (error_text start error) }
 {
     let start = Address(start);
-    let name = error.name();
-    write_part(output, format_args!("{start} refused {name}\n"))
+    let words = ErrorWords {
+        format: Format::Text,
+        error,
+    };
+    write_part(output, format_args!("{start} refused {words}\n"))
 }
 
 /// A row of a table, whose rules are written.

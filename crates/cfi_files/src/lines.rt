@@ -1,11 +1,12 @@
 //! Lines that say why nothing is printed of a file.
 ghost use Rattle.std.specs.Prelude.{◌≡◌, ◌++◌};
 ghost use Rattle.cfi_programs.specs.WriterOutput.{Prints, Writes};
-ghost use Rattle.cfi_files.specs.FileLines.{advice_on, elf_parting, elf_refusal, elf_words};
+ghost use Rattle.cfi_files.specs.FileLines.{advice_on, elf_refusal, elf_words};
 ghost use Rattle.cfi_files.specs.FileLines.{no_address, no_call_frames, section_line};
 ghost use Rattle.cfi_files.specs.FileLines.{wrong_input};
 
 use cfi_elf::ElfError;
+use cfi_programs::error_words::parting;
 use cfi_programs::lines::{write_between, write_part, write_reason, write_text};
 use cfi_programs::style::Format;
 use std::io;
@@ -59,19 +60,9 @@ fn write_elf_reason<W: Write>(output: &mut W, format: Format, error: ElfError) -
         (elf_words format error) }
 {
     let name = error.name();
-    let parting = elf_parting(format);
+    let parting = parting(format);
     let advice = advice_on(error);
     write_part(output, format_args!("{name}{parting}{error}{advice}"))
-}
-
-/// Returns what stands between the name of an error and the sentence.
-fn elf_parting(format: Format) -> &'static str
-    ensures { result.now ≡ elf_parting format }
-{
-    match format {
-        Format::Text => ": ",
-        Format::Json => "\",\"reason\":\"",
-    }
 }
 
 /// Returns what to do about an error, behind its sentence.

@@ -10,7 +10,7 @@ ghost use Rattle.cfi_files.specs.FileLines.{AreEach};
 ghost use Rattle.cfi_files.specs.RowOutputs.{AreAnswersIn, AreWordLines, IsAnswer, IsAnswerAt};
 ghost use Rattle.cfi_files.specs.RowOutputs.{IsAnswerTo, IsPartRow};
 ghost use Rattle.cfi_files.specs.RowOutputs.{IsRowByTableOrScan, IsRowLine, IsRowOr, IsWordLine};
-ghost use Rattle.cfi_files.specs.RowOutputs.{OtherwiseIn, no_frames, no_place, no_row_for};
+ghost use Rattle.cfi_files.specs.RowOutputs.{OtherwiseIn, no_frames, no_place};
 ghost use Rattle.cfi_files.specs.RowOutputs.{no_row_of, several_lines};
 
 use crate::asked::{address_found, has_several, write_asked};
@@ -18,7 +18,7 @@ use crate::lines::write_elf_words;
 use crate::sections::{debug_frame_part, eh_frame_part};
 use cfi_elf::{ElfError, ElfFile};
 use cfi_object::target::target_addresses;
-use cfi_programs::lines::write_reason_behind;
+use cfi_programs::lines::{write_reason_behind, write_refusal_behind};
 use cfi_programs::row_words::write_answer_behind;
 use cfi_programs::style::{Format, Style};
 use gimli_cfi::{Error, SectionSource, UnwindContext};
@@ -228,16 +228,8 @@ fn print_answer<W: Write>(
     };
     match context {
         Some(context) => print_row(style, sections, address, context, output),
-        None => write_no_row_for(output, style.format, Error::OutOfMemory),
+        None => write_refusal_behind(output, style.format, Error::OutOfMemory),
     }
-}
-
-/// Prints that there is no row, for this error of the call frames, and returns the status 1.
-fn write_no_row_for<W: Write>(output: &mut W, format: Format, error: Error) -> io::Result<u8>
-    ensures { Prints (no_row_for format error)
-        (W.contents output.old) (W.contents output.new) result }
-{
-    write_reason_behind(output, format, b"refused ", error.name())
 }
 
 /// Prints that there is no row, for this error of the file, and returns the status 1.
@@ -361,10 +353,10 @@ fn print_otherwise<W: Write>(
         error address line) (W.contents output.old) (W.contents output.new) result }
 {
     if error != Error::NoUnwindInfoForAddress {
-        return write_no_row_for(output, style.format, error);
+        return write_refusal_behind(output, style.format, error);
     }
     match debug_frame {
-        None => write_no_row_for(output, style.format, error),
+        None => write_refusal_behind(output, style.format, error),
         Some(part) => print_part_row(style, part, address, context, output),
     }
 }

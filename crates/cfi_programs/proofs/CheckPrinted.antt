@@ -15,7 +15,7 @@ order : verdict_line Text (verdicts.Unfaithful (reasons.Order 7 0x1010 0x1008)) 
 unfolding computing
 order = refl
 
-refused : verdict_line Text (verdicts.Unfaithful (reasons.Fde 0x38 UnknownAugmentation)) ≡ record { text = codes "FDE 0x38: refused UnknownAugmentation" ++ 10 ∷ []; status = 1 }
+refused : verdict_line Text (verdicts.Unfaithful (reasons.Fde 0x38 UnknownAugmentation)) ≡ record { text = codes "FDE 0x38: refused UnknownAugmentation: unknown augmentation string" ++ 10 ∷ []; status = 1 }
 unfolding computing
 refused = refl
 
@@ -37,7 +37,7 @@ faithful_object : verdict_line Json (verdicts.Faithful 3713) ≡ record { text =
 unfolding computing
 faithful_object = refl
 
-refused_object : verdict_line Json (verdicts.Refused UnknownAugmentation) ≡ record { text = codes "\"result\":\"unfaithful\",\"reason\":\"header: refused UnknownAugmentation\"}" ++ 10 ∷ []; status = 1 }
+refused_object : verdict_line Json (verdicts.Refused UnknownAugmentation) ≡ record { text = codes "\"result\":\"unfaithful\",\"reason\":\"header: refused UnknownAugmentation: unknown augmentation string\"}" ++ 10 ∷ []; status = 1 }
 unfolding computing
 refused_object = refl
 

@@ -9,7 +9,7 @@ use Rattle.cfi_read_core.specs.declared.instruction.CallFrameInstruction.TheVari
 use Rattle.cfi_parts.specs.Instructions.{Instruction}
 use Rattle.cfi_parts.specs.InstructionReaders.{items, refusal_item}
 use Rattle.cfi_programs.specs.Wordings.{Wording}
-use Rattle.cfi_programs.specs.Lines.{refusal_in}
+use Rattle.cfi_programs.specs.Lines.{refusal_told}
 use Rattle.cfi_programs.specs.ReadingTexts.{item_text, refusal_text}
 use Rattle.cfi_programs.specs.DumpInstructionLines.{instruction_line, instruction_lines, instructions_text, item_moved, moved}
 use Rattle.cfi_programs.specs.declared.style.Format.TheVariants.{Text as AsText}
@@ -60,7 +60,7 @@ module _ (wording : Wording) (factor size : ℕ) where
 
   refusal_lines : (at : Option ℕ) (refusal : Option Error) → refusal_text AsText refusal ≡ item_lines at (refusal_item refusal)
   refusal_lines at None = refl
-  refusal_lines at (Some e) = sym (append-nil (refusal_in AsText e).text)
+  refusal_lines at (Some e) = sym (append-nil (refusal_told AsText e).text)
 
   item_by_item : (at : Option ℕ) (values : List Instruction) (refusal : Option Error) →
       instruction_lines wording factor size at values ++ refusal_text AsText refusal ≡ item_lines at (map Ok values ++ refusal_item refusal)

@@ -46,7 +46,7 @@ module _ (fde : Fde) (section : Section) where
   the_one_after : fde_rows_text (text_style X86_64) nameless (Some (0x1010 ∷ [])) section (Ok (of_addresses 0x1000 0x10)) ≡ []
   the_one_after = refl
 
-  unread : fde_rows_text (text_style X86_64) nameless (Some (0x1010 ∷ [])) section (Err UnknownAugmentation) ≡ codes "refused UnknownAugmentation" ++ 10 ∷ []
+  unread : fde_rows_text (text_style X86_64) nameless (Some (0x1010 ∷ [])) section (Err UnknownAugmentation) ≡ codes "refused UnknownAugmentation: unknown augmentation string" ++ 10 ∷ []
   unread = refl
 
 -- ---- instructions

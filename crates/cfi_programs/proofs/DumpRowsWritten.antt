@@ -26,7 +26,7 @@ use Rattle.cfi_entry.specs.EntryInstructions.{cie_instructions, fde_instructions
 use Rattle.cfi_entry.specs.Fdes.{Fde}
 use Rattle.cfi_entry.specs.Sections.{Section}
 use Rattle.cfi_unwind.specs.UnwindTableCalls.{AnswersWithoutMachine, AcceptsCieProgram, LendsNextRow}
-use Rattle.cfi_programs.specs.Lines.{refusal_in}
+use Rattle.cfi_programs.specs.Lines.{refusal_told}
 use Rattle.cfi_programs.specs.AnswerLines.{answer_line}
 use Rattle.cfi_programs.specs.Wordings.{Wording}
 use Rattle.cfi_programs.specs.WriterOutput.{IsBeginning, Writes}
@@ -188,8 +188,8 @@ module _ (fde : Fde) (section : Section) where
       let each = subst (λ s. (program : Program ℕ) → IsStateAfter s p.so_far program → Writes old new r (lines style (answers_to_come s (at_program p program)))) same written in
       subst (λ xs. Writes old new r (lines style xs)) (sym rows) (each (in_fde all []) stands)
 
-  pub refused_rows : (style : Wording) (e : Error) → AcceptsCieProgram (setting_of_fde fde) true cie (Err e) → (refusal_in style.format e).text ≡ lines style (fde_rows section fde)
+  pub refused_rows : (style : Wording) (e : Error) → AcceptsCieProgram (setting_of_fde fde) true cie (Err e) → (refusal_told style.format e).text ≡ lines style (fde_rows section fde)
   refused_rows style e keeps =
       let refused = refused_error (cie_refusal (setting_of_fde fde) cie) cie.values e (kept_cie_is (may_allocate (setting_of_fde fde) true) (setting_of_fde fde) never_of_fde cie (Err e) keeps) in
-      sym (append-nil (refusal_in style.format e).text)
+      sym (append-nil (refusal_told style.format e).text)
       ∙ ap (λ o. lines style (on_option (answers (setting_of_fde fde) (in_fde cie.values []) (fde_instructions section fde)) (λ d. Err d ∷ []) o)) (sym refused)

@@ -1,6 +1,6 @@
 -- Lines of JSON, by computation.
 use Rattle.std.proofs.Common.{◌≡◌, ℕ, ◌^◌, Option, [], ◌∷◌, ◌++◌, Some, None, true, pos, negsuc, refl, codes, ◌==◌, if◌then◌else◌}
-use Rattle.cfi_read_core.specs.declared.error.Error.TheVariants.{NoUnwindInfoForAddress}
+use Rattle.cfi_read_core.specs.declared.error.Error.TheVariants.{NoUnwindInfoForAddress, NotCieId, UnknownCallFrameInstruction}
 use Rattle.cfi_state.specs.declared.table.rules.CfaRule.TheVariants as cfas
 use Rattle.cfi_state.specs.declared.table.rules.CfaRule.{CfaRule}
 use Rattle.cfi_state.specs.declared.table.rules.RegisterRule.{RegisterRule}
@@ -9,12 +9,12 @@ use Rattle.cfi_state.specs.Row.{Row}
 use Rattle.std.specs.FinMap as map
 use Rattle.cfi_object.specs.declared.register_names.RegisterNames.TheVariants.{X86_64}
 use Rattle.cfi_programs.specs.JsonLines.{bytes_of_rule, escaped, json_addresses, json_function, json_head, json_name, json_number, json_rule, json_section, rules_end, separated}
-use Rattle.cfi_programs.specs.Lines.{reason_behind, reason_line, refusal_in}
+use Rattle.cfi_programs.specs.Lines.{reason_behind, reason_line, refusal_in, refusal_told}
 use Rattle.std.specs.Fmt.{decimal}
 use Rattle.cfi_object.specs.declared.register_names.RegisterNames.{RegisterNames}
 use Rattle.cfi_programs.specs.RowLines.{expression_text, rules_by}
 use Rattle.cfi_programs.specs.Wordings.{Wording}
-use Rattle.cfi_programs.specs.declared.style.Format.TheVariants.{Json}
+use Rattle.cfi_programs.specs.declared.style.Format.TheVariants.{Json, Text}
 use Rattle.cfi_programs.proofs.Computing.{computing}
 
 -- where an expression is said by its place, and its bytes by its length
@@ -102,6 +102,15 @@ name_characters = refl
 
 refused : refusal_in Json NoUnwindInfoForAddress ≡ record { text = codes "{\"error\":\"NoUnwindInfoForAddress\"}" ++ 10 ∷ []; status = 1 }
 refused = refl
+
+told : refusal_told Json (NotCieId 0x1f) ≡ record { text = codes "{\"error\":\"NotCieId\",\"reason\":\"the entry at offset 0x1f is not a CIE\"}" ++ 10 ∷ []; status = 1 }
+unfolding computing
+told = refl
+
+-- the opcode of one machine
+advised : refusal_told Text (UnknownCallFrameInstruction (record { 0 = 0x2d })) ≡ record { text = codes "refused UnknownCallFrameInstruction: unknown call frame opcode 0x2d; DW_CFA_GNU_window_save of SPARC isn't supported" ++ 10 ∷ []; status = 1 }
+unfolding computing
+advised = refl
 
 no_address : reason_line Json (codes "no address") 1 ≡ record { text = codes "{\"error\":\"no address\"}" ++ 10 ∷ []; status = 1 }
 no_address = refl

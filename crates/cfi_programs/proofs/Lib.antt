@@ -23,6 +23,7 @@ mod DumpPrinted
 mod FunctionLineLemmas
 mod EscapedLemmas
 mod PushedLemmas
+pub mod RefusedLines
 mod JsonRowLemmas
 mod RowWordsLemmas
 mod JsonPrinted

@@ -4,7 +4,7 @@ use Rattle.std.specs.Prelude.{flat_map}
 use Rattle.cfi_read_core.specs.ReadFunctions.{Readings}
 use Rattle.cfi_read_core.specs.declared.error.Error.{Error}
 use Rattle.cfi_parts.specs.InstructionReaders.{items, refusal_item}
-use Rattle.cfi_programs.specs.Lines.{refusal_in}
+use Rattle.cfi_programs.specs.Lines.{refusal_told}
 use Rattle.cfi_programs.specs.declared.style.Format.{Format}
 use Rattle.cfi_programs.specs.ReadingTexts.{item_text, readings_text, refusal_text}
 
@@ -12,7 +12,7 @@ module _ {A : Type 0} (format : Format) (by : A → List ℕ) where
   item_by_item : (values : List A) (refusal : Option Error) →
       flat_map by values ++ refusal_text format refusal ≡ flat_map (item_text format by) (map Ok values ++ refusal_item refusal)
   item_by_item [] None = refl
-  item_by_item [] (Some e) = sym (append-nil (refusal_in format e).text)
+  item_by_item [] (Some e) = sym (append-nil (refusal_told format e).text)
   item_by_item (value ∷ values) refusal =
       append_assoc (by value) (flat_map by values) (refusal_text format refusal)
       ∙ ap (λ xs. by value ++ xs) (item_by_item values refusal)

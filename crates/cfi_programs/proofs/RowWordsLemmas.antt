@@ -1,5 +1,5 @@
 -- Rows in words: in turn, and those without expressions.
-use Rattle.std.proofs.Common.{◌≡◌, ◌∙◌, ◌+◌, ℕ, zero, suc, true, List, [], ◌∷◌, ◌++◌, Option, Some, None, Result, Ok, Err, IfOk, refl, sym, ap, subst, append_assoc, codes, arith, inl, inr}
+use Rattle.std.proofs.Common.{◌≡◌, ◌∙◌, ◌+◌, ℕ, zero, suc, true, List, [], ◌∷◌, ◌++◌, Option, Some, None, Result, Ok, Err, IsOkAnd, refl, sym, ap, subst, append_assoc, codes, arith, inl, inr}
 use Rattle.std.proofs.lemmas.Bool.{cases_lt}
 use Rattle.std.specs.Borrow.{Bor}
 use Rattle.std.specs.FinMap.{get}
@@ -87,10 +87,10 @@ module _ (say : UnwindExpression ℕ → List ℕ) (names : RegisterNames) where
       ∙ ap (λ xs. head_saying say names row ++ xs) (same_rules 65536 0 (get row.parts.rules) plain.rules)
 
 -- a line whose row has none is the same in words
-pub pushed_in_words : (names : RegisterNames) (size : ℕ) (section : Position) (old new : List ℕ) (answer : Result (Bor (Row ℕ)) Error) → IfOk answer (λ row. IsPlain row.now)
+pub pushed_in_words : (names : RegisterNames) (size : ℕ) (section : Position) (old new : List ℕ) (answer : Result (Bor (Row ℕ)) Error) → IsOkAnd answer (λ row. IsPlain row.now)
     → new ≡ old ++ (plain_line names (map_ok (λ row. row.now) answer)).text → new ≡ old ++ (answer_line (worded (text_style names) size section) (map_ok (λ row. row.now) answer)).text
 pushed_in_words names size section old new (Ok row) plain is = is ∙ ap (λ xs. old ++ (line xs 0).text) (same_row (in_words names size section) names row.now plain)
-pushed_in_words names size section old new (Err e) plain is = is
+pushed_in_words names size section old new (Err e) plain is = absurd plain
 
 -- ---- a list of rules without expressions
 

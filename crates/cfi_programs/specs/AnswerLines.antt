@@ -1,10 +1,9 @@
 -- The line of an answer, by its wording.
-use Rattle.std.specs.Prelude.{ℕ, List, Result, Ok, Err, codes}
+use Rattle.std.specs.Prelude.{ℕ, List, Result, Ok, Err}
 use Rattle.cfi_read_core.specs.declared.error.Error.{Error}
-use Rattle.cfi_read_core.specs.RefusalNames.{name_of}
 use Rattle.cfi_state.specs.Row.{Row}
 use Rattle.cfi_object.specs.declared.register_names.RegisterNames.{RegisterNames}
-use Rattle.cfi_programs.specs.Lines.{Line, line, reason_behind, refusal_in, refusal_line}
+use Rattle.cfi_programs.specs.Lines.{Line, line, refusal_behind, refusal_line, refusal_told}
 use Rattle.cfi_programs.specs.JsonLines.{json_members, json_row}
 use Rattle.cfi_programs.specs.RowLines.{row_saying, row_text}
 use Rattle.cfi_programs.specs.Wordings.{Wording}
@@ -22,7 +21,7 @@ row_in Json wording row = json_row wording row
 
 abbrev pub answer_line : Wording → Result (Row ℕ) Error → Line
 answer_line wording (Ok row) = line (row_in wording.format wording row) 0
-answer_line wording (Err e) = refusal_in wording.format e
+answer_line wording (Err e) = refusal_told wording.format e
 
 -- ---- behind what was asked for, with which an object of JSON has begun
 
@@ -32,4 +31,4 @@ row_behind Json wording row = json_members wording row
 
 abbrev pub answer_behind : Wording → Result (Row ℕ) Error → Line
 answer_behind wording (Ok row) = line (row_behind wording.format wording row) 0
-answer_behind wording (Err e) = reason_behind wording.format (codes "refused ") (name_of e)
+answer_behind wording (Err e) = refusal_behind wording.format e

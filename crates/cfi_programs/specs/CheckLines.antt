@@ -2,9 +2,9 @@
 use Rattle.std.specs.Prelude.{ℕ, List, ◌++◌, codes}
 use Rattle.std.specs.Fmt.{decimal}
 use Rattle.cfi_read_core.specs.declared.error.Error.{Error}
-use Rattle.cfi_read_core.specs.RefusalNames.{name_of}
 use Rattle.gimli_cfi.specs.declared.hdr.unfaithful.Unfaithful.{Unfaithful}
 use Rattle.gimli_cfi.specs.declared.hdr.unfaithful.Unfaithful.TheVariants as reasons
+use Rattle.cfi_programs.specs.ErrorWords.{error_words}
 use Rattle.cfi_programs.specs.Lines.{Line, address_text, line}
 use Rattle.cfi_programs.specs.JsonLines.{json_number}
 use Rattle.cfi_programs.specs.declared.style.Format.{Format}
@@ -12,9 +12,9 @@ use Rattle.cfi_programs.specs.declared.style.Format.TheVariants.{Text, Json}
 use Rattle.gimli_cfi.specs.declared.hdr.verdict.Verdict.{Verdict}
 use Rattle.gimli_cfi.specs.declared.hdr.verdict.Verdict.TheVariants as verdicts
 
--- where an error is, and its name
+-- where an error is, its name, and what it says
 abbrev pub refused_text : List ℕ → Error → List ℕ
-refused_text place error = place ++ codes ": refused " ++ name_of error
+refused_text place error = place ++ codes ": refused " ++ error_words Text error
 
 abbrev pub row_text : ℕ → List ℕ
 row_text row = codes "row " ++ decimal row

@@ -13,7 +13,7 @@ use Rattle.cfi_entry.specs.Entries.{Entry, CieEntry, FdeEntry}
 use Rattle.cfi_entry.specs.Fdes.{Fde, covers, end_of}
 use Rattle.cfi_entry.specs.Sections.{Section}
 use Rattle.cfi_unwind.specs.Scan.{read_fde}
-use Rattle.cfi_programs.specs.Lines.{address_text, refusal_in}
+use Rattle.cfi_programs.specs.Lines.{address_text, refusal_told}
 use Rattle.cfi_programs.specs.FunctionLines.{function_text}
 use Rattle.cfi_programs.specs.JsonLines.{json_addresses, json_function}
 use Rattle.cfi_programs.specs.Wordings.{of_section}
@@ -64,7 +64,7 @@ fde_rows_text style function addresses section (Ok fde) =
     then addresses_line style.format function fde
     ++ lines (of_section style section) (fde_rows section fde)
     else []
-fde_rows_text style function addresses section (Err error) = (refusal_in style.format error).text
+fde_rows_text style function addresses section (Err error) = (refusal_told style.format error).text
 
 abbrev pub entry_rows_text :
     Style → (ℕ → Option (List ℕ)) → Option (List ℕ) → Section → Entry → List ℕ

@@ -17,11 +17,12 @@ use Rattle.cfi_entry.specs.Fdes.{Fde, PartialFde}
 use Rattle.cfi_unwind.specs.Scan.{read_fde}
 use Rattle.cfi_entry.specs.Sections.{Section}
 use Rattle.cfi_object.specs.declared.register_names.RegisterNames.{RegisterNames}
-use Rattle.cfi_programs.specs.Lines.{refusal_line}
+use Rattle.cfi_programs.specs.Lines.{refusal_told}
 use Rattle.cfi_programs.specs.AnswerLines.{answer_line}
 use Rattle.cfi_programs.specs.DumpEntryLines.{cie_line, fde_line, partial_fde_line}
 use Rattle.cfi_programs.specs.DumpInstructionLines.{instructions_text}
 use Rattle.cfi_programs.specs.Wordings.{Wording, of_section, text_style}
+use Rattle.cfi_programs.specs.declared.style.Format.TheVariants.{Text}
 
 -- ---- the rows of an FDE
 
@@ -65,7 +66,7 @@ fde_text names function section partial (Ok fde) =
     ++ (fde_instructions_text names section fde
     ++ lines (of_section (text_style names) section) (fde_rows section fde))
 fde_text names function section partial (Err error) =
-    partial_fde_line partial.prefix.offset partial.prefix.length ++ (refusal_line error).text
+    partial_fde_line partial.prefix.offset partial.prefix.length ++ (refusal_told Text error).text
 
 -- an FDE is read with the CIE to which it points
 abbrev pub entry_text : RegisterNames → (ℕ → Option (List ℕ)) → Section → Entry → List ℕ

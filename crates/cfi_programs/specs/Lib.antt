@@ -1,6 +1,9 @@
 pub mod Words
 pub mod SectionOfWords
 pub mod Input
+pub mod Addresses
+pub mod ErrorWords
+pub mod Sayings
 pub mod Lines
 pub mod RowLines
 pub mod Operations

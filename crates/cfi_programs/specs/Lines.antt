@@ -1,15 +1,11 @@
 -- Lines, and those that say why there is no answer.
-use Rattle.std.specs.Prelude.{ℕ, false, List, [], ◌∷◌, ◌++◌, codes}
-use Rattle.std.specs.Fmt.{digits}
+use Rattle.std.specs.Prelude.{ℕ, List, [], ◌∷◌, ◌++◌, codes}
 use Rattle.cfi_read_core.specs.declared.error.Error.{Error}
 use Rattle.cfi_read_core.specs.RefusalNames.{name_of}
+pub use Rattle.cfi_programs.specs.Addresses.{address_text}
+use Rattle.cfi_programs.specs.ErrorWords.{error_words}
 use Rattle.cfi_programs.specs.declared.style.Format.{Format}
 use Rattle.cfi_programs.specs.declared.style.Format.TheVariants.{Text, Json}
-
--- ---- the parts
-
-abbrev pub address_text : ℕ → List ℕ
-address_text address = codes "0x" ++ digits 16 false address
 
 -- ---- a line, with its line feed, and the status
 
@@ -53,6 +49,10 @@ refused_line format name = line (error_in format (codes "refused ") name) 1
 abbrev pub refusal_in : Format → Error → Line
 refusal_in format error = refused_line format (name_of error)
 
+-- the same with what the error says
+abbrev pub refusal_told : Format → Error → Line
+refusal_told format error = refused_line format (error_words format error)
+
 -- ---- behind what was asked for, with which an object of JSON has begun
 
 -- why there is no answer; in text behind another text
@@ -62,3 +62,6 @@ error_behind Json before reason = codes "\"error\":\"" ++ (reason ++ codes "\"}"
 
 abbrev pub reason_behind : Format → List ℕ → List ℕ → Line
 reason_behind format before reason = line (error_behind format before reason) 1
+
+abbrev pub refusal_behind : Format → Error → Line
+refusal_behind format error = reason_behind format (codes "refused ") (error_words format error)

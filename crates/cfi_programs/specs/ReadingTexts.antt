@@ -5,16 +5,16 @@
 use Rattle.std.specs.Prelude.{ℕ, Option, Some, None, List, [], ◌++◌, Result, Ok, Err, flat_map}
 use Rattle.cfi_read_core.specs.declared.error.Error.{Error}
 use Rattle.cfi_read_core.specs.ReadFunctions.{Readings}
-use Rattle.cfi_programs.specs.Lines.{refusal_in}
+use Rattle.cfi_programs.specs.Lines.{refusal_told}
 use Rattle.cfi_programs.specs.declared.style.Format.{Format}
 
 abbrev pub item_text : {A : Type 0} → Format → (A → List ℕ) → Result A Error → List ℕ
 item_text format text (Ok value) = text value
-item_text format text (Err error) = (refusal_in format error).text
+item_text format text (Err error) = (refusal_told format error).text
 
 abbrev pub refusal_text : Format → Option Error → List ℕ
 refusal_text format None = []
-refusal_text format (Some error) = (refusal_in format error).text
+refusal_text format (Some error) = (refusal_told format error).text
 
 unfoldable pub readings_text : {A : Type 0} → Format → (A → List ℕ) → Readings A → List ℕ
 readings_text format text readings =

@@ -1,6 +1,6 @@
 //! The rules of rows in turn, which mostly are those of the last row with as many rules and the
 //! same first register.
-ghost use Rattle.std.specs.Prelude.{◌≡◌, ◌<◌, ◌≤◌, ◌++◌, [], ◌∷◌, IfOk, OnOk, false, true};
+ghost use Rattle.std.specs.Prelude.{◌≡◌, ◌<◌, ◌≤◌, ◌++◌, [], ◌∷◌, IfOk, IsOkAnd, OnOk, false, true};
 ghost use Rattle.std.specs.FinMap as map;
 ghost use Rattle.cfi_read_core.specs.ReaderCalls.{map_ok};
 ghost use Rattle.cfi_state.specs.RegisterRuleIters.{rules_left};
@@ -203,7 +203,7 @@ impl KeptRows {
         ensures pushed { IfOk result (λ pushed. pushed ≡ true → text.new.items ≡ text.old.items
             ++ (plain_line names (map_ok (λ row. row.now) answer.entry)).text) }
         ensures plain { IfOk result (λ pushed. pushed ≡ true →
-            IfOk answer.entry (λ row. IsPlain row.now)) }
+            IsOkAnd answer.entry (λ row. IsPlain row.now)) }
         ensures left { IfOk result (λ pushed. pushed ≡ false → text.new.items ≡ text.old.items) }
     {
         if self.names != names {

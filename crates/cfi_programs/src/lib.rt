@@ -6,6 +6,7 @@
 
 pub mod check;
 pub mod dump;
+pub mod error_words;
 mod expression_words;
 pub mod input;
 pub mod json;

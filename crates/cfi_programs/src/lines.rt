@@ -2,10 +2,13 @@
 ghost use Rattle.std.specs.Prelude.{◌≡◌, ◌++◌, [], ◌∷◌, Some, IfSome};
 ghost use Rattle.cfi_programs.specs.Lines.{address_text, error_behind, error_in, reason_behind};
 ghost use Rattle.cfi_programs.specs.Lines.{reason_line};
-ghost use Rattle.cfi_programs.specs.Lines.{refusal_in, refusal_line, refused_line};
+ghost use Rattle.cfi_programs.specs.ErrorWords.{error_words};
+ghost use Rattle.cfi_programs.specs.Lines.{refusal_behind, refusal_in, refusal_line, refusal_told};
+ghost use Rattle.cfi_programs.specs.Lines.{refused_line};
 ghost use Rattle.cfi_programs.specs.Lines.{wrong_hexadecimal, wrong_input, wrong_words};
 ghost use Rattle.cfi_programs.specs.WriterOutput.{Writes, Prints};
 
+use crate::error_words::ErrorWords;
 use crate::style::Format;
 use arrayvec::ArrayString;
 use gimli_cfi::Error;
@@ -13,9 +16,9 @@ use std::fmt::{Display, Formatter, Write as _};
 use std::io::{ErrorKind, Write};
 use std::{fmt, io};
 
-/// More bytes than the longest part of a line that is written at once: two addresses, an expression
-/// and the argument size of a row.
-const PART: usize = 128;
+/// More bytes than the longest part of a line that is written at once: an address and what an error
+/// says.
+const PART: usize = 192;
 
 /// Writes the text. Where the writer fails, a beginning of the text has been written. Retries
 /// interrupted writes.
@@ -40,7 +43,7 @@ pub fn write_text<W: Write>(output: &mut W, text: &[u8]) -> io::Result<()>
     Err(io::Error::from(ErrorKind::Interrupted))
 }
 
-/// Writes what `part` displays, of at most 128 bytes. Does not allocate.
+/// Writes what `part` displays, of at most 192 bytes. Does not allocate.
 pub fn write_part<W: Write, D: Display + Drop>(output: &mut W, part: D) -> io::Result<()>
     ensures { IfSome (D.output part)
         (Writes (W.contents output.old) (W.contents output.new) result) }
@@ -105,7 +108,7 @@ pub fn write_wrong_input<W: Write>(output: &mut W) -> io::Result<u8>
 pub fn write_refusal<W: Write>(output: &mut W, error: Error) -> io::Result<u8>
     ensures { Prints (refusal_line error) (W.contents output.old) (W.contents output.new) result }
 {
-    write_refusal_in(output, Format::Text, error)
+    write_refused_name(output, Format::Text, error.name())
 }
 
 /// Prints why there is no answer, and returns the status.
@@ -186,4 +189,65 @@ pub fn write_refusal_in<W: Write>(output: &mut W, format: Format, error: Error) 
         (W.contents output.old) (W.contents output.new) result }
 {
     write_refused_name(output, format, error.name())
+}
+
+/// Prints the name of the error and what it says, and returns the status 1.
+pub fn write_refusal_told<W: Write>(output: &mut W, format: Format, error: Error) -> io::Result<u8>
+    ensures { Prints (refusal_told format error)
+        (W.contents output.old) (W.contents output.new) result }
+{
+    write_told(output, format, error)?;
+    Ok(1)
+}
+
+/// Writes the line.
+fn write_told<W: Write>(output: &mut W, format: Format, error: Error) -> io::Result<()>
+    ensures { Writes (W.contents output.old) (W.contents output.new) result
+        (refusal_told format error).text }
+{
+    match format {
+        Format::Text => write_error_words(output, Format::Text, b"refused ", error, b"\n"),
+        Format::Json => write_error_words(output, Format::Json, b"{\"error\":\"", error, b"\"}\n"),
+    }
+}
+
+/// Prints the name of the error and what it says, behind what was asked for, and returns the
+/// status 1: in text as a line, in JSON as the end of an object that has begun.
+pub fn write_refusal_behind<W: Write>(
+    output: &mut W,
+    format: Format,
+    error: Error,
+) -> io::Result<u8>
+    ensures { Prints (refusal_behind format error)
+        (W.contents output.old) (W.contents output.new) result }
+{
+    write_told_behind(output, format, error)?;
+    Ok(1)
+}
+
+/// Writes the end of the line.
+fn write_told_behind<W: Write>(output: &mut W, format: Format, error: Error) -> io::Result<()>
+    ensures { Writes (W.contents output.old) (W.contents output.new) result
+        (refusal_behind format error).text }
+{
+    match format {
+        Format::Text => write_error_words(output, Format::Text, b"refused ", error, b"\n"),
+        Format::Json => write_error_words(output, Format::Json, b"\"error\":\"", error, b"\"}\n"),
+    }
+}
+
+/// Writes, between two texts, the name of the error and what it says.
+fn write_error_words<W: Write>(
+    output: &mut W,
+    format: Format,
+    before: &[u8],
+    error: Error,
+    after: &[u8],
+) -> io::Result<()>
+    ensures { Writes (W.contents output.old) (W.contents output.new) result
+        (before.now ++ (error_words format error ++ after.now)) }
+{
+    write_text(output, before)?;
+    write_part(output, ErrorWords { format, error })?;
+    write_text(output, after)
 }

@@ -1,6 +1,6 @@
 //! The line of a row in text, with the place of each expression in the section.
 ghost use Rattle.std.specs.Prelude.{◌≡◌, ◌≤◌, ◌+◌, ◌++◌, ℕ, [], ◌∷◌, None, OnOk, codes};
-ghost use Rattle.std.specs.Prelude.{◌<◌, IfOk, IfSome, false, true};
+ghost use Rattle.std.specs.Prelude.{◌<◌, IfOk, IfSome, IsOkAnd, false, true};
 ghost use Rattle.std.specs.FinMap as map;
 ghost use Rattle.std.specs.Fmt.{decimal, signed_decimal};
 ghost use Rattle.cfi_read_core.specs.ReaderCalls.{map_ok};
@@ -333,7 +333,7 @@ pub(crate) fn push_next<A: ArrayLike<Item = (Register, RegisterRule<usize>)>>(
     ensures pushed { IfOk result (λ pushed. pushed ≡ true → text.new.items ≡ text.old.items
         ++ (plain_line names (map_ok (λ row. row.now) answer.entry)).text) }
     ensures plain { IfOk result (λ pushed. pushed ≡ true →
-        IfOk answer.entry (λ row. IsPlain row.now)) }
+        IsOkAnd answer.entry (λ row. IsPlain row.now)) }
     ensures left { IfOk result (λ pushed. pushed ≡ false → text.new.items ≡ text.old.items) }
 {
     let Ok(row) = answer else {

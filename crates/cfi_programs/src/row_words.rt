@@ -15,7 +15,7 @@ ghost use Rattle.cfi_programs.specs.Wordings.{of_section, text_style, worded};
 
 use crate::expression_words::{RegisterOffset, write_in_words};
 use crate::json_row::{write_json_members, write_json_row};
-use crate::lines::{Address, write_part, write_reason_behind, write_refusal_in, write_text};
+use crate::lines::{Address, write_part, write_refusal_behind, write_refusal_told, write_text};
 use crate::row_line::{HasRules, write_out};
 use crate::style::{Format, Style};
 use crate::text::Text;
@@ -75,7 +75,7 @@ pub(crate) fn write_answer<
             write_row_in(output, style, section, row)?;
             Ok(0)
         }
-        Err(error) => write_refusal_in(output, style.format, error),
+        Err(error) => write_refusal_told(output, style.format, error),
     }
 }
 
@@ -96,7 +96,7 @@ pub fn write_answer_behind<W: Write, A: ArrayLike<Item = (Register, RegisterRule
             write_row_of(output, style, source, row)?;
             Ok(0)
         }
-        Err(error) => write_reason_behind(output, style.format, b"refused ", error.name()),
+        Err(error) => write_refusal_behind(output, style.format, error),
     }
 }
 

@@ -46,20 +46,20 @@ target one off | CIE FDE1 FDE2 FDE3 | HEADER 03000000 ROW1 10f1ffff 2d010000 ROW
 target in an entry, at what looks like the FDE | CIE FDE1 FDE2 24000000 44000000 d8efffff 20000000 00 000000 10000000 58000000 c4efffff 20000000 00 000000 | HEADER 03000000 ROW1 ROW2 20f1ffff 54010000 | FDE 0x40: no row starts at 0x1020 and leads to it
 FDE that overlaps | CIE 10000000 1c000000 e0efffff 11000000 00 000000 FDE2 FDE3 | HEADER 03000000 ROW1 ROW2 ROW3 | FDE 0x18: ends at 0x1011, the next row starts at 0x1010
 count too high | CIE FDE1 FDE2 FDE3 | HEADER 04000000 ROW1 ROW2 ROW3 40f1ffff 40010000 | table: 4 rows for 3 FDEs
-count too high, without the row | CIE FDE1 FDE2 FDE3 | HEADER 04000000 ROW1 ROW2 ROW3 | row 3: refused UnexpectedEof
+count too high, without the row | CIE FDE1 FDE2 FDE3 | HEADER 04000000 ROW1 ROW2 ROW3 | row 3: refused UnexpectedEof: unexpected end of input at place 0x24
 count too low | CIE FDE1 FDE2 FDE3 | HEADER 02000000 ROW1 ROW2 ROW3 | FDE 0x40: no row starts at 0x1020 and leads to it
 no FDE | CIE | HEADER 01000000 ROW1 | table: 1 rows for 0 FDEs
-indirect rows | CIE FDE1 | 01 1b 03 bb fc000000 01000000 ROW1 | row 0: refused UnsupportedIndirectPointer
-indirect pointer to the section | CIE FDE1 | 01 9b 03 3b fc000000 01000000 ROW1 | header: refused UnsupportedIndirectPointer
-rows of no fixed length | CIE FDE1 | 01 1b 03 31 fc000000 01000000 ROW1 | header: refused UnsupportedPointerEncoding
-CIE that is an FDE | CIE FDE1 10000000 18000000 dcefffff 10000000 00 410e10 | HEADER 02000000 ROW1 ROW2 | FDE 0x2c: refused NotCieId
-entry that is cut | CIE FDE1 10000000 | HEADER 01000000 ROW1 | entry 0x2c: refused UnexpectedEof
-first entry of an unknown version | 0c000000 00000000 02 00 01 78 10 000000 FDE1 | HEADER 01000000 ROW1 | entry 0x0: refused UnknownVersion
-FDE with its CIE before the section, after a CIE of the 64-bit format | ffffffff 1000000000000000 00000000 01 00 01 78 10 00000000000000 10000000 40000000 00000000 00000000 00000000 | HEADER 01000000 ROW1 | entry 0x1c: refused OffsetOutOfBounds
+indirect rows | CIE FDE1 | 01 1b 03 bb fc000000 01000000 ROW1 | row 0: refused UnsupportedIndirectPointer: indirect pointers are not supported
+indirect pointer to the section | CIE FDE1 | 01 9b 03 3b fc000000 01000000 ROW1 | header: refused UnsupportedIndirectPointer: indirect pointers are not supported
+rows of no fixed length | CIE FDE1 | 01 1b 03 31 fc000000 01000000 ROW1 | header: refused UnsupportedPointerEncoding: the pointer encoding 0x31 is not supported here
+CIE that is an FDE | CIE FDE1 10000000 18000000 dcefffff 10000000 00 410e10 | HEADER 02000000 ROW1 ROW2 | FDE 0x2c: refused NotCieId: the entry at offset 0x18 is not a CIE
+entry that is cut | CIE FDE1 10000000 | HEADER 01000000 ROW1 | entry 0x2c: refused UnexpectedEof: unexpected end of input at place 0x30
+first entry of an unknown version | 0c000000 00000000 02 00 01 78 10 000000 FDE1 | HEADER 01000000 ROW1 | entry 0x0: refused UnknownVersion: unknown version 2
+FDE with its CIE before the section, after a CIE of the 64-bit format | ffffffff 1000000000000000 00000000 01 00 01 78 10 00000000000000 10000000 40000000 00000000 00000000 00000000 | HEADER 01000000 ROW1 | entry 0x1c: refused OffsetOutOfBounds: the pointer 0x40 points before the start of the section
 no rows | CIE FDE1 | HEADER 00000000 | header: has no table
 omitted rows | CIE FDE1 | 01 1b 03 ff fc000000 | header: has no table
-version 2 | CIE FDE1 | 02 1b 03 3b fc000000 01000000 ROW1 | header: refused UnknownVersion
-empty header | CIE FDE1 | | header: refused UnexpectedEof
+version 2 | CIE FDE1 | 02 1b 03 3b fc000000 01000000 ROW1 | header: refused UnknownVersion: unknown version 2
+empty header | CIE FDE1 | | header: refused UnexpectedEof: unexpected end of input at place 0x0
 ";
 
 /// A section of addresses of 8 bytes, in little-endian byte order, with its header at 0x1f00.
@@ -186,7 +186,8 @@ fn other_bases(rt: HostRuntime) -> Result<(), Fail> {
         section: None,
         ..words()
     };
-    let refused = "FDE 0x18: refused PcRelativePointerButSectionBaseIsUndefined";
+    let refused =
+        "FDE 0x18: refused PcRelativePointerButSectionBaseIsUndefined: section-relative pointer without the address of the section";
     expect_of_three(&rt, &nowhere, refused)
 }
 
@@ -224,7 +225,11 @@ fn byte_orders(rt: HostRuntime) -> Result<(), Fail> {
     let (section, header) = BIG_ENDIAN;
     let verdict = verdict_on(rt.alloc(), &big_endian, section, header)?;
     expect_line(&rt, verdict, "faithful 2")?;
-    expect_of_three(&rt, &big_endian, "row 3: refused UnexpectedEof")
+    expect_of_three(
+        &rt,
+        &big_endian,
+        "row 3: refused UnexpectedEof: unexpected end of input at place 0x24",
+    )
 }
 
 /// Takes so many bytes, one a call, and then fails.

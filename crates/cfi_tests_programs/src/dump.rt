@@ -55,11 +55,12 @@ fde 0x14 length=28 cie=0x0 0x1000 0x1020
 ";
 
 /// The rows for all addresses, before, in and after it.
-const THREE_ROWS_COMPILED: &str = "0x0 refused NoUnwindInfoForAddress
+const THREE_ROWS_COMPILED: &str =
+    "0x0 refused NoUnwindInfoForAddress: no unwind information for the address
 0x1000 cfa=r7+8 args=0 r16=offset(-8)
 0x1001 cfa=r7+16 args=0 r6=offset(-16) r16=offset(-8)
 0x1004 cfa=r6+16 args=0 r6=offset(-16) r16=offset(-8)
-0x1020 refused NoUnwindInfoForAddress
+0x1020 refused NoUnwindInfoForAddress: no unwind information for the address
 ";
 
 /// The addresses of its FDE, and its rows.
@@ -81,7 +82,7 @@ fde 0x14 length=23 cie=0x0 0x1000 0x1020
   DW_CFA_restore_state
   DW_CFA_advance_loc delta=2 to=0x1003
 0x1000 0x1001 cfa=r7+8 args=0 r16=offset(-8)
-refused PopWithEmptyStack
+refused PopWithEmptyStack: restore_state without remember_state
 0x1001 0x1003 cfa=r7+8 args=0 r16=offset(-8)
 0x1003 0x1020 cfa=r7+8 args=0 r16=offset(-8)
 ";
@@ -136,7 +137,7 @@ const INSTRUCTIONS_PRINTED: &str = "cie 0x0 length=90 version=4 size=8 code=1 da
   DW_CFA_GNU_args_size size=16
   DW_CFA_AARCH64_negate_ra_state
   DW_CFA_nop
-refused UnknownCallFrameInstruction
+refused UnknownCallFrameInstruction: unknown call frame opcode 0x17
 ";
 
 /// Compares what was printed, and the status. Fails for lack of memory where a refusal of it is all
@@ -226,9 +227,9 @@ fn an_empty_section(rt: HostRuntime) -> Result<(), Fail> {
 
 #[test]
 fn entries_that_are_refused(rt: HostRuntime) -> Result<(), Fail> {
-    let cut = "refused UnexpectedEof\n";
+    let cut = "refused UnexpectedEof: unexpected end of input at place 0x0\n";
     prints(&rt, &debug_frame(), "0500", cut)?;
-    let no_cie = "fde 0x0 length=4\nrefused NotCieId\n";
+    let no_cie = "fde 0x0 length=4\nrefused NotCieId: the entry at offset 0x0 is not a CIE\n";
     prints(&rt, &eh_frame(), "04000000 04000000", no_cie)
 }
 
@@ -341,7 +342,7 @@ const REFUSED_IN_JSON: &str = "10000000 ffffffff 04000800 017810 0c0708 9001 \
     1f000000 00000000 0010000000000000 2000000000000000 0b 2e8080808080808010 41";
 
 const REFUSED_JSON: &str = "{\"fde\":{\"start\":\"0x1000\",\"end\":\"0x1020\"}}
-{\"error\":\"PopWithEmptyStack\"}
+{\"error\":\"PopWithEmptyStack\",\"reason\":\"restore_state without remember_state\"}
 {\"start\":\"0x1000\",\"end\":\"0x1001\",\"cfa\":\"r7+8\",\"args\":\"9007199254740992\",\"rules\":{\
 \"r16\":\"offset(-8)\"}}
 {\"start\":\"0x1001\",\"end\":\"0x1020\",\"cfa\":\"r7+8\",\"args\":\"9007199254740992\",\"rules\":{\

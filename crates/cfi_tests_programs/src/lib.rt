@@ -1,6 +1,6 @@
 //! Tests of what the programs print, over memory: whole runs of `cfi_rows` with its test vectors,
 //! wrong words and input, cut sections, failing input and output; verdicts on faithful tables and
-//! on each fault of others; printed sections. Tests of ELF files.
+//! on each fault of others; what errors say; printed sections. Tests of ELF files.
 #![tactic(auto)]
 
 #[cfg(test)]
@@ -9,5 +9,7 @@ mod check;
 mod dump;
 #[cfg(test)]
 mod elf;
+#[cfg(test)]
+mod errors;
 #[cfg(test)]
 mod rows;

@@ -5,6 +5,7 @@ ghost use Rattle.cfi_programs.specs.CheckLines.{faithful_object, finding_text, r
 ghost use Rattle.cfi_programs.specs.CheckLines.{reasoned, verdict_in, verdict_line};
 ghost use Rattle.cfi_programs.specs.CheckLines.{verdict_object, verdict_status, verdict_text};
 
+use crate::error_words::ErrorWords;
 use crate::json::push_number;
 use crate::lines::{Address, write_between, write_part, write_text};
 use crate::style::Format;
@@ -178,8 +179,11 @@ fn write_refused_header<W: Write>(output: &mut W, refusal: Error) -> io::Result<
     ensures { Writes (W.contents output.old) (W.contents output.new) result
         (reason_text (Unfaithful.Header refusal)) }
 {
-    let name = refusal.name();
-    write_part(output, format_args!("header: refused {name}"))
+    let words = ErrorWords {
+        format: Format::Text,
+        error: refusal,
+    };
+    write_part(output, format_args!("header: refused {words}"))
 }
 
 /// Writes that a row of the table can't be read, with the error.
@@ -187,8 +191,11 @@ fn write_refused_row<W: Write>(output: &mut W, row: u64, refusal: Error) -> io::
     ensures { Writes (W.contents output.old) (W.contents output.new) result
         (reason_text (Unfaithful.Row row refusal)) }
 {
-    let name = refusal.name();
-    write_part(output, format_args!("row {row}: refused {name}"))
+    let words = ErrorWords {
+        format: Format::Text,
+        error: refusal,
+    };
+    write_part(output, format_args!("row {row}: refused {words}"))
 }
 
 /// Writes that a row doesn't start above the row before it.
@@ -210,8 +217,11 @@ fn write_refused_entry<W: Write>(output: &mut W, offset: u64, refusal: Error) ->
         (reason_text (Unfaithful.Entry offset refusal)) }
 {
     let offset = Address(offset);
-    let name = refusal.name();
-    write_part(output, format_args!("entry {offset}: refused {name}"))
+    let words = ErrorWords {
+        format: Format::Text,
+        error: refusal,
+    };
+    write_part(output, format_args!("entry {offset}: refused {words}"))
 }
 
 /// Writes that the FDE at an offset can't be read, with the error.
@@ -220,8 +230,11 @@ fn write_refused_fde<W: Write>(output: &mut W, offset: u64, refusal: Error) -> i
         (reason_text (Unfaithful.Fde offset refusal)) }
 {
     let offset = Address(offset);
-    let name = refusal.name();
-    write_part(output, format_args!("FDE {offset}: refused {name}"))
+    let words = ErrorWords {
+        format: Format::Text,
+        error: refusal,
+    };
+    write_part(output, format_args!("FDE {offset}: refused {words}"))
 }
 
 /// Writes that no row leads to the FDE at an offset, whose first address is given.

@@ -16,7 +16,7 @@ ghost use Rattle.cfi_unwind.specs.WalkViews.{partial_view};
 ghost use Rattle.cfi_unwind.specs.Scan.{read_fde};
 ghost use Rattle.cfi_unwind.specs.UnwindTableViews.{table_state};
 ghost use Rattle.cfi_programs.specs.Wordings.{of_section, text_style, worded};
-ghost use Rattle.cfi_programs.specs.Lines.{refusal_in, refusal_line};
+ghost use Rattle.cfi_programs.specs.Lines.{refusal_told};
 ghost use Rattle.cfi_programs.specs.WriterOutput.{Writes};
 ghost use Rattle.cfi_programs.specs.DumpEntryLines.{fde_line, partial_fde_line};
 ghost use Rattle.cfi_programs.specs.DumpSectionTexts.{cie_text, entry_text};
@@ -30,7 +30,7 @@ use crate::dump::entry_line::{write_cie, write_fde, write_partial_fde};
 use crate::dump::instruction_line::write_instructions;
 use crate::dump::printed::Printed;
 use crate::kept_rules::{KeptRows, LineRoom};
-use crate::lines::{write_refusal_in, write_text};
+use crate::lines::{write_refusal_told, write_text};
 use crate::row_line::{FULL_OF_LINES, write_out};
 use crate::row_words::{write_answer, write_apart};
 use crate::style::{Format, Style};
@@ -140,9 +140,9 @@ fn write_entry<R: Reader<Offset = usize>, S: UnwindSection<R>, W: Write>(
 /// Writes the line of an error.
 pub fn write_refused<W: Write>(output: &mut W, format: Format, error: Error) -> io::Result<()>
     ensures { Writes (W.contents output.old) (W.contents output.new) result
-        (refusal_in format error).text }
+        (refusal_told format error).text }
 {
-    write_refusal_in(output, format, error)?;
+    write_refusal_told(output, format, error)?;
     Ok(())
 }
 
@@ -267,7 +267,7 @@ fn write_refused_fde<W: Write>(
     error: Error,
 ) -> io::Result<()>
     ensures { Writes (W.contents output.old) (W.contents output.new) result
-        (partial_fde_line offset length ++ (refusal_line error).text) }
+        (partial_fde_line offset length ++ (refusal_told Format.Text error).text) }
 {
     write_partial_fde(output, offset, length)?;
     write_refused(output, Format::Text, error)

@@ -116,8 +116,8 @@ const ROWS_OF_WORDS: &str = "pushes 0x4000b0: 0x4000b0 0x4000b1 cfa=rsp+8 args=0
 pushes@@V1+5 0x4000b5: 0x4000b5 0x4000b6 cfa=rsp+8 args=0 rbp=offset(-16) ra=offset(-8)
 0X4000b7: 0x4000b6 0x4000b8 cfa=rsp+8 args=0 ra=offset(-8)
 4194486: 0x4000b6 0x4000b8 cfa=rsp+8 args=0 ra=offset(-8)
-0x4000b8: refused NoUnwindInfoForAddress
-waits+2 0x4000b8: refused NoUnwindInfoForAddress
+0x4000b8: refused NoUnwindInfoForAddress: no unwind information for the address
+waits+2 0x4000b8: refused NoUnwindInfoForAddress: no unwind information for the address
 sleeps@V1: no address
 ";
 
@@ -152,24 +152,24 @@ const ROWS_OF_WORDS_JSON: &str = "\
 \"start\":\"0x4000b6\",\"end\":\"0x4000b8\",\"cfa\":\"rsp+8\",\"args\":0,\
 \"rules\":{\"ra\":\"offset(-8)\"}}
 {\"asked\":\"0x4000b8\",\"address\":\"0x4000b8\",\
-\"error\":\"NoUnwindInfoForAddress\"}
+\"error\":\"NoUnwindInfoForAddress\",\"reason\":\"no unwind information for the address\"}
 {\"asked\":\"waits+2\",\"address\":\"0x4000b8\",\
-\"error\":\"NoUnwindInfoForAddress\"}
+\"error\":\"NoUnwindInfoForAddress\",\"reason\":\"no unwind information for the address\"}
 {\"asked\":\"sleeps@V1\",\
 \"error\":\"no address\"}
 ";
 
 const TABLE: &str = ".eh_frame
-0x0 refused NoUnwindInfoForAddress
+0x0 refused NoUnwindInfoForAddress: no unwind information for the address
 0x4000b0 cfa=rsp+8 args=0 ra=offset(-8)
 0x4000b1 cfa=rsp+16 args=0 rbp=offset(-16) ra=offset(-8)
 0x4000b4 cfa=rbp+16 args=0 rbp=offset(-16) ra=offset(-8)
 0x4000b5 cfa=rsp+8 args=0 rbp=offset(-16) ra=offset(-8)
-0x4000b6 refused NoUnwindInfoForAddress
+0x4000b6 refused NoUnwindInfoForAddress: no unwind information for the address
 .debug_frame
-0x0 refused NoUnwindInfoForAddress
+0x0 refused NoUnwindInfoForAddress: no unwind information for the address
 0x4000b6 cfa=rsp+8 args=0 ra=offset(-8)
-0x4000b8 refused NoUnwindInfoForAddress
+0x4000b8 refused NoUnwindInfoForAddress: no unwind information for the address
 ";
 
 /// Gives so many parts of a file, and then fails.

@@ -1,0 +1,104 @@
+//! What errors of call frames say in lines: the sentences of their `Display`, and what to do.
+use cfi_programs::check::output_line::write_verdict;
+use cfi_programs::lines::{write_refusal_behind, write_refusal_told};
+use cfi_programs::style::Format;
+use gimli_cfi::{DwCfa, DwEhPe, Error, ReaderOffsetId, Unfaithful, Verdict};
+use std::process::Abort;
+use std::test::Fail;
+
+/// The errors, with the greatest values that they carry.
+const ERRORS: [Error; 31] = [
+    Error::UnexpectedEof(ReaderOffsetId(u64::MAX)),
+    Error::BadUnsignedLeb128,
+    Error::BadSignedLeb128,
+    Error::UnknownReservedLength(u32::MAX),
+    Error::UnsupportedAddressSize(u8::MAX),
+    Error::UnsupportedOffset,
+    Error::UnsupportedRegister(u64::MAX),
+    Error::AddressOverflow,
+    Error::UnknownVersion(u64::MAX),
+    Error::UnsupportedSegmentSize(u8::MAX),
+    Error::UnknownAugmentation,
+    Error::UnknownPointerEncoding(DwEhPe(0x7f)),
+    Error::CannotParseOmitPointerEncoding,
+    Error::UnsupportedPointerEncoding(DwEhPe(0x50)),
+    Error::PcRelativePointerButSectionBaseIsUndefined,
+    Error::TextRelativePointerButTextBaseIsUndefined,
+    Error::DataRelativePointerButDataBaseIsUndefined,
+    Error::FuncRelativePointerInBadContext,
+    Error::UnsupportedIndirectPointer,
+    Error::NotCieId(u64::MAX),
+    Error::NotCiePointer(u64::MAX),
+    Error::NoEntryAtGivenOffset(u64::MAX),
+    Error::OffsetOutOfBounds(u64::MAX),
+    Error::UnknownCallFrameInstruction(DwCfa(0x3c)),
+    Error::CfiInstructionInInvalidContext,
+    Error::InvalidCfiSetLoc(u64::MAX),
+    Error::StackFull,
+    Error::PopWithEmptyStack,
+    Error::TooManyRegisterRules,
+    Error::NoUnwindInfoForAddress,
+    Error::OutOfMemory,
+];
+
+/// Checks that the line has the sentence of the error, and that the longest one with it is written.
+fn says(rt: &(impl Abort + AllocGlobal), error: Error) -> Result<(), Fail> {
+    let name = error.name();
+    let mut line = Vec::new(rt.alloc());
+    write_refusal_told(&mut line, Format::Text, error)?;
+    let due = format!(in rt.alloc(); "refused {name}: {error}")?;
+    assert!(rt; line.as_slice().starts_with(due.as_bytes()));
+    let offset = u64::MAX;
+    let refusal = error;
+    let verdict = Verdict::Unfaithful(Unfaithful::Entry { offset, refusal });
+    let mut longest = Vec::new(rt.alloc());
+    write_verdict(&mut longest, Format::Text, verdict)?;
+    assert!(rt; longest.as_slice().ends_with(line.as_slice()));
+    Ok(())
+}
+
+#[test]
+fn sentences_of_errors(rt: HostRuntime) -> Result<(), Fail> {
+    for error in &ERRORS {
+        says(&rt, *error)?;
+    }
+    Ok(())
+}
+
+/// The ends of lines that say what to do.
+const ADVICE: [(Error, &str); 6] = [
+    (
+        Error::UnknownCallFrameInstruction(DwCfa(0x2d)),
+        " opcode 0x2d; DW_CFA_GNU_window_save of SPARC isn't supported\"}\n",
+    ),
+    (
+        Error::UnknownCallFrameInstruction(DwCfa(0x1d)),
+        " opcode 0x1d; DW_CFA_MIPS_advance_loc8 isn't supported\"}\n",
+    ),
+    (
+        Error::TextRelativePointerButTextBaseIsUndefined,
+        " base; cfi_rows takes one by text=N\"}\n",
+    ),
+    (
+        Error::DataRelativePointerButDataBaseIsUndefined,
+        " base; cfi_rows takes one by data=N\"}\n",
+    ),
+    (
+        Error::StackFull,
+        " room for; cfi_rows has room by store=vec\"}\n",
+    ),
+    (
+        Error::TooManyRegisterRules,
+        " room for; cfi_rows has room by store=vec\"}\n",
+    ),
+];
+
+#[test]
+fn advice_on_errors(rt: HostRuntime) -> Result<(), Fail> {
+    for (error, end) in &ADVICE {
+        let mut line = Vec::new(rt.alloc());
+        write_refusal_behind(&mut line, Format::Json, *error)?;
+        assert!(rt; line.as_slice().ends_with(end.as_bytes()));
+    }
+    Ok(())
+}
