@@ -1,5 +1,6 @@
 mod RoomLemmas
 mod ChosenLemmas
+mod SortedRecords
 mod RunLemmas
 mod FoldLemmas
 mod StackLemmas
