@@ -10,3 +10,4 @@ pub mod Texts
 pub mod SignedLeb128
 mod ExpressionBytes
 pub mod ReadNumbers
+mod Edits

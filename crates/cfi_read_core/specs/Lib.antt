@@ -7,7 +7,11 @@ pub mod Offsets
 pub mod ReaderCalls
 pub mod SliceReaders
 pub mod RefusalNames
+pub mod ErrorSentences
+pub mod Sayings
 pub mod CallFrameSections
 pub mod MappedInstructions
 pub mod ExpressionPlaces
 pub mod AddressSizes
+pub mod ListLimits
+pub mod Refill

@@ -1,5 +1,6 @@
 -- The errors in order, each with its number and its name.
 --     number_of e, name_of e      the number, from 1 on, and the name, without what it carries
+--     value_of e      the place, byte or number that it carries, else 0
 --     errors      all of them, in the order of their numbers
 use Rattle.std.specs.Prelude.{ℕ, List, [], ◌∷◌, codes}
 use Rattle.cfi_read_core.specs.declared.error.Error.{Error}
@@ -81,6 +82,24 @@ number_of e = (numbered_name e).number
 
 abbrev pub name_of : Error → List ℕ
 name_of e = (numbered_name e).name
+
+-- the place, byte or number that an error carries
+abbrev pub value_of : Error → ℕ
+value_of (UnexpectedEof x) = x.0
+value_of (UnknownReservedLength x) = x
+value_of (UnsupportedAddressSize x) = x
+value_of (UnsupportedRegister x) = x
+value_of (UnknownVersion x) = x
+value_of (UnsupportedSegmentSize x) = x
+value_of (UnknownPointerEncoding x) = x.0
+value_of (UnsupportedPointerEncoding x) = x.0
+value_of (NotCieId x) = x
+value_of (NotCiePointer x) = x
+value_of (NoEntryAtGivenOffset x) = x
+value_of (OffsetOutOfBounds x) = x
+value_of (UnknownCallFrameInstruction x) = x.0
+value_of (InvalidCfiSetLoc x) = x
+value_of e = 0
 
 -- a name does not show what an error carries, so it is 0 here
 abbrev pub errors : List Error

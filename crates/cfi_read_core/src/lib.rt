@@ -1,8 +1,10 @@
 //! Readers over bytes, DWARF's numbers, addresses and constants, call frame instructions, the
-//! properties of call frame sections, and the errors of the call frame layer.
+//! properties of call frame sections, lists with an optional limit, and the errors of the call
+//! frame layer.
 #![tactic(auto)]
 
 pub mod address;
+pub mod array_like;
 mod bytes;
 pub mod common;
 pub mod constants;
@@ -10,9 +12,11 @@ pub mod dwarf_section;
 pub mod endian_slice;
 pub mod endianity;
 pub mod error;
+mod error_sentence;
 pub mod instruction;
 pub mod offset;
 pub mod reader;
+pub mod reserved;
 pub mod section_properties;
 
 pub use address::ReaderAddress;

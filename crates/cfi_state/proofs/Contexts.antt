@@ -9,7 +9,7 @@ use Rattle.std.specs.FinMap.{len}
 use Rattle.std.specs.List.{slice_get}
 use Rattle.cfi_read_core.specs.declared.error.Error.{Error}
 use Rattle.cfi_read_core.specs.declared.error.Error.TheVariants.{StackFull, PopWithEmptyStack, OutOfMemory}
-use Rattle.cfi_lists.specs.ListLimits.{HasRoomFor}
+use Rattle.cfi_read_core.specs.ListLimits.{HasRoomFor}
 use Rattle.cfi_state.specs.MachineSettings.{is_at_limit}
 use Rattle.cfi_state.specs.Machine.{Rules, copies_held}
 use Rattle.cfi_state.specs.AllocatingOperations.{Performs}

@@ -19,11 +19,11 @@ use Rattle.cfi_read_core.specs.declared.common.Register.{Register}
 use Rattle.cfi_read_core.specs.declared.error.Error.{Error}
 use Rattle.cfi_read_core.specs.declared.error.Error.TheVariants.{TooManyRegisterRules, OutOfMemory}
 use Rattle.cfi_state.specs.declared.table.rules.RegisterRule.{RegisterRule}
-use Rattle.cfi_lists.specs.declared.array_like.Why.{Why}
-use Rattle.cfi_lists.specs.declared.array_like.Why.TheVariants.{Full, Memory}
+use Rattle.cfi_read_core.specs.declared.array_like.Why.{Why}
+use Rattle.cfi_read_core.specs.declared.array_like.Why.TheVariants.{Full, Memory}
 use Rattle.cfi_state.specs.AllocatingOperations.{Performs}
 use Rattle.cfi_state.specs.StorageRefusals.{refusal_for}
-use Rattle.cfi_lists.specs.ListLimits.{IsAtLimit, IsWithinLimit}
+use Rattle.cfi_read_core.specs.ListLimits.{IsAtLimit, IsWithinLimit}
 use Rattle.cfi_state.specs.MachineSettings.{is_at_limit}
 use Rattle.cfi_state.specs.Machine.{Rules}
 use Rattle.cfi_state.specs.RulePairs.{numbered_pair, rules_of, map_set_rule, IsDistinctRegisters, IsRising, BelongsAt, AddsRule, AddsRules}

@@ -10,7 +10,7 @@ use Rattle.cfi_read_core.specs.declared.error.Error.{Error}
 use Rattle.cfi_read_core.specs.declared.error.Error.TheVariants.{StackFull, PopWithEmptyStack}
 use Rattle.cfi_read_core.specs.declared.error.Error.TheVariants.{CfiInstructionInInvalidContext}
 use Rattle.cfi_state.specs.declared.table.rules.RegisterRule.{RegisterRule}
-use Rattle.cfi_lists.specs.ListLimits.{HasRoomFor}
+use Rattle.cfi_read_core.specs.ListLimits.{HasRoomFor}
 use Rattle.cfi_state.specs.MachineSettings.{is_at_limit}
 use Rattle.cfi_state.specs.Machine.{Rules, State, copies_held}
 use Rattle.cfi_state.specs.Row.{Row, empty_row, with_parts}

@@ -25,7 +25,7 @@ use Rattle.cfi_state.specs.MachineSettings.{Setting}
 use Rattle.cfi_state.specs.Machine.{State, fresh_state}
 use Rattle.cfi_state.specs.UnwindContexts.{ContextState, machine_state}
 use Rattle.cfi_state.specs.MappedStates.{map_state, map_row, lent_row}
-use Rattle.cfi_lists.specs.ListLimits.{IsFixed}
+use Rattle.cfi_read_core.specs.ListLimits.{IsFixed}
 use Rattle.cfi_state.specs.UnwindTableStates.{TableState, before_last_row, after_last_row}
 use Rattle.cfi_state.specs.UnwindTableStates.{run_answers_to_come, rows_to_come, IsNext}
 use Rattle.cfi_state.specs.RowExpressions.{EachExpression, EachOfTable}

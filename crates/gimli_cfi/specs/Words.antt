@@ -157,8 +157,8 @@ pub use Rattle.cfi_unwind.specs.AddressRow.{row_of_fde, setting}
 pub use Rattle.cfi_unwind.specs.AddressRow.{ScansForRow, ScansForRowFrom}
 -- ---- storages: lists and their limits
 
-pub use Rattle.cfi_lists.specs.ListLimits.{HasRoomFor, IsAtLimit, IsWithinLimit, IsFixed}
-pub use Rattle.cfi_lists.specs.Refill.{refill-same}
+pub use Rattle.cfi_read_core.specs.ListLimits.{HasRoomFor, IsAtLimit, IsWithinLimit, IsFixed}
+pub use Rattle.cfi_read_core.specs.Refill.{refill-same}
 -- ---- the header, and its table
 
 pub use Rattle.gimli_cfi.specs.declared.hdr.header.EhFrameHdr.{EhFrameHdr}

@@ -6,7 +6,7 @@ ghost use Rattle.cfi_state.specs.declared.table.rules.RegisterRule.TheVariants.{
 ghost use Rattle.std.specs.Iterator.{YieldsFirstRef, item_count};
 ghost use Rattle.std.specs.Cmp.{partial_equiv_from_equiv};
 ghost use Rattle.std.specs.FinMap.{get};
-ghost use Rattle.cfi_lists.specs.ListLimits.{IsWithinLimit};
+ghost use Rattle.cfi_read_core.specs.ListLimits.{IsWithinLimit};
 ghost use Rattle.cfi_state.specs.StorageRefusals.{refusal_for};
 ghost use Rattle.cfi_state.specs.RegisterRuleIters.{rules_left};
 ghost use Rattle.cfi_state.specs.RulePairs.{rules_of, IsDistinctRegisters, IsRising};
@@ -16,7 +16,7 @@ ghost use Rattle.cfi_state.specs.EqualityLaws.{rules_equiv};
 
 use crate::storage::{ArrayLike, CopyList, Refused, Why};
 use arrayvec::ArrayVec;
-use cfi_lists::array_like::{remove_at, shorten, write_at, write_over};
+use cfi_read_core::array_like::{remove_at, shorten, write_at, write_over};
 use cfi_read_core::instruction::UnwindExpression;
 use cfi_read_core::{Error, ReaderOffset, Register, Result};
 use std::alloc::{AllocError, Global};

@@ -1,5 +1,0 @@
-use Rattle.std.proofs.Common.{refl}
-use Rattle.cfi_lists.proofs.array_like.ArrayVecCopyList.copies_free.Goals as goal
-
-pub returns : goal.returns
-returns g c = refl

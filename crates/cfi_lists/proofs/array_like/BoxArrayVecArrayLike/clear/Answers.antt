@@ -1,4 +1,0 @@
-use Rattle.cfi_lists.proofs.array_like.BoxArrayVecArrayLike.clear.Goals as goal
-
-pub returns : goal.returns
-returns g c = cc

@@ -1,2 +1,0 @@
-pub mod ListLimits
-pub mod Refill

@@ -1,0 +1,5 @@
+use Rattle.std.proofs.Common.{refl}
+use Rattle.cfi_read_core.proofs.array_like.refused_growth.Goals as goal
+
+pub returns : goal.returns
+returns g c = refl
