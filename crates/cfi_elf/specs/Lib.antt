@@ -25,3 +25,5 @@ pub mod FunctionPlaces
 pub mod FunctionNames
 pub mod RelocationKinds
 pub mod Relocations
+pub mod PltJumps
+pub mod PltAddresses

@@ -78,3 +78,15 @@ pub const SHF_ALLOC: u64 = 2;
 
 /// A section whose bytes are compressed (`sh_flags`).
 pub const SHF_COMPRESSED: u64 = 0x800;
+
+/// The address of a symbol (the type of a relocation of x86-64).
+pub const R_X86_64_GLOB_DAT: u32 = 6;
+
+/// The address of a symbol that is called (the type of a relocation of x86-64).
+pub const R_X86_64_JUMP_SLOT: u32 = 7;
+
+/// The address of a symbol (the type of a relocation of AArch64).
+pub const R_AARCH64_GLOB_DAT: u32 = 1025;
+
+/// The address of a symbol that is called (the type of a relocation of AArch64).
+pub const R_AARCH64_JUMP_SLOT: u32 = 1026;

@@ -24,6 +24,8 @@ mod functions;
 pub mod image;
 pub mod notes;
 mod places;
+mod plt;
+mod plt_jump;
 pub mod program_header;
 mod relocate;
 mod relocation;

@@ -335,7 +335,7 @@ impl<'input> ElfFile<'input> {
     }
 
     /// The relocation at an index of a table, or `None` where it has fewer.
-    fn relocation_in(
+    pub(crate) fn relocation_in(
         &self,
         entries: &'input [u8],
         has_addend: bool,

@@ -112,7 +112,7 @@ fn rela_64(fields: Record<'_>) -> Relocation
 }
 
 /// The number in 64 bits that is the same in two's complement.
-fn sign_extended(number: u32) -> u64
+pub(crate) fn sign_extended(number: u32) -> u64
     ensures { result ≡ sign_extended number }
 {
     if number < 0x8000_0000 {

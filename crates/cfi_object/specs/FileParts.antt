@@ -3,19 +3,21 @@
 --     IsPartRefused all offset size error      why a part of these bytes is not copied
 --     AreOfInput known image      the parts are of the bytes of a file, which are the known ones
 --         where these are known
---     AreEnough symbols image      they have all that the call frames of the file need, and the
---         symbols where these are needed
---     IsEnoughOf known symbols image      both
+--     AreEnough needed image      they have all that the call frames of the file need, and the
+--         symbols and the procedure linkage table where these are needed
+--     IsEnoughOf known needed image      both
 use Rattle.std.specs.Prelude.{◌≡◌, ◌<◌, ◌+◌, ◌⊎◌, ℕ, Bool, true, ◌&&◌, ◌||◌, List, [], ◌∷◌}
 use Rattle.std.specs.Prelude.{length, Option, Some, IfOk, IfSome, nat_le}
 use Rattle.cfi_elf.specs.declared.error.ElfError.{ElfError}
 use Rattle.cfi_elf.specs.ElfFiles.{File, elf_file_of}
 use Rattle.cfi_elf.specs.Images.{Image, IsImageOf, IsNotRead, IsRead, Part, parts_view}
 use Rattle.cfi_elf.specs.Fields.{part}
+use Rattle.cfi_elf.specs.PltAddresses.{plt_parts}
 use Rattle.cfi_elf.specs.SymbolTables.{symbol_table}
 use Rattle.cfi_object.specs.declared.input.InputError.{InputError}
 use Rattle.cfi_object.specs.declared.input.InputError.TheVariants.{Unreadable, OutOfMemory}
 use Rattle.cfi_object.specs.declared.parts.FileParts.{FileParts}
+use Rattle.cfi_object.specs.declared.parts.Needed.{Needed}
 use Rattle.cfi_object.specs.CallFrames.{debug_frame_of, eh_frame_of}
 
 -- ---- a file that is read
@@ -82,12 +84,17 @@ HasDebugFrame file = IsRead (debug_frame_of file)
 abbrev pub HasSymbols : Bool → File → Type 0
 HasSymbols symbols file = symbols ≡ true → IsRead (symbol_table file)
 
-abbrev pub HasAll : Bool → File → Type 0
-HasAll symbols file = HasEhFrame file × HasDebugFrame file × HasSymbols symbols file
+-- what the entries of the procedure linkage table need, where they are needed
+abbrev pub HasPlt : Bool → File → Type 0
+HasPlt plt file = plt ≡ true → IsRead (plt_parts file)
 
-abbrev pub AreEnough : Bool → Image → Type 0
-AreEnough symbols image =
-    IsRead (elf_file_of image) × IfOk (elf_file_of image) (λ file. HasAll symbols file)
+abbrev pub HasAll : Needed → File → Type 0
+HasAll needed file =
+    HasEhFrame file × HasDebugFrame file × HasSymbols needed.symbols file × HasPlt needed.plt file
 
-abbrev pub IsEnoughOf : Option (List ℕ) → Bool → Image → Type 0
-IsEnoughOf known symbols image = AreOfInput known image × AreEnough symbols image
+abbrev pub AreEnough : Needed → Image → Type 0
+AreEnough needed image =
+    IsRead (elf_file_of image) × IfOk (elf_file_of image) (λ file. HasAll needed file)
+
+abbrev pub IsEnoughOf : Option (List ℕ) → Needed → Image → Type 0
+IsEnoughOf known needed image = AreOfInput known image × AreEnough needed image

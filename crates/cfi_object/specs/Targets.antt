@@ -1,12 +1,16 @@
 -- The addresses that a word names in an ELF file.
 --     target_addresses file word      a number; the name of symbols or a section; or such a name, a
---         plus sign and a number. Behind the name of a symbol may stand an @ and its version
-use Rattle.std.specs.Prelude.{◌≡◌, ◌⊎◌, ℕ, ◌+◌, Bool, List, [], ◌∷◌, length, Option, Some, None}
-use Rattle.std.specs.Prelude.{Result, Ok, Err, ◌==◌, if◌then◌else◌}
+--         plus sign and a number. Behind the name of a symbol may stand an @ and its version, or
+--         @plt for its entries in the procedure linkage table
+--     names_entry word      whether the name in a word is of such entries
+use Rattle.std.specs.Prelude.{◌≡◌, ◌⊎◌, ℕ, ◌+◌, ◌-◌, Bool, true, false, List, [], ◌∷◌, length, take}
+use Rattle.std.specs.Prelude.{drop, Option, Some, None, Result, Ok, Err, codes, ◌==◌, if◌then◌else◌}
 use Rattle.std.specs.List.{after_first, before_first, filter_map, position_or_len}
+use Rattle.std.specs.Str.{bytes_eq}
 use Rattle.cfi_elf.specs.declared.error.ElfError.{ElfError}
 use Rattle.cfi_elf.specs.declared.error.ElfError.TheVariants.{OutOfMemory}
 use Rattle.cfi_elf.specs.ElfFiles.{File}
+use Rattle.cfi_elf.specs.PltAddresses.{plt_addresses}
 use Rattle.cfi_elf.specs.Sections.{section_address}
 use Rattle.cfi_elf.specs.SymbolAddresses.{symbol_addresses}
 use Rattle.cfi_object.specs.Numbers.{below_2_64, number}
@@ -56,11 +60,27 @@ without_version file name =
     then Ok []
     else symbols_named file (before_first is_at name)
 
--- of what has the whole name, or else of the symbols without the version
+-- what stands before @plt at the end of a name
+abbrev pub before_plt : List ℕ → Option (List ℕ)
+before_plt name =
+    let size = length name - 4 in
+    if bytes_eq (drop size name) (codes "@plt") then Some (take size name) else None
+
+-- of the entries of the procedure linkage table that go to the symbols of this name
+abbrev pub entries_named : File → List ℕ → Result (List ℕ) ElfError
+entries_named file name = if length name == 0 then Ok [] else plt_addresses file name
+
+-- of those where @plt ends the name, as objdump(1) prints them, and else of the symbols without the
+-- version
+abbrev pub by_ending : File → List ℕ → Option (List ℕ) → Result (List ℕ) ElfError
+by_ending file name (Some symbol) = entries_named file symbol
+by_ending file name None = without_version file name
+
+-- of what has the whole name, or else of what the ending says
 unfoldable pub with_version_or_not : File → List ℕ → Result (List ℕ) ElfError
 with_version_or_not file name = do
   found ← symbols_or_section file name
-  or_others found (without_version file name)
+  or_others found (by_ending file name (before_plt name))
 
 abbrev pub addresses_named : File → List ℕ → Result (List ℕ) ElfError
 addresses_named file name = if length name == 0 then Ok [] else with_version_or_not file name
@@ -91,3 +111,18 @@ number_or_name file word None = addresses_by_name file word
 
 abbrev pub target_addresses : File → List ℕ → Result (List ℕ) ElfError
 target_addresses file word = number_or_name file word (number word)
+
+-- ---- which words name entries of the procedure linkage table
+
+abbrev pub is_there : Option (List ℕ) → Bool
+is_there None = false
+is_there (Some name) = true
+
+abbrev pub ends_with_plt : List ℕ → Bool
+ends_with_plt name = is_there (before_plt name)
+
+abbrev pub names_entry : List ℕ → Bool
+names_entry word =
+    if position_or_len is_plus word == length word
+    then ends_with_plt word
+    else ends_with_plt (before_first is_plus word)

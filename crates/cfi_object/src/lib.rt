@@ -16,6 +16,6 @@ pub use call_frames::{bases_at, debug_frame, eh_frame, section_in};
 pub use input::{FileInput, InputError};
 pub use machine_names::names_in;
 pub use numbers::number_in;
-pub use parts::{FileParts, read_parts, read_whole};
+pub use parts::{FileParts, Needed, read_parts, read_whole};
 pub use register_names::RegisterNames;
-pub use target::target_addresses;
+pub use target::{names_entry, target_addresses};

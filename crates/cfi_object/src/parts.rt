@@ -3,7 +3,8 @@ ghost use Rattle.std.specs.Prelude.{◌≡◌, ◌≤◌, IfNone, IfOk, length, 
 ghost use Rattle.cfi_elf.specs.ElfFiles.{file_view};
 ghost use Rattle.cfi_elf.specs.Images.{image_view, part_view, parts_view};
 ghost use Rattle.cfi_object.specs.FileParts.{AreEnough, AreLeft, AreOfInput, IsEnoughOf, IsLength};
-ghost use Rattle.cfi_object.specs.FileParts.{HasDebugFrame, HasEhFrame, HasSymbols, IsOther};
+ghost use Rattle.cfi_object.specs.FileParts.{HasDebugFrame, HasEhFrame, HasPlt, HasSymbols};
+ghost use Rattle.cfi_object.specs.FileParts.{IsOther};
 ghost use Rattle.cfi_object.specs.FileParts.{are_apart, image_of, is_apart, is_free};
 
 use crate::call_frames::{debug_frame, eh_frame};
@@ -16,6 +17,15 @@ const FIRST_SIZE: u64 = 4096;
 
 /// How many parts are read before the whole file is.
 const MOST_PARTS: usize = 32;
+
+/// What is needed of a file beside its call frames.
+#[derive(Clone, Copy)]
+pub struct Needed {
+    /// The symbols, for the names and addresses of functions.
+    pub symbols: bool,
+    /// The procedure linkage table, with what says where its entries go.
+    pub plt: bool,
+}
 
 /// The parts of a file that were read.
 #[derive(Drop)]
@@ -68,44 +78,44 @@ fn is_apart(part: &FilePart, start: u64, end: u64) -> bool
     end <= part.offset || (size <= start && part.offset <= start - size)
 }
 
-/// Reads the parts of a file that are needed for its sections of call frames, and if asked for
-/// those of its symbols.
+/// Reads the parts of a file that are needed for its sections of call frames, and for what
+/// else is needed.
 ///
 /// The first is the beginning of the file. Then each missing part is read; the whole file where a
 /// part has bytes that were read, or there are too many. Fails with `Unreadable` where a read
 /// fails, and with `OutOfMemory`. Allocates for the parts.
 pub fn read_parts<I: FileInput>(
     alloc: Global,
-    symbols: bool,
+    needed: Needed,
     input: &mut I,
 ) -> Result<FileParts, InputError>
-    ensures read { IfOk result (λ parts. IsEnoughOf (I.bytes input.old) symbols (image_of parts)) }
+    ensures read { IfOk result (λ parts. IsEnoughOf (I.bytes input.old) needed (image_of parts)) }
     ensures same { I.bytes input.new ≡ I.bytes input.old }
 {
     let mut parts = begin(alloc, input)?;
     for _ in 0..MOST_PARTS {
-        match unread(parts.image(), symbols) {
+        match unread(parts.image(), needed) {
             Some((offset, size)) => parts = with_part(alloc, parts, offset, size, input)?,
             None => return Ok(parts),
         }
     }
-    read_rest(alloc, symbols, parts, input)
+    read_rest(alloc, needed, parts, input)
 }
 
-/// Reads the whole file. This is a guard that ends the reading of parts: some ten are asked for at
-/// most.
+/// Reads the whole file. This is a guard that ends the reading of parts: some twenty are asked for
+/// at most.
 fn read_rest<I: FileInput>(
     alloc: Global,
-    symbols: bool,
+    needed: Needed,
     parts: FileParts,
     input: &mut I,
 ) -> Result<FileParts, InputError>
     requires { AreOfInput (I.bytes input.old) (image_of parts) }
-    ensures read { IfOk result (λ parts. IsEnoughOf (I.bytes input.old) symbols (image_of parts)) }
+    ensures read { IfOk result (λ parts. IsEnoughOf (I.bytes input.old) needed (image_of parts)) }
     ensures same { I.bytes input.new ≡ I.bytes input.old }
 {
     let parts = first_part(alloc, parts.length, parts.length, input)?;
-    match unread(parts.image(), symbols) {
+    match unread(parts.image(), needed) {
         Some(_) => Err(InputError::Unreadable),
         None => Ok(parts),
     }
@@ -218,20 +228,21 @@ fn more<I: FileInput>(
 }
 
 /// Returns the offset and the size of a part that is needed and was not read, if there is one.
-fn unread(image: Image<'_>, symbols: bool) -> Option<(u64, u64)>
-    ensures { IfNone result (AreEnough symbols (image_view image.entry)) }
+fn unread(image: Image<'_>, needed: Needed) -> Option<(u64, u64)>
+    ensures { IfNone result (AreEnough needed (image_view image.entry)) }
 {
     match ElfFile::of_image(image) {
-        Ok(file) => unread_in(&file, symbols),
+        Ok(file) => unread_in(&file, needed),
         Err(error) => place_in(error),
     }
 }
 
 /// Returns the same for a file whose header was read.
-fn unread_in(file: &ElfFile<'_>, symbols: bool) -> Option<(u64, u64)>
+fn unread_in(file: &ElfFile<'_>, needed: Needed) -> Option<(u64, u64)>
     ensures eh_frame { IfNone result (HasEhFrame (file_view file.now)) }
     ensures debug_frame { IfNone result (HasDebugFrame (file_view file.now)) }
-    ensures symbols { IfNone result (HasSymbols symbols (file_view file.now)) }
+    ensures symbols { IfNone result (HasSymbols needed.symbols (file_view file.now)) }
+    ensures plt { IfNone result (HasPlt needed.plt (file_view file.now)) }
 {
     // Each is a search by name, so the next is asked only where this one lacks nothing.
     if let Some(place) = unread_eh_frame(file) {
@@ -240,7 +251,10 @@ fn unread_in(file: &ElfFile<'_>, symbols: bool) -> Option<(u64, u64)>
     if let Some(place) = unread_debug_frame(file) {
         return Some(place);
     }
-    unread_symbols(file, symbols)
+    if let Some(place) = unread_symbols(file, needed.symbols) {
+        return Some(place);
+    }
+    unread_plt(file, needed.plt)
 }
 
 /// Returns the same for `.eh_frame` and what belongs to it.
@@ -271,6 +285,19 @@ fn unread_symbols(file: &ElfFile<'_>, symbols: bool) -> Option<(u64, u64)>
         return None;
     }
     match file.symbols_read() {
+        Ok(()) => None,
+        Err(error) => place_in(error),
+    }
+}
+
+/// Returns the same for the procedure linkage table, where it is needed.
+fn unread_plt(file: &ElfFile<'_>, plt: bool) -> Option<(u64, u64)>
+    ensures { IfNone result (HasPlt plt (file_view file.now)) }
+{
+    if !plt {
+        return None;
+    }
+    match file.plt_read() {
         Ok(()) => None,
         Err(error) => place_in(error),
     }

@@ -1,10 +1,12 @@
 //! The addresses that a word names in an ELF file.
-ghost use Rattle.std.specs.Prelude.{◌≡◌, ◌∷◌, [], IfErr, IfOk, Ok};
+ghost use Rattle.std.specs.Prelude.{◌≡◌, ◌∷◌, [], IfErr, IfOk, Ok, option_map};
 ghost use Rattle.cfi_elf.specs.declared.error.ElfError.TheVariants.{OutOfMemory};
 ghost use Rattle.cfi_elf.specs.ElfFiles.{file_view};
 ghost use Rattle.cfi_object.specs.Targets.{IsOrNoMemory, addresses_by_name, addresses_named};
-ghost use Rattle.cfi_object.specs.Targets.{behind_name, moved, moved_by, section_addresses};
-ghost use Rattle.cfi_object.specs.Targets.{symbols_named, symbols_or_section, target_addresses};
+ghost use Rattle.cfi_object.specs.Targets.{before_plt, behind_name, by_ending, ends_with_plt};
+ghost use Rattle.cfi_object.specs.Targets.{entries_named, moved, moved_by, names_entry};
+ghost use Rattle.cfi_object.specs.Targets.{section_addresses, symbols_named, symbols_or_section};
+ghost use Rattle.cfi_object.specs.Targets.{target_addresses};
 ghost use Rattle.cfi_object.specs.Targets.{with_version_or_not, without_version};
 
 use crate::number_in;
@@ -13,15 +15,19 @@ use std::alloc::Global;
 
 /// The addresses that the word names: a number, as `crate::number_in` reads it; the name of
 /// symbols, or where no symbol has it of a section; or such a name, a plus sign and a number of
-/// bytes behind what it names. Where neither a symbol nor a section has a name with an `@`, what
-/// stands before the first one is the name of symbols: so `nm -D` prints a symbol with its version.
-/// No version is compared. The addresses of symbols are in the order of the symbols, each once.
+/// bytes behind what it names. Where neither a symbol nor a section has a name that ends with
+/// `@plt`, it names the entries of the procedure linkage table that go to the symbols of the name
+/// before that, as `objdump -d` prints them. Where none has any other name with an `@`, what stands
+/// before the first one is the name of symbols: so `nm -D` prints a symbol with its version. No
+/// version is compared. The addresses of symbols are in the order of the symbols, each once, those
+/// of entries as `ElfFile::plt_addresses` has them.
 ///
-/// There are none where neither a symbol nor a section has the name, what is behind the plus sign
-/// is no number, or no sum is below 2^64. The first plus sign ends the name.
+/// There are none where nothing has the name, what is behind the plus sign is no number, or no sum
+/// is below 2^64. The first plus sign ends the name.
 ///
 /// Fails as `ElfFile::symbol_addresses` and `ElfFile::section_address`, unless the word is a
-/// number; with `OutOfMemory`. Allocates the list.
+/// number, and as `ElfFile::plt_addresses` where it names entries; with `OutOfMemory`. Allocates
+/// the list.
 pub fn target_addresses(alloc: Global, file: &ElfFile<'_>, word: &str) -> Result<Vec<u64>, ElfError>
     ensures ok { IfOk result (λ found. target_addresses (file_view file.now) word.now
         ≡ Ok found.items) }
@@ -32,6 +38,31 @@ pub fn target_addresses(alloc: Global, file: &ElfFile<'_>, word: &str) -> Result
         Some(address) => alone(alloc, address),
         None => addresses_by_name(alloc, file, word),
     }
+}
+
+/// Returns whether the word names entries of the procedure linkage table, or what is behind these:
+/// whether its name ends with `@plt`. Does not allocate.
+pub fn names_entry(word: &str) -> bool
+    ensures { result ≡ names_entry word.now }
+{
+    match word.split_once('+') {
+        Some((name, _)) => ends_with_plt(name),
+        None => ends_with_plt(word),
+    }
+}
+
+/// Whether the name ends with `@plt`.
+fn ends_with_plt(name: &str) -> bool
+    ensures { result ≡ ends_with_plt name.now }
+{
+    before_plt(name).is_some()
+}
+
+/// What stands before `@plt` at the end of a name.
+fn before_plt(name: &str) -> Option<&[u8]>
+    ensures { option_map (λ found. found.now) result ≡ before_plt name.now }
+{
+    name.as_bytes().strip_suffix(b"@plt")
 }
 
 /// The list of an address. Fails with `OutOfMemory`.
@@ -118,8 +149,7 @@ fn addresses_named(alloc: Global, file: &ElfFile<'_>, name: &str) -> Result<Vec<
     with_version_or_not(alloc, file, name)
 }
 
-/// The addresses of the symbols or the section of this name, or else of the symbols without the
-/// version.
+/// The addresses of the symbols or the section of this name, or else of what its ending says.
 #[tactic(auto, unfolding(crate::specs::Targets::with_version_or_not))]
 fn with_version_or_not(alloc: Global, file: &ElfFile<'_>, name: &str) -> Result<Vec<u64>, ElfError>
     ensures ok { IfOk result (λ found. with_version_or_not (file_view file.now) name.now
@@ -129,10 +159,37 @@ fn with_version_or_not(alloc: Global, file: &ElfFile<'_>, name: &str) -> Result<
 {
     let found = symbols_or_section(alloc, file, name.as_bytes())?;
     if found.as_slice().is_empty() {
-        without_version(alloc, file, name)
+        by_ending(alloc, file, name)
     } else {
         Ok(found)
     }
+}
+
+/// The addresses of the entries of the procedure linkage table, or of the symbols without the
+/// version.
+fn by_ending(alloc: Global, file: &ElfFile<'_>, name: &str) -> Result<Vec<u64>, ElfError>
+    ensures ok { IfOk result (λ found. by_ending (file_view file.now) name.now
+        (before_plt name.now) ≡ Ok found.items) }
+    ensures err { IfErr result (λ e.
+        IsOrNoMemory (by_ending (file_view file.now) name.now (before_plt name.now)) e) }
+{
+    match before_plt(name) {
+        Some(symbol) => entries_named(alloc, file, symbol),
+        None => without_version(alloc, file, name),
+    }
+}
+
+/// The addresses of the entries that go to the symbols of this name, unless it is empty.
+fn entries_named(alloc: Global, file: &ElfFile<'_>, name: &[u8]) -> Result<Vec<u64>, ElfError>
+    ensures ok { IfOk result (λ found. entries_named (file_view file.now) name.now
+        ≡ Ok found.items) }
+    ensures err { IfErr result (λ e.
+        IsOrNoMemory (entries_named (file_view file.now) name.now) e) }
+{
+    if name.is_empty() {
+        return Ok(Vec::new(alloc));
+    }
+    file.plt_addresses(alloc, name)
 }
 
 /// The addresses of the symbols whose name stands before the first `@`.

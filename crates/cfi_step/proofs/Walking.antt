@@ -7,7 +7,7 @@ use Rattle.cfi_step.specs.declared.step.Caller.{Caller}
 use Rattle.cfi_step.specs.declared.walk.Start.{Start}
 use Rattle.cfi_step.specs.declared.walk.End.{End}
 use Rattle.cfi_step.specs.declared.walk.End.TheVariants.{NoModule, NoRoom}
-use Rattle.cfi_step.specs.Walks.{State, IsStepOf, IsWalkBy, checked, resumed, resumed_at}
+use Rattle.cfi_step.specs.Walks.{State, IsStepOf, IsWalkBy, caller_pc, checked, resumed, resumed_at}
 
 -- ---- what is not written
 
@@ -42,7 +42,7 @@ ends_otherwise c (Some pc) end is no_room = absurd (cc)
 
 -- a walk that a step ends doesn't end for want of room
 pub has_room : (step : Result Caller End) → (step ≡ Err NoRoom → ⊥) → (end : End) → Err end ≡ resumed step → end ≡ NoRoom → ⊥
-has_room (Ok c) room end is no_room = ends_otherwise c c.pc end is no_room
+has_room (Ok c) room end is no_room = ends_otherwise c (caller_pc c) end is no_room
 has_room (Err e) room end is no_room =
     let same : e ≡ end = cc in
     room (ap (λ (x : End). Err x) (same ∙ no_room))

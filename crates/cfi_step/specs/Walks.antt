@@ -7,7 +7,8 @@
 --     IsStepAmong, IsWalkAmong      the same by modules, a memory and an ABI
 --     IsStepOf, IsWalkBy      the same over modules and frames of any form
 --     AreWritten walk old new      where a walk's frames are in the room for them
-use Rattle.std.specs.Prelude.{◌≡◌, ◌⊎◌, ℕ, ◌≤◌, ◌||◌, Bool, true, List, [], ◌∷◌, drop, length}
+use Rattle.std.specs.Prelude.{◌≡◌, ◌⊎◌, ℕ, ◌≤◌, ◌==◌, ◌||◌, Bool, true, false, List, [], ◌∷◌}
+use Rattle.std.specs.Prelude.{drop, length}
 use Rattle.std.specs.Prelude.{is_none, nat_lt, Option, Some, None, Result, Ok, Err, OnErr}
 use Rattle.std.specs.Prelude.{if◌then◌else◌}
 use Rattle.cfi_read_core.specs.ReadFunctions.{Position}
@@ -40,11 +41,21 @@ abbrev pub rises_above : Option ℕ → Bool → ℕ → Bool
 rises_above None is_interrupted the_cfa = true
 rises_above (Some callee) is_interrupted the_cfa = is_interrupted || nat_lt callee the_cfa
 
+-- Where the caller goes on. No call returns to the address 0, which systems and languages put below
+-- the first frame of a thread; but a frame may have been interrupted there, after a call of it.
+abbrev pub goes_on_at : Bool → Option ℕ → Option ℕ
+goes_on_at true pc = pc
+goes_on_at false (Some pc) = if pc == 0 then None else Some pc
+goes_on_at false None = None
+
+abbrev pub caller_pc : Caller → Option ℕ
+caller_pc c = goes_on_at c.is_interrupted c.pc
+
 -- the step that was made, or the end of the walk; of the outermost frame, which may have no bytes
 -- on the stack, nothing is asked
 abbrev pub checked : Start → Result Caller FrameError → Result Caller End
 checked at (Ok c) =
-    if is_none c.pc || rises_above at.callee_cfa at.is_interrupted c.cfa
+    if is_none (caller_pc c) || rises_above at.callee_cfa at.is_interrupted c.cfa
     then Ok c
     else Err NotRising
 checked at (Err e) = Err (Failed e)
@@ -64,7 +75,7 @@ resumed_at c (Some pc) =
 resumed_at c None = Err Outermost
 
 abbrev pub resumed : Result Caller End → Result Start End
-resumed (Ok c) = resumed_at c c.pc
+resumed (Ok c) = resumed_at c (caller_pc c)
 resumed (Err end) = Err end
 
 -- ---- over modules and frames of any form

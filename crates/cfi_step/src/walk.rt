@@ -3,7 +3,7 @@ ghost use Rattle.std.specs.Prelude.{◌≡◌, ◌≤◌, ⊤, drop, length, tak
 ghost use Rattle.cfi_read_core.specs.AddressSizes.{size_in_bytes};
 ghost use Rattle.cfi_step.specs.CachedRows.{AreRightFor, StayRightFor};
 ghost use Rattle.cfi_step.specs.ModuleLists.{module_list};
-ghost use Rattle.cfi_step.specs.Walks.{IsStepFrom, IsWalk, IsWalkBy, checked, resumed};
+ghost use Rattle.cfi_step.specs.Walks.{IsStepFrom, IsWalk, IsWalkBy, caller_pc, checked, resumed};
 ghost use Rattle.cfi_step.specs.Walks.{rises_above, written};
 
 use crate::abi::Abi;
@@ -66,7 +66,8 @@ pub struct StackFrame {
 /// Why a walk has no more frames.
 #[derive(Clone, Copy, Debug, PartialEq, Eq)]
 pub enum End {
-    /// The last frame is the outermost one.
+    /// The last frame is the outermost one: its return address is undefined, or it is 0, which no
+    /// call returns to, and was not interrupted.
     Outermost,
     /// The last frame's pc is in the code of no module.
     NoModule,
@@ -205,7 +206,7 @@ pub fn resumed(step: Result<Caller, End>) -> Result<Start, End>
     ensures { result ≡ resumed step }
 {
     let caller = step?;
-    match caller.pc {
+    match caller_pc(&caller) {
         Some(pc) => Ok(Start {
             pc,
             is_interrupted: caller.is_interrupted,
@@ -306,13 +307,27 @@ pub fn checked(at: &Start, step: Result<Caller, FrameError>) -> Result<Caller, E
 {
     match step {
         Ok(caller) => {
-            if caller.pc.is_none() || rises(at, caller.cfa) {
+            if caller_pc(&caller).is_none() || rises(at, caller.cfa) {
                 Ok(caller)
             } else {
                 Err(End::NotRising)
             }
         }
         Err(error) => Err(End::Failed(error)),
+    }
+}
+
+/// Where the caller goes on; `None` where the frame is the outermost one. No call returns to the
+/// address 0.
+fn caller_pc(caller: &Caller) -> Option<u64>
+    ensures { result ≡ caller_pc caller.now }
+{
+    if caller.is_interrupted {
+        return caller.pc;
+    }
+    match caller.pc {
+        Some(0) => None,
+        pc => pc,
     }
 }
 
