@@ -22,7 +22,7 @@ use Rattle.cfi_elf.proofs.ImageParts.{part_of_part}
 use Rattle.cfi_elf.proofs.Images.{in_whole}
 use Rattle.cfi_processes.specs.declared.registers.SampleMachine.{SampleMachine}
 use Rattle.cfi_cores.specs.declared.error.CoreError.{CoreError}
-use Rattle.cfi_cores.specs.Contents.{Contents, followed_by, nothing, of_header, of_headers, of_segment}
+use Rattle.cfi_cores.specs.Contents.{Contents, followed_by, nothing, of_header, of_headers, of_part}
 use Rattle.cfi_cores.specs.CoreFiles.{Core, and_then as and_then_core, core_elf, core_headers, core_of, core_with, machine_of, or_elf_error}
 use Rattle.cfi_cores.specs.CoreParts.{note_ends_by, notes_end_by}
 use Rattle.cfi_cores.specs.CoreSegments.{bytes_of}
@@ -171,8 +171,8 @@ module _ (first bytes : List ℕ) (is : part bytes 0 (length first) ≡ Some fir
   same_note machine h ends = by (h.p_type == 4) (nat_le (h.p_offset + h.p_filesz) (length first)) refl ends
     where
       by : (notes fits : Bool) → nat_le (h.p_offset + h.p_filesz) (length first) ≡ fits → (not notes || fits) ≡ true
-          → (if notes then of_segment machine (bytes_of first h) else nothing) ≡ (if notes then of_segment machine (bytes_of bytes h) else nothing)
-      by true true is_fit ends = ap (of_segment machine) (same_part h.p_offset h.p_filesz (leb-true _ _ is_fit))
+          → (if notes then of_part machine h.p_filesz (bytes_of first h) else nothing) ≡ (if notes then of_part machine h.p_filesz (bytes_of bytes h) else nothing)
+      by true true is_fit ends = ap (of_part machine h.p_filesz) (same_part h.p_offset h.p_filesz (leb-true _ _ is_fit))
       by true false is_fit ends = absurd (cc)
       by false fits is_fit ends = refl
 

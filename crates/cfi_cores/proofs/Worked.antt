@@ -138,6 +138,32 @@ cut_in_the_notes : core_of (take 320 small) ≡ Ok (record {
 unfolding computing
 cut_in_the_notes = refl
 
+-- one that ends where the notes begin
+cut_before_the_notes : core_of (take 232 small) ≡ Ok (record {
+  machine = X86_64;
+  name = None;
+  threads = [];
+  mapped = [];
+  segments =
+      record { start = 0x9000; bytes = []; is_executable = false } ∷ record { start = 0x7000; bytes = []; is_executable = true } ∷ [];
+  error = Some NoteCut;
+})
+unfolding computing
+cut_before_the_notes = refl
+
+-- one that ends with the notes
+cut_behind_the_notes : core_of (take 324 small) ≡ Ok (record {
+  machine = X86_64;
+  name = None;
+  threads = [];
+  mapped = two_mappings;
+  segments =
+      record { start = 0x9000; bytes = []; is_executable = false } ∷ record { start = 0x7000; bytes = []; is_executable = true } ∷ [];
+  error = None;
+})
+unfolding computing
+cut_behind_the_notes = refl
+
 no_core : core_of (take 16 small ++ hex (codes "02") ++ drop 17 small) ≡ Err (Elf (NotCore 2))
 unfolding computing
 no_core = refl

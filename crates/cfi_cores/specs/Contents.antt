@@ -5,7 +5,8 @@
 --         the first counts
 --     of_headers machine bytes headers      what the notes of a file's segments say
 use Rattle.std.specs.Prelude.{ℕ, Bool, true, false, not, List, [], ◌∷◌, ◌++◌, map, codes, Option}
-use Rattle.std.specs.Prelude.{Some, None, Vec, option_map, nat_eq, ◌==◌, if◌then◌else◌}
+use Rattle.std.specs.Prelude.{Some, None, Vec, length, option_map, nat_eq, nat_lt, ◌==◌}
+use Rattle.std.specs.Prelude.{if◌then◌else◌}
 use Rattle.std.specs.Cmp.Lexicographic.{pointwise}
 use Rattle.cfi_elf.specs.declared.program_header.ProgramHeader.{ProgramHeader}
 use Rattle.cfi_elf.specs.Notes.{Note, Notes, notes_of}
@@ -117,10 +118,18 @@ of_all machine all = of_notes machine all.notes (cut_end all.is_cut)
 abbrev pub of_segment : SampleMachine → List ℕ → Contents
 of_segment machine bytes = of_all machine (notes_of false bytes)
 
+-- the notes of those bytes of a segment that the file has; where the segment has more, notes are
+-- cut, also behind a whole one
+abbrev pub of_part : SampleMachine → ℕ → List ℕ → Contents
+of_part machine size bytes =
+    followed_by (of_segment machine bytes) (cut_end (nat_lt (length bytes) size))
+
 -- PT_NOTE is 4
 abbrev pub of_header : SampleMachine → List ℕ → ProgramHeader → Contents
 of_header machine bytes header =
-    if header.p_type == 4 then of_segment machine (bytes_of bytes header) else nothing
+    if header.p_type == 4
+    then of_part machine header.p_filesz (bytes_of bytes header)
+    else nothing
 
 abbrev pub of_headers : SampleMachine → List ℕ → List ProgramHeader → Contents
 of_headers machine bytes [] = nothing

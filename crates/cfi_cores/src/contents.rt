@@ -4,7 +4,7 @@ ghost use Rattle.cfi_elf.specs.Notes.{note_view};
 ghost use Rattle.cfi_elf.specs.SegmentLists.{segments_left};
 ghost use Rattle.cfi_cores.specs.Contents.{contents_view, ended_by, files_found, followed_by};
 ghost use Rattle.cfi_cores.specs.Contents.{nothing, of_files, of_header, of_headers, of_name};
-ghost use Rattle.cfi_cores.specs.Contents.{of_note, of_segment, of_siginfo, of_thread};
+ghost use Rattle.cfi_cores.specs.Contents.{of_note, of_part, of_segment, of_siginfo, of_thread};
 ghost use Rattle.cfi_cores.specs.Contents.{of_vector, thread_found};
 
 use crate::error::CoreError;
@@ -89,7 +89,26 @@ impl<'run> Contents<'run> {
             ≡ followed_by (contents_view self.old) (of_header machine bytes.now header.now)) }
     {
         if header.p_type == PT_NOTE {
-            self.read_segment(alloc, machine, bytes_of(bytes, header))?;
+            self.read_part(alloc, machine, bytes_of(bytes, header), header.p_filesz)?;
+        }
+        Ok(())
+    }
+
+    /// Reads the notes too that a file has of a segment of this size. Where the file ends before
+    /// the segment does, notes are cut, even if the last one it has is whole.
+    fn read_part(
+        &mut self,
+        alloc: Global,
+        machine: SampleMachine,
+        bytes: &'run [u8],
+        size: u64,
+    ) -> Result<(), AllocError>
+        ensures { OnOk result (contents_view self.new
+            ≡ followed_by (contents_view self.old) (of_part machine size bytes.now)) }
+    {
+        self.read_segment(alloc, machine, bytes)?;
+        if (bytes.len() as u64) < size {
+            self.end(CoreError::NoteCut);
         }
         Ok(())
     }

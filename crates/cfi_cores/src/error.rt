@@ -14,7 +14,7 @@ pub enum CoreError {
     /// It is of another machine than x86-64 or AArch64, of 32 bits, or has the most significant
     /// byte first. Carries `e_machine`.
     UnknownMachine(u16),
-    /// Notes go on with bytes that are no whole note.
+    /// Notes go on with bytes that are no whole note, or the file ends before their segment does.
     NoteCut,
     /// What a note says of a thread (`NT_PRSTATUS`) has too few bytes for its registers.
     ThreadCut,

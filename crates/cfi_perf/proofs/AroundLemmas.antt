@@ -1,12 +1,12 @@
 -- A profile without its records is that of the whole bytes.
-use Rattle.std.proofs.Common.{◌/◌, ◌*◌, ◌≡◌, ◌≤◌, ◌<◌, ◌+◌, ◌-◌, ℕ, Bool, true, false, List, [], ◌∷◌, ◌++◌, Option, Some, None, Result, Ok, Err, refl, sym, ap, ◌∙◌, length, take, drop, arith, subst, ⊎_elim, min, append_assoc}
-use Rattle.std.specs.Prelude.{◌==◌, ◌&&◌, ◌||◌, not, if◌then◌else◌, nat_le, nat_lt, slice_range, map, codes, bit_and, count_ones}
-use Rattle.std.specs.List.{list_all, starts_with}
+use Rattle.std.proofs.Common.{◌/◌, ◌≡◌, ◌≤◌, ◌<◌, ◌+◌, ◌-◌, ℕ, Bool, true, false, List, [], ◌∷◌, ◌++◌, Option, Some, None, Result, Ok, Err, refl, sym, ap, ◌∙◌, length, take, drop, arith, subst, ⊎_elim, min, append_assoc}
+use Rattle.std.specs.Prelude.{◌==◌, ◌&&◌, ◌||◌, not, if◌then◌else◌, nat_le, nat_lt, slice_range, map, bit_and, count_ones}
+use Rattle.std.specs.List.{list_all}
 use Rattle.std.specs.Option.{is_some}
 use Rattle.std.specs.Int.{w64}
 use Rattle.std.proofs.Math.Seq.{drop-append-add, drop-append_seam, take-append_seam}
-use Rattle.std.proofs.lemmas.Bool.{le-leb, lt-leb, leb-true, le-ltb, ltb-false, ltb-true, cases_lt, eqb-true}
-use Rattle.std.proofs.lemmas.List.{drop-append-le, drop-drop, length-append, length-drop, length-take, take-append-drop, take-append-le, take_min, drop_min}
+use Rattle.std.proofs.lemmas.Bool.{le-leb, lt-leb, ltb-false, cases_lt, eqb-true}
+use Rattle.std.proofs.lemmas.List.{drop-append-le, drop-drop, length-append, length-drop, take-append-drop, take-append-le, take_min, drop_min}
 use Rattle.cfi_read_core.specs.declared.endianity.RunTimeEndian.{RunTimeEndian}
 use Rattle.cfi_read_core.specs.declared.error.Error.{Error}
 use Rattle.cfi_read_core.specs.ByteOrder.{is_big}
@@ -25,7 +25,7 @@ use Rattle.cfi_perf.specs.declared.attribute.EntryForm.TheVariants.{Sized}
 use Rattle.cfi_perf.specs.Pipes.{is_pipe, is_size}
 use Rattle.cfi_perf.specs.Profiles.{Profile, file_profile, pipe_profile, profile, profile_by}
 use Rattle.cfi_perf.specs.ProfilesAround.{IsAround, IsProfileAround, IsReadAs, has_all, has_feature, has_place, head_if, lies_between, profile_around, profile_of, sections_around}
-use Rattle.cfi_perf.specs.Sections.{EventSection, ProfileHead, Sections, architecture_in, behind_records, build_ids, descriptions, event_table, events_by, feature_place, feature_section, head_of, machine_by, or_nothing, records_at, sections_by, text_in}
+use Rattle.cfi_perf.specs.Sections.{EventSection, ProfileHead, Sections, architecture_in, behind_records, build_ids, descriptions, event_table, events_by, feature_place, feature_section, head_of, machine_by, or_nothing, records_at, text_in}
 use Rattle.cfi_perf.specs.FileHeaders.{byte_order, file_header, header_fields}
 use Rattle.cfi_perf.specs.FileParts.{Parts, or_other, part_behind, parts_around, parts_of}
 use Rattle.cfi_perf.proofs.FixedReads.{fixed_header, fixed_size, same_from}

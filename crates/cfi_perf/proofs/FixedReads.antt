@@ -1,10 +1,9 @@
 -- Reads that take a number of bytes: they give the same where more bytes follow these.
-use Rattle.std.proofs.Common.{◌≡◌, ◌≤◌, ◌+◌, ◌-◌, ℕ, Bool, List, ◌++◌, Result, Ok, refl, sym, ap, ◌∙◌, length, arith}
+use Rattle.std.proofs.Common.{◌≡◌, ◌≤◌, ◌+◌, ◌-◌, ℕ, Bool, List, ◌++◌, Ok, sym, ap, ◌∙◌, length, arith}
 use Rattle.std.specs.Prelude.{slice_range}
 use Rattle.std.specs.Int.{Width, w64, byte_len}
 use Rattle.std.proofs.lemmas.Bool.{le-leb}
 use Rattle.std.proofs.lemmas.List.{length-append}
-use Rattle.cfi_read_core.specs.declared.error.Error.{Error}
 use Rattle.cfi_read_core.specs.ReadFunctions.{Read, Source, Outcome, carry_on, give, ◌>>=◌}
 use Rattle.cfi_read_core.specs.Numbers.{unsigned, number_of}
 use Rattle.cfi_read_core.specs.SliceReaders.{slice_over}

@@ -1,18 +1,16 @@
 -- Records by their own bytes, one behind the other: what is found where other bytes follow.
-use Rattle.std.proofs.Common.{◌≡◌, ◌≤◌, ◌+◌, ◌-◌, ℕ, Bool, true, false, List, [], ◌++◌, Some, Result, Ok, Err, refl, sym, ap, ◌∙◌, length, drop, arith, length-append}
+use Rattle.std.proofs.Common.{◌≡◌, ◌≤◌, ◌-◌, ℕ, Bool, true, false, List, [], ◌++◌, Some, Result, Ok, Err, refl, sym, ap, ◌∙◌, length, drop, arith, length-append}
 use Rattle.std.specs.Prelude.{◌==◌, if◌then◌else◌, nat_lt}
-use Rattle.std.specs.Int.{w64}
 use Rattle.std.proofs.lemmas.Bool.{eqb-true, le-ltb, ltb-false, ne_eqb}
 use Rattle.std.proofs.lemmas.List.{drop-append-le, nil_from_length}
 use Rattle.cfi_read_core.specs.ByteOrder.{is_big}
-use Rattle.cfi_read_core.specs.Numbers.{unsigned}
 use Rattle.cfi_perf.specs.declared.error.PerfError.{PerfError}
 use Rattle.cfi_perf.specs.declared.error.PerfError.TheVariants.{RecordCut, RecordSize}
 use Rattle.cfi_perf.specs.declared.windows.RecordWalk.{RecordWalk}
 use Rattle.cfi_perf.specs.EventTables.{EventTable, table_view}
 use Rattle.cfi_perf.specs.Events.{Record}
 use Rattle.cfi_perf.specs.RecordHeaders.{record_header}
-use Rattle.cfi_perf.specs.Records.{First, Framed, after_record, first_record, record_of, split_record, with_first}
+use Rattle.cfi_perf.specs.Records.{First, Framed, after_record, first_record, record_of, split_record, uncounted_size, with_first}
 use Rattle.cfi_perf.specs.Results.{and_then, or_error, or_missing, part, read_from}
 use Rattle.cfi_perf.specs.Windows.{only_record, record_alone, records_in}
 use Rattle.cfi_perf.proofs.Chains.{gave, not_error, not_missing, not_refused}
@@ -21,14 +19,11 @@ use Rattle.cfi_perf.proofs.WindowSteps.{front_part, large, same_read, sized_by, 
 
 -- ---- with other bytes behind them
 
-after_more : (b : Bool) (trace : Result ℕ PerfError) (behind rest others : List ℕ) →
-    (if b then and_then trace (λ size. if nat_lt (length behind) size then Err RecordCut else Ok (drop size behind)) else Ok behind) ≡ Ok others → others ≡ [] →
-    ◌≡◌ {A = Result (List ℕ) PerfError} (if b then and_then trace (λ size. if nat_lt (length (behind ++ rest)) size then Err RecordCut else Ok (drop size (behind ++ rest))) else Ok (behind ++ rest)) (Ok rest)
-after_more false trace behind rest others is none =
-    let same : behind ≡ others = cc in
-    ap (λ (l : List ℕ). Ok (l ++ rest)) (same ∙ none)
-after_more true (Err e) behind rest others is none = absurd (cc)
-after_more true (Ok n) behind rest others is none =
+after_more : (trace : Result ℕ PerfError) (behind rest others : List ℕ) →
+    and_then trace (λ size. if nat_lt (length behind) size then Err RecordCut else Ok (drop size behind)) ≡ Ok others → others ≡ [] →
+    ◌≡◌ {A = Result (List ℕ) PerfError} (and_then trace (λ size. if nat_lt (length (behind ++ rest)) size then Err RecordCut else Ok (drop size (behind ++ rest)))) (Ok rest)
+after_more (Err e) behind rest others is none = absurd (cc)
+after_more (Ok n) behind rest others is none =
     let left = not_refused (nat_lt (length behind) n) RecordCut (Ok (drop n behind)) others is in
     let same : drop n behind ≡ others = let e = left.1 in cc in
     let fits : n ≤ length behind = ltb-false (length behind) n left.0 in
@@ -56,7 +51,7 @@ module _ (big : Bool) (bytes rest : List ℕ) where
       let second = large big all header.value some in
       let third = sized_by big all header.value (Some body.value) (front_part bytes rest 8 (header.value.size - 8) fits ∙ was) in
       let behind : drop header.value.size all ≡ drop header.value.size bytes ++ rest = drop-append-le header.value.size bytes rest (omega (arith, fits, some)) in
-      let last = after_more (header.value.kind == 71) (or_error RecordCut (read_from big body.value (unsigned w64))) (drop header.value.size bytes) rest others.value others.was (ap (λ (f : Framed). f.others) same ∙ none) in
+      let last = after_more (uncounted_size big header.value body.value) (drop header.value.size bytes) rest others.value others.was (ap (λ (f : Framed). f.others) same ∙ none) in
       first ∙ (second ∙ (third ∙ (ap (λ (l : List ℕ). and_then (after_record big header.value body.value l) (with_others header.value body.value)) behind
       ∙ (ap (λ (r : Result (List ℕ) PerfError). and_then r (with_others header.value body.value)) last
       ∙ ap (λ (f : Framed). with_others f.header f.body rest) same))))

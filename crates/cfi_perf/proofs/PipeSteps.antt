@@ -1,8 +1,8 @@
 -- The records of a pipe, one after the other.
-use Rattle.std.proofs.Common.{◌≡◌, ◌<◌, ◌≤◌, ◌+◌, ◌-◌, ℕ, Bool, true, false, List, Option, Some, None, Result, Ok, Err, ap, ◌∙◌, arith, drop}
+use Rattle.std.proofs.Common.{◌≡◌, ◌<◌, ◌≤◌, ◌+◌, ◌-◌, ℕ, Bool, true, false, List, [], ◌==◌, Some, None, Result, Ok, Err, ap, ◌∙◌, arith, drop}
 use Rattle.std.specs.Prelude.{if◌then◌else◌}
 use Rattle.cfi_perf.specs.declared.error.PerfError.{PerfError}
-use Rattle.cfi_perf.specs.Pipes.{attributes_up_to, count_with, events_of, feature_up_to, is_feature, section_with}
+use Rattle.cfi_perf.specs.Pipes.{attributes_up_to, build_ids_up_to, build_ids_with, count_with, events_of, feature_up_to, is_feature, section_with}
 use Rattle.cfi_perf.specs.Records.{Framed, split_record}
 use Rattle.cfi_perf.proofs.EntrySteps.{one_more}
 
@@ -47,3 +47,26 @@ module _ (count index : ℕ) (big : Bool) (records : List ℕ) where
     pub no_section : count ≤ index → feature_up_to (count - index) big number records ≡ None
     unfolding feature_up_to
     no_section passed = let none : count - index ≡ 0 = omega arith in ap (λ (n : ℕ). feature_up_to n big number records) none
+
+  -- ---- from which on they have builds
+  first_build : index < count → (r : Result Framed PerfError) → split_record big records ≡ r → build_ids_up_to (count - index) big records ≡ build_ids_with records r (build_ids_up_to (count - (index + 1)) big)
+  unfolding build_ids_up_to
+  first_build inside r is =
+      ap (λ (n : ℕ). build_ids_up_to n big records) (one_more count index inside)
+      ∙ ap (λ (r : Result Framed PerfError). build_ids_with records r (build_ids_up_to (count - (index + 1)) big)) is
+
+  pub build_here : (r : Framed) → index < count → split_record big records ≡ Ok r → (r.header.kind == 67) ≡ true → build_ids_up_to (count - index) big records ≡ records
+  build_here r inside is has =
+      first_build inside (Ok r) is ∙ ap (λ (b : Bool). if b then records else build_ids_up_to (count - (index + 1)) big r.others) has
+
+  pub build_later : (r : Framed) → index < count → split_record big records ≡ Ok r → (r.header.kind == 67) ≡ false
+      → build_ids_up_to (count - index) big records ≡ build_ids_up_to (count - (index + 1)) big r.others
+  build_later r inside is other =
+      first_build inside (Ok r) is ∙ ap (λ (b : Bool). if b then records else build_ids_up_to (count - (index + 1)) big r.others) other
+
+  pub build_refused : (e : PerfError) → index < count → split_record big records ≡ Err e → build_ids_up_to (count - index) big records ≡ []
+  build_refused e inside is = first_build inside (Err e) is
+
+  pub no_build : count ≤ index → build_ids_up_to (count - index) big records ≡ []
+  unfolding build_ids_up_to
+  no_build passed = let none : count - index ≡ 0 = omega arith in ap (λ (n : ℕ). build_ids_up_to n big records) none

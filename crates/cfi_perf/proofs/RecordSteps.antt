@@ -11,7 +11,7 @@ use Rattle.cfi_perf.specs.EventTables.{EventTable}
 use Rattle.cfi_perf.specs.Events.{Record}
 use Rattle.cfi_perf.specs.Results.{and_then, or_error, or_missing, part, read_from}
 use Rattle.cfi_perf.specs.RecordHeaders.{record_header}
-use Rattle.cfi_perf.specs.Records.{First, Framed, Records, after_record, first_record, split_record, no_records, record_of, records_of, records_up_to, records_with, until_cut, with_first}
+use Rattle.cfi_perf.specs.Records.{First, Framed, Records, after_record, first_record, split_record, no_records, record_of, records_of, records_up_to, records_with, uncounted_size, until_cut, with_first}
 use Rattle.cfi_perf.proofs.Chains.{gave, not_missing, not_refused}
 
 -- ---- a record takes a byte at least
@@ -23,8 +23,8 @@ some_part false xs ys is = absurd (cc)
 pub part_fits : (bytes : List ℕ) (offset size : ℕ) (found : List ℕ) → part bytes offset size ≡ Some found → offset + size ≤ length bytes
 part_fits bytes offset size found is = leb-true _ _ (some_part (nat_le (offset + size) (length bytes)) (slice_range bytes offset (offset + size)) found is)
 
-after_trace : (behind others : List ℕ) (trace : Result ℕ PerfError) → and_then trace (λ size. if nat_lt (length behind) size then Err RecordCut else Ok (drop size behind)) ≡ Ok others → length others ≤ length behind
-after_trace behind others trace is =
+after_size : (behind others : List ℕ) (trace : Result ℕ PerfError) → and_then trace (λ size. if nat_lt (length behind) size then Err RecordCut else Ok (drop size behind)) ≡ Ok others → length others ≤ length behind
+after_size behind others trace is =
     let size = gave trace (λ size. if nat_lt (length behind) size then Err RecordCut else Ok (drop size behind)) others is in
     let left = not_refused (nat_lt (length behind) size.value) RecordCut (Ok (drop size.value behind)) others size.gives in
     let same : drop size.value behind ≡ others = let e = left.1 in cc in
@@ -32,12 +32,8 @@ after_trace behind others trace is =
     let less = length-drop size.value behind in
     omega (arith, count, less)
 
-after_other : (b : Bool) (behind others : List ℕ) (trace : Result (List ℕ) PerfError) → (trace ≡ Ok others → length others ≤ length behind) → (if b then trace else Ok behind) ≡ Ok others → length others ≤ length behind
-after_other true behind others trace h is = h is
-after_other false behind others trace h is = let same : behind ≡ others = cc in let count : length behind ≡ length others = ap length same in omega (arith, count)
-
 pub no_more_after : (big : Bool) (header : RecordHeader) (body behind others : List ℕ) → after_record big header body behind ≡ Ok others → length others ≤ length behind
-no_more_after big header body behind others is = after_other (header.kind == 71) behind others _ (after_trace behind others _) is
+no_more_after big header body behind others is = after_size behind others (uncounted_size big header body) is
 
 -- what follows the record in a result, or else this
 abbrev others_of : Result Framed PerfError → List ℕ → List ℕ

@@ -1,7 +1,7 @@
 -- The first record of bytes of which only a window is at hand.
 use Rattle.std.proofs.Common.{◌≡◌, ◌<◌, ◌≤◌, ◌+◌, ◌-◌, ◌≢◌, ℕ, Bool, true, false, List, [], ◌++◌, Option, Some, None, Result, Ok, Err, refl, sym, ap, ◌∙◌, length, take, drop, arith, ◌⊎◌, ⊎_elim, min, append-nil, inl, inr}
 use Rattle.std.specs.Prelude.{◌==◌, if◌then◌else◌, nat_le, nat_lt, slice_range}
-use Rattle.std.specs.Int.{Width, w16, w32, w64, byte_len}
+use Rattle.std.specs.Int.{Width, w16, w32, byte_len}
 use Rattle.std.proofs.lemmas.Bool.{le-leb, lt-ltb, le-ltb, ltb-false, cases_lt, eq-eqb, ne_eqb}
 use Rattle.std.proofs.lemmas.List.{drop-append-le, drop-drop, drop_min, length-append, length-drop, length-take, take-append-le, nil_from_length, take-append-drop}
 use Rattle.cfi_read_core.specs.declared.error.Error.{Error}
@@ -13,7 +13,7 @@ use Rattle.cfi_perf.specs.declared.error.PerfError.TheVariants.{RecordCut, Recor
 use Rattle.cfi_perf.specs.declared.records.RecordHeader.{RecordHeader}
 use Rattle.cfi_perf.specs.Results.{and_then, or_error, or_missing, part, read_from}
 use Rattle.cfi_perf.specs.RecordHeaders.{record_header}
-use Rattle.cfi_perf.specs.Records.{First, Framed, after_record, first_record, record_of, split_record, without_id}
+use Rattle.cfi_perf.specs.Records.{First, Framed, HasUncounted, after_record, first_record, record_of, split_record, uncounted_size, without_id}
 use Rattle.cfi_perf.specs.EventTables.{EventTable}
 use Rattle.cfi_perf.specs.Events.{OtherEvent, Record}
 use Rattle.cfi_perf.specs.Windows.{IsWindow, only_record}
@@ -181,16 +181,12 @@ module _ (events : EventTable) (big : Bool) (bytes : List ℕ) where
 abbrev bytes_found : List ℕ → Result (List ℕ) PerfError
 bytes_found l = Ok l
 
-after_alone : (b : Bool) (trace : Result ℕ PerfError) (behind front others : List ℕ) →
-    (if b then and_then trace (λ size. if nat_lt (length behind) size then Err RecordCut else Ok (drop size behind)) else Ok behind) ≡ Ok others →
+after_alone : (trace : Result ℕ PerfError) (behind front others : List ℕ) →
+    and_then trace (λ size. if nat_lt (length behind) size then Err RecordCut else Ok (drop size behind)) ≡ Ok others →
     length front ≡ length behind - length others →
-    (if b then and_then trace (λ size. if nat_lt (length front) size then Err RecordCut else Ok (drop size front)) else Ok front) ≡ Ok []
-after_alone false trace behind front others is count =
-    let same : behind ≡ others = cc in
-    let none : front ≡ [] = nil_from_length front (omega (arith, count, ap length same)) in
-    ap (λ (l : List ℕ). bytes_found l) none
-after_alone true (Err e) behind front others is count = absurd (cc)
-after_alone true (Ok n) behind front others is count =
+    and_then trace (λ size. if nat_lt (length front) size then Err RecordCut else Ok (drop size front)) ≡ Ok []
+after_alone (Err e) behind front others is count = absurd (cc)
+after_alone (Ok n) behind front others is count =
     let left = not_refused (nat_lt (length behind) n) RecordCut (Ok (drop n behind)) others is in
     let same : drop n behind ≡ others = let e = left.1 in cc in
     let fits : n ≤ length behind = ltb-false (length behind) n left.0 in
@@ -235,7 +231,7 @@ module _ (big : Bool) (bytes : List ℕ) (n : ℕ) where
       let first = split_with big front header.value read in
       let second = large big front header.value some in
       let third = sized_by big front header.value (Some body.value) (front_body (header.value.size - 8) (omega (arith, within, some)) ∙ was) in
-      let last = after_alone (header.value.kind == 71) (or_error RecordCut (read_from big body.value (unsigned w64))) (drop header.value.size bytes) (drop header.value.size front) others.value others.was behind in
+      let last = after_alone (uncounted_size big header.value body.value) (drop header.value.size bytes) (drop header.value.size front) others.value others.was behind in
       first ∙ (second ∙ (third ∙ (ap (λ (r : Result (List ℕ) PerfError). and_then r (with_others header.value body.value)) last
       ∙ ap (λ (f : Framed). with_others f.header f.body []) same)))
 
@@ -272,7 +268,7 @@ some_bytes bytes left all some = ne_eqb (length bytes) 0 (λ none. some (sym all
 pub window_length : (window others : List ℕ) (left : ℕ) → IsWindow window others left → length (window ++ others) ≡ left
 window_length window others left of = length-append window others ∙ of.all
 
--- ---- a record behind which a trace may be says nothing
+-- ---- a record behind which bytes may be that its size doesn't count says nothing
 
 of_trace : (events : EventTable) (big : Bool) (header : RecordHeader) (body : List ℕ) (r : Record) → record_of events big (record header { kind = 71 }) body ≡ Ok r → r.event ≡ OtherEvent
 unfolding record_of
@@ -281,6 +277,15 @@ of_trace events big header body r is =
     let same : record { time = time.value.time; event = OtherEvent } ≡ r = let e = time.gives in cc in
     sym (ap (λ (r : Record). r.event) same)
 
-pub trace_tells_nothing : (events : EventTable) (big : Bool) (header : RecordHeader) (body : List ℕ) (r : Record) → header.kind ≡ 71 → Ok r ≡ record_of events big header body → r.event ≡ OtherEvent
-trace_tells_nothing events big header body r kind is =
+of_descriptions : (events : EventTable) (big : Bool) (header : RecordHeader) (body : List ℕ) (r : Record) → record_of events big (record header { kind = 66 }) body ≡ Ok r → r.event ≡ OtherEvent
+unfolding record_of
+of_descriptions events big header body r is =
+    let time = gave (without_id events big 66 body) (λ found. Ok (record { time = found.time; event = OtherEvent })) r is in
+    let same : record { time = time.value.time; event = OtherEvent } ≡ r = let e = time.gives in cc in
+    sym (ap (λ (r : Record). r.event) same)
+
+pub tells_nothing : (events : EventTable) (big : Bool) (header : RecordHeader) (body : List ℕ) (r : Record) → HasUncounted header.kind → Ok r ≡ record_of events big header body → r.event ≡ OtherEvent
+tells_nothing events big header body r (inl kind) is =
     of_trace events big header body r (ap (λ (k : ℕ). record_of events big (record header { kind = k }) body) (sym kind) ∙ sym is)
+tells_nothing events big header body r (inr kind) is =
+    of_descriptions events big header body r (ap (λ (k : ℕ). record_of events big (record header { kind = k }) body) (sym kind) ∙ sym is)

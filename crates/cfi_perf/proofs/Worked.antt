@@ -18,14 +18,14 @@ use Rattle.cfi_perf.specs.Events.{LostEvent, lost, lost_samples, Mapping, own_bu
 use Rattle.cfi_perf.specs.RecordHeaders.{record_header}
 use Rattle.cfi_perf.specs.Records.{split_record, id_of, id_up_to, with_build_id, sample_id_time, without_id, record_of, first_record, records_up_to, records_of}
 use Rattle.cfi_perf.specs.Sections.{EventSection, ProfileHead, Sections, head_of, architecture_in, build_ids, descriptions, event_table, events_by, machine_by}
-use Rattle.cfi_perf.specs.Pipes.{attributes_up_to, feature_up_to, pipe_head}
+use Rattle.cfi_perf.specs.Pipes.{attributes_up_to, build_ids_up_to, feature_up_to, pipe_head}
 use Rattle.cfi_perf.specs.Profiles.{Profile, file_profile, profile, profile_records}
 use Rattle.cfi_perf.specs.declared.attribute.EntryForm.TheVariants.{Sized}
 use Rattle.cfi_perf.specs.ProfilesAround.{profile_around}
 
 -- to name it on an `unfolding` line is to open all these
 unfoldable computing : ℕ
-unfolding unsigned items entries sample_format sample_id_all chosen sized_attribute attribute event pipe_event file_section feature_bits header_fields file_header thread sample_numbers processor later_numbers group_values single_value call_chain raw_data branch_stack lists registers copied_stack stack user_state sample mapped_range mapping mapping2 program fork lost lost_samples record_header split_record sample_id_time without_id record_of first_record id_up_to records_up_to behind_others described description events_by attributes_up_to feature_up_to pipe_head file_profile profile profile_around architecture_in descriptions build_ids event_table header_text lib.Count.ones
+unfolding unsigned items entries sample_format sample_id_all chosen sized_attribute attribute event pipe_event file_section feature_bits header_fields file_header thread sample_numbers processor later_numbers group_values single_value call_chain raw_data branch_stack lists registers copied_stack stack user_state sample mapped_range mapping mapping2 program fork lost lost_samples record_header split_record sample_id_time without_id record_of first_record id_up_to records_up_to behind_others described description events_by attributes_up_to build_ids_up_to feature_up_to pipe_head file_profile profile profile_around architecture_in descriptions build_ids event_table header_text lib.Count.ones
 computing = 0
 
 -- the bytes of hexadecimal text, whose letters are small
@@ -344,10 +344,33 @@ another_later_event : pipe_head Little (piped_records ++ piped_records) ≡ Err 
 unfolding computing
 another_later_event = refl
 
--- with descriptions of tracepoints behind the event
-tracepoints : pipe_head Little (hex (codes "4000000000006800") ++ (take 96 little_event ++ hex (codes "4200000000000c000400000001020304"))) ≡ Err PipeMode
+-- with descriptions of tracepoints, eight bytes behind their record, before the other records
+abbrev records_with_tracepoints : List ℕ
+records_with_tracepoints = take 104 piped_records ++ (hex (codes "4200000000000c00080000000102030405060708") ++ drop 104 piped_records)
+
+tracepoints : profile (hex (codes "50455246494c45321000000000000000") ++ records_with_tracepoints) ≡ Ok (record { head = record piped_head { size = 408 }; records = records_with_tracepoints })
 unfolding computing
 tracepoints = refl
+
+passed_tracepoints : records_of (worked_table false) false (hex (codes "4200000000000c000800000001020304050607084400000000000800")) ≡ record { records = record { time = 0; event = OtherEvent } ∷ record { time = 0; event = OtherEvent } ∷ []; error = None }
+unfolding computing
+passed_tracepoints = refl
+
+cut_tracepoints : records_of (worked_table false) false (hex (codes "4200000000000c000800000001020304")) ≡ record { records = []; error = Some RecordCut }
+unfolding computing
+cut_tracepoints = refl
+
+-- PERF_RECORD_HEADER_BUILD_ID behind another record: of the file "b", with an id of two bytes
+abbrev two_kinds : List ℕ
+two_kinds = hex (codes "440000000000080043000000008028000700000001020000000000000000000000000000000000000200000062000000")
+
+a_build : build_ids_up_to 2 false two_kinds ≡ drop 8 two_kinds
+unfolding computing
+a_build = refl
+
+its_id : id_up_to 1 false (codes "b") (drop 8 two_kinds) ≡ Some (hex (codes "0102"))
+unfolding computing
+its_id = refl
 
 no_event_of_a_pipe : profile (hex (codes "50455246494c45321000000000000000")) ≡ Err NoEvents
 unfolding computing

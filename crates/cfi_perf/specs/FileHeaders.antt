@@ -1,13 +1,16 @@
 -- The header of a profile (perf.data-file-format.txt).
-use Rattle.std.specs.Prelude.{ℕ, not, List, codes, drop, Result, Ok, Err, nat_eq, ◌==◌}
-use Rattle.std.specs.Prelude.{if◌then◌else◌}
+--     records_section bytes      where the records begin and end, by the header
+use Rattle.std.specs.Prelude.{ℕ, ◌+◌, ◌-◌, ◌^◌, not, List, codes, drop, min, Option, Result, Ok}
+use Rattle.std.specs.Prelude.{Err, nat_eq, ◌==◌, if◌then◌else◌}
 use Rattle.std.specs.List.{starts_with}
+use Rattle.std.specs.Result.{result_ok}
 use Rattle.std.specs.Int.{w64}
 use Rattle.cfi_read_core.specs.declared.endianity.RunTimeEndian.{RunTimeEndian}
 use Rattle.cfi_read_core.specs.declared.endianity.RunTimeEndian.TheVariants.{Little, Big}
 use Rattle.cfi_read_core.specs.ByteOrder.{is_big}
 use Rattle.cfi_read_core.specs.ReadFunctions.{Read, ◌>>=◌, give}
 use Rattle.cfi_read_core.specs.Numbers.{unsigned}
+use Rattle.cfi_read_core.specs.ReaderCalls.{map_ok}
 use Rattle.cfi_perf.specs.declared.error.PerfError.{PerfError}
 use Rattle.cfi_perf.specs.declared.error.PerfError.TheVariants.{NotPerf, HeaderCut}
 use Rattle.cfi_perf.specs.declared.error.PerfError.TheVariants.{HeaderSize}
@@ -54,3 +57,14 @@ file_header endian bytes =
     and_then (or_error HeaderCut (read_from (is_big endian) (drop 8 bytes) (unsigned w64))) (λ size.
     if not (size == 104) then Err (HeaderSize size)
     else or_error HeaderCut (read_from (is_big endian) (drop 16 bytes) header_fields))
+
+-- where a part begins and where it ends, at the last offset of 64 bits at most
+abbrev pub bounds : FileSection → ℕ × ℕ
+bounds part = (part.offset, min (part.offset + part.size) (2 ^ 64 - 1))
+
+-- of the records, where the bytes begin with a header
+abbrev pub records_section : List ℕ → Option (ℕ × ℕ)
+records_section bytes =
+    result_ok
+    (and_then (byte_order bytes) (λ endian.
+    map_ok (λ header. bounds header.records) (file_header endian bytes)))

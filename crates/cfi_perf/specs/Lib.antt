@@ -1,4 +1,5 @@
 pub mod ErrorNames
+pub mod ErrorTexts
 pub mod Results
 pub mod FileHeaders
 pub mod FileParts

@@ -3,7 +3,7 @@
 --     is_pipe endian bytes      whether the header is that of a pipe
 --     pipe_head endian records      what these records say before they are read
 use Rattle.std.specs.Prelude.{ℕ, ◌+◌, zero, suc, Bool, false, ◌&&◌, ◌||◌, List, [], drop, length}
-use Rattle.std.specs.Prelude.{Option, Some, None, Result, Ok, Err, option_map, unwrap_or, ◌==◌, not}
+use Rattle.std.specs.Prelude.{Option, Some, None, Result, Ok, Err, unwrap_or, ◌==◌, not}
 use Rattle.std.specs.Prelude.{if◌then◌else◌}
 use Rattle.std.specs.Int.{w64}
 use Rattle.cfi_read_core.specs.declared.error.Error.{Error}
@@ -34,10 +34,9 @@ is_pipe endian bytes = is_size (read_from (is_big endian) (drop 8 bytes) (unsign
 
 -- ---- the events
 
--- How many records are PERF_RECORD_HEADER_ATTR (64). PERF_RECORD_HEADER_TRACING_DATA (66) counts
--- too: behind it stands what is no record, so that a pipe with it is refused.
+-- how many records are PERF_RECORD_HEADER_ATTR (64)
 abbrev pub events_of : Framed → ℕ
-events_of r = if (r.header.kind == 64) || (r.header.kind == 66) then 1 else 0
+events_of r = if r.header.kind == 64 then 1 else 0
 
 abbrev pub count_with : Result Framed PerfError → (List ℕ → ℕ) → ℕ
 count_with (Err e) others = 0
@@ -100,6 +99,22 @@ architecture_by big event None = Ok (machine_by big event.attribute.layout.sampl
 abbrev pub pipe_architecture : Bool → List ℕ → EventEntry → Result (Option (List ℕ)) PerfError
 pipe_architecture big records event = architecture_by big event (feature big records 6)
 
+-- ---- the builds of files
+
+abbrev pub build_ids_with :
+    List ℕ → Result Framed PerfError → (List ℕ → List ℕ) → List ℕ
+build_ids_with records (Err e) others = []
+build_ids_with records (Ok r) others = if r.header.kind == 67 then records else others r.others
+
+unfoldable pub build_ids_up_to : ℕ → Bool → List ℕ → List ℕ
+build_ids_up_to zero big records = []
+build_ids_up_to (suc n) big records =
+    build_ids_with records (split_record big records) (build_ids_up_to n big)
+
+-- the records from the first PERF_RECORD_HEADER_BUILD_ID (67) on, among which the others stand
+abbrev pub build_ids_in : Bool → List ℕ → List ℕ
+build_ids_in big records = build_ids_up_to (length records) big records
+
 -- ---- the profile
 
 abbrev pub pipe_table : Bool → List ℕ → EventSection → EventTable
@@ -112,7 +127,7 @@ pipe_table big records events = record {
     name = event_name big (pipe_descriptions big records) 0 events.first.attribute;
   };
   is_alone = events.count == 1;
-  build_ids = [];
+  build_ids = build_ids_in big records;
 }
 
 unfoldable pub pipe_head : RunTimeEndian → List ℕ → Result ProfileHead PerfError

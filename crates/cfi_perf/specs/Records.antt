@@ -2,10 +2,11 @@
 --     records_of events big bytes      the records of these bytes in order, and the error that
 --         ended them
 --     records_left walk      those that an iterator of the code has left
-use Rattle.std.specs.Prelude.{◌≡◌, ℕ, ◌-◌, ◌*◌, zero, suc, Bool, false, not, ◌||◌, List, [], ◌∷◌}
+use Rattle.std.specs.Prelude.{◌≡◌, ◌⊎◌, ℕ, ◌-◌, ◌*◌, zero, suc, Bool, false, not, ◌&&◌, ◌||◌}
+use Rattle.std.specs.Prelude.{List, [], ◌∷◌}
 use Rattle.std.specs.Prelude.{◌++◌, map, length, drop, take, Option, Some, None, Result, Ok, Err}
 use Rattle.std.specs.Prelude.{count_ones, bit_and, nat_lt, nat_le, ◌==◌, if◌then◌else◌}
-use Rattle.std.specs.Int.{w64}
+use Rattle.std.specs.Int.{w32, w64}
 use Rattle.std.specs.Option.{option_map_or}
 use Rattle.std.specs.Str.{bytes_eq}
 use Rattle.cfi_read_core.specs.ByteOrder.{is_big}
@@ -44,14 +45,29 @@ pub record Framed : Type 0 where
 abbrev pub framed_view : FramedOfCode → Framed
 framed_view f = record { header = f.header; body = f.body.now; others = f.others.now }
 
--- what follows a record: behind PERF_RECORD_AUXTRACE (71) stands a trace, of whose size it tells
--- first
+-- How many bytes stand behind a record that its size doesn't count: behind PERF_RECORD_AUXTRACE
+-- (71) a trace, and behind PERF_RECORD_HEADER_TRACING_DATA (66) the descriptions of tracepoints. It
+-- tells of their size first, in eight bytes and in four.
+abbrev pub trace_size : Bool → List ℕ → Result ℕ PerfError
+trace_size big body = or_error RecordCut (read_from big body (unsigned w64))
+
+abbrev pub descriptions_size : Bool → List ℕ → Result ℕ PerfError
+descriptions_size big body = or_error RecordCut (read_from big body (unsigned w32))
+
+abbrev pub uncounted_size : Bool → RecordHeader → List ℕ → Result ℕ PerfError
+uncounted_size big header body =
+    if header.kind == 71 then trace_size big body
+    else if header.kind == 66 then descriptions_size big body
+    else Ok 0
+
+abbrev pub HasUncounted : ℕ → Type 0
+HasUncounted kind = (kind ≡ 71) ⊎ (kind ≡ 66)
+
+-- what follows a record, and those
 abbrev pub after_record : Bool → RecordHeader → List ℕ → List ℕ → Result (List ℕ) PerfError
 after_record big header body behind =
-    if header.kind == 71
-    then and_then (or_error RecordCut (read_from big body (unsigned w64))) (λ size.
+    and_then (uncounted_size big header body) (λ size.
     if nat_lt (length behind) size then Err RecordCut else Ok (drop size behind))
-    else Ok behind
 
 -- the first record of these bytes; its size counts its header, eight bytes
 unfoldable pub split_record : Bool → List ℕ → Result Framed PerfError
@@ -72,10 +88,16 @@ entry_id entry =
     counted_id (if has_any 0x8000 entry.header.misc then count_at 24 entry.body else 20)
     (drop 4 entry.body)
 
+-- perf gives those of a file no type; in a pipe they are PERF_RECORD_HEADER_BUILD_ID (67), among
+-- other records
+abbrev pub has_build_id : Framed → Bool
+has_build_id entry = (entry.header.kind == 0) || (entry.header.kind == 67)
+
 -- the file's name comes last
 abbrev pub is_named : List ℕ → Framed → Bool
 is_named name entry =
-    option_map_or (λ found. bytes_eq found name) (before_zero (drop 28 entry.body)) false
+    option_map_or (λ found. has_build_id entry && bytes_eq found name)
+    (before_zero (drop 28 entry.body)) false
 
 abbrev pub id_with :
     List ℕ → Result Framed PerfError → (List ℕ → Option (List ℕ)) → Option (List ℕ)

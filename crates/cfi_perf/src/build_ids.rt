@@ -1,14 +1,22 @@
-//! The builds of the files that a profile names (`perf.data-file-format.txt`, `HEADER_BUILD_ID`).
+//! The builds of the files that a profile names (`perf.data-file-format.txt`, `HEADER_BUILD_ID` and
+//! `PERF_RECORD_HEADER_BUILD_ID`).
 ghost use Rattle.std.specs.Prelude.{◌≡◌, option_map};
 ghost use Rattle.cfi_read_core.specs.ByteOrder.{is_big};
 ghost use Rattle.cfi_perf.specs.Events.{count_at, counted_id, mapping_view};
-ghost use Rattle.cfi_perf.specs.Records.{entry_id, framed_view, id_of, is_named, with_build_id};
+ghost use Rattle.cfi_perf.specs.Records.{entry_id, framed_view, has_build_id, id_of, is_named};
+ghost use Rattle.cfi_perf.specs.Records.{with_build_id};
 
 use crate::attribute::has_any;
 use crate::bytes::{before_zero, bytes_from, first_bytes};
 use crate::record::Mapping;
 use crate::records::{Framed, split_record};
 use cfi_read_core::RunTimeEndian;
+
+/// The type of an entry in a pipe, where entries stand among other records.
+pub(crate) const PERF_RECORD_HEADER_BUILD_ID: u32 = 67;
+
+/// The type of an entry in a file, where perf sets none.
+const NO_TYPE: u32 = 0;
 
 const PERF_RECORD_MISC_BUILD_ID_SIZE: u64 = 1 << 15;
 
@@ -76,9 +84,16 @@ fn is_named(name: &[u8], entry: &Framed<'_>) -> bool
     ensures { result ≡ is_named name.now (framed_view entry.now) }
 {
     match before_zero(bytes_from(entry.body, 28)) {
-        Some(found) => found == name,
+        Some(found) => has_build_id(entry) && found == name,
         None => false,
     }
+}
+
+/// Whether an entry has the build of a file, by its type.
+fn has_build_id(entry: &Framed<'_>) -> bool
+    ensures { result ≡ has_build_id (framed_view entry.now) }
+{
+    entry.header.kind == NO_TYPE || entry.header.kind == PERF_RECORD_HEADER_BUILD_ID
 }
 
 /// The identification that an entry has.

@@ -1,6 +1,7 @@
 //! Why a profile can't be read.
-ghost use Rattle.std.specs.Prelude.{◌≡◌};
+ghost use Rattle.std.specs.Prelude.{◌≡◌, Some};
 ghost use Rattle.cfi_perf.specs.ErrorNames.{name_of_perf};
+ghost use Rattle.cfi_perf.specs.ErrorTexts.{number_of_perf, sentence_of_perf, text_of_perf};
 
 use std::fmt;
 
@@ -11,7 +12,7 @@ pub enum PerfError {
     /// The file doesn't begin with `PERFILE2`, in either byte order.
     NotPerf,
     /// Of a profile that was written to a pipe: the attributes of an event can't be read, or stand
-    /// behind another record, or there are tracepoints.
+    /// behind another record.
     PipeMode,
     /// The file ends before its header does.
     HeaderCut,
@@ -39,6 +40,8 @@ pub enum PerfError {
 }
 
 impl fmt::Display for PerfError {
+    ghost output = { λ error. Some (text_of_perf error) };
+
     fn fmt<W: fmt::Write>(&self, f: &mut fmt::Formatter<W>) -> fmt::Result {
         let sentence = self.sentence();
         match self.number() {
@@ -73,7 +76,9 @@ impl PerfError {
     }
 
     /// The value that the error carries, if any.
-    fn number(&self) -> Option<u64> {
+    fn number(&self) -> Option<u64>
+        ensures { result ≡ number_of_perf self.now }
+    {
         match *self {
             PerfError::HeaderSize(size) | PerfError::AttributeSize(size) => Some(size),
             PerfError::RecordSize(size) => Some(u64::from(size)),
@@ -82,7 +87,9 @@ impl PerfError {
     }
 
     /// The sentence, up to the value if there is one.
-    fn sentence(&self) -> &'static str {
+    fn sentence(&self) -> &'static str
+        ensures { result.now ≡ sentence_of_perf self.now }
+    {
         match self {
             PerfError::NotPerf => "not a profile of perf record",
             PerfError::PipeMode => "a pipe whose events don't stand first",

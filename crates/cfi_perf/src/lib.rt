@@ -39,7 +39,7 @@ pub use attribute::EventLayout;
 pub use call_chain::{Addresses, CallChain};
 pub use error::PerfError;
 pub use index::{PlaceKind, RecordIndex, RecordPlace};
-pub use profile::{Profile, ProfileHead};
+pub use profile::{Profile, ProfileHead, records_section};
 pub use record::{Event, Fork, Lost, Mapping, Program, Record};
 pub use recording::{lacks_stacks, lost_in};
 pub use records::Records;

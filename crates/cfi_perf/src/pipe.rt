@@ -4,7 +4,8 @@ ghost use Rattle.std.specs.Prelude.{◌≡◌, ◌≤◌, option_map};
 ghost use Rattle.cfi_read_core.specs.ByteOrder.{is_big};
 ghost use Rattle.cfi_read_core.specs.ReaderCalls.{map_ok};
 ghost use Rattle.cfi_perf.specs.EventTables.{table_view};
-ghost use Rattle.cfi_perf.specs.Pipes.{attributes_in, events_of, feature, is_feature, is_pipe};
+ghost use Rattle.cfi_perf.specs.Pipes.{attributes_in, build_ids_in, events_of, feature};
+ghost use Rattle.cfi_perf.specs.Pipes.{is_feature, is_pipe};
 ghost use Rattle.cfi_perf.specs.Pipes.{pipe_architecture, pipe_descriptions, pipe_head};
 ghost use Rattle.cfi_perf.specs.Pipes.{pipe_section, pipe_table, stand_first};
 ghost use Rattle.cfi_perf.specs.Profiles.{head_view};
@@ -12,6 +13,7 @@ ghost use Rattle.cfi_perf.specs.Records.{framed_view};
 ghost use Rattle.cfi_perf.specs.Sections.{section_view};
 
 use crate::attribute::{EntryForm, EventEntry, first_event, read_entry};
+use crate::build_ids::PERF_RECORD_HEADER_BUILD_ID;
 use crate::bytes::bytes_from;
 use crate::error::PerfError;
 use crate::event_names::event_name;
@@ -25,9 +27,6 @@ use cfi_read_core::{EndianSlice, Reader, RunTimeEndian};
 
 /// `PERF_RECORD_HEADER_ATTR`.
 pub(crate) const PERF_RECORD_HEADER_ATTR: u32 = 64;
-
-/// Behind it stand the descriptions of tracepoints, which aren't records.
-const PERF_RECORD_HEADER_TRACING_DATA: u32 = 66;
 
 const PERF_RECORD_HEADER_FEATURE: u32 = 80;
 
@@ -51,7 +50,7 @@ pub(crate) fn is_pipe(endian: RunTimeEndian, bytes: &[u8]) -> bool
 /// What the records of a pipe say before they are read.
 ///
 /// Fails with `NoEvents` or `MixedEvents`, and with `PipeMode` where the attributes of an event
-/// can't be read, or stand behind another record, and where there are tracepoints.
+/// can't be read, or stand behind another record.
 #[tactic(auto, unfolding(crate::specs::Pipes::pipe_head))]
 pub(crate) fn pipe_head<'input>(
     endian: RunTimeEndian,
@@ -88,7 +87,7 @@ fn pipe_section(endian: RunTimeEndian, records: &[u8]) -> Result<EventSection<'_
     })
 }
 
-/// How many records have the attributes of an event, or tracepoints.
+/// How many records have the attributes of an event.
 fn attributes_in(endian: RunTimeEndian, records: &[u8]) -> u64
     ensures { result ≡ attributes_in (is_big endian) records.now }
 {
@@ -107,14 +106,12 @@ fn attributes_in(endian: RunTimeEndian, records: &[u8]) -> u64
     count
 }
 
-/// Of how many events a record has the attributes: of one or none. A record with tracepoints counts
-/// as one, so that a pipe with it is refused.
+/// Of how many events a record has the attributes: of one or none.
 fn events_of(framed: &Framed<'_>) -> u64
     ensures value { result ≡ events_of (framed_view framed.now) }
     ensures bound { result ≤ 1 }
 {
-    let kind = framed.header.kind;
-    if kind == PERF_RECORD_HEADER_ATTR || kind == PERF_RECORD_HEADER_TRACING_DATA {
+    if framed.header.kind == PERF_RECORD_HEADER_ATTR {
         1
     } else {
         0
@@ -157,8 +154,28 @@ fn pipe_table<'input>(
             layout: attribute.layout,
             name: event_name(endian, descriptions, 0, attribute),
         },
-        build_ids: &[],
+        build_ids: build_ids_in(endian, records),
     }
+}
+
+/// The records from the first on that has the build of a file; none where there is no such record.
+fn build_ids_in(endian: RunTimeEndian, records: &[u8]) -> &[u8]
+    ensures { result.now ≡ build_ids_in (is_big endian) records.now }
+{
+    let mut left = records;
+    // Each record takes a byte at least.
+    for _ in 0..records.len() {
+        match split_record(endian, left) {
+            Ok(record) => {
+                if record.header.kind == PERF_RECORD_HEADER_BUILD_ID {
+                    return left;
+                }
+                left = record.others;
+            }
+            Err(_) => return &[],
+        }
+    }
+    &[]
 }
 
 /// The section that names the events; nothing where there is none.

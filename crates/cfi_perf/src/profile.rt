@@ -2,6 +2,7 @@
 ghost use Rattle.std.specs.Prelude.{◌≡◌, ◌-◌, ℕ, List, option_map};
 ghost use Rattle.cfi_read_core.specs.ReaderCalls.{map_ok};
 ghost use Rattle.cfi_perf.specs.EventTables.{table_view};
+ghost use Rattle.cfi_perf.specs.FileHeaders.{records_section};
 ghost use Rattle.cfi_perf.specs.Profiles.{architecture, file_profile, head_view, pipe_profile};
 ghost use Rattle.cfi_perf.specs.Profiles.{profile, profile_records};
 ghost use Rattle.cfi_perf.specs.Profiles.{profile_view, records_by, records_place};
@@ -257,5 +258,23 @@ impl<'input> Profile<'input> {
         ensures place { place_in result ≡ records_place (profile_view self.now) }
     {
         self.head.walk()
+    }
+}
+
+/// Returns where the records of a profile begin and where they end in the file, by its header;
+/// `None` where these bytes don't begin with the header of a profile. It is for those who read the
+/// bytes around the records: `Profile::parse_around` checks what is read so. Does not allocate.
+pub fn records_section(bytes: &[u8]) -> Option<(u64, u64)>
+    ensures { result ≡ records_section bytes.now }
+{
+    let Ok(endian) = byte_order(bytes) else {
+        return None;
+    };
+    match file_header(endian, bytes) {
+        Ok(header) => {
+            let start = header.records.offset;
+            Some((start, start.saturating_add(header.records.size)))
+        }
+        Err(_) => None,
     }
 }

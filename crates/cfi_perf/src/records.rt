@@ -1,11 +1,12 @@
 //! The records of a profile, one after the other (perf_event_open(2), "MMAP layout").
-ghost use Rattle.std.specs.Prelude.{◌≡◌, Some, ⊤, option_map};
+ghost use Rattle.std.specs.Prelude.{◌≡◌, ◌⊎◌, IfOk, Some, ⊤, option_map};
 ghost use Rattle.cfi_read_core.specs.ByteOrder.{is_big};
 ghost use Rattle.cfi_read_core.specs.ReaderCalls.{ReadsValue, map_ok};
 ghost use Rattle.cfi_perf.specs.EventTables.{table_view};
 ghost use Rattle.cfi_perf.specs.EventTables.{event_view as event_of_table};
 ghost use Rattle.cfi_perf.specs.Events.{event_view, mapping_view, record_view};
-ghost use Rattle.cfi_perf.specs.Records.{Meets, after_record, event_of, first_record};
+ghost use Rattle.cfi_perf.specs.Records.{HasUncounted, Meets, after_record, descriptions_size};
+ghost use Rattle.cfi_perf.specs.Records.{event_of, first_record, trace_size, uncounted_size};
 ghost use Rattle.cfi_perf.specs.Records.{no_records, until_cut};
 ghost use Rattle.cfi_perf.specs.Events.{lost, lost_samples};
 ghost use Rattle.cfi_perf.specs.Records.{first_view, fork_event, framed_view, lost_event};
@@ -44,7 +45,11 @@ const PERF_RECORD_LOST_SAMPLES: u32 = 13;
 /// The first type of the records that perf itself writes.
 const PERF_RECORD_USER_TYPE_START: u32 = 64;
 
-pub(crate) const PERF_RECORD_AUXTRACE: u32 = 71;
+/// Behind it stand the descriptions of tracepoints.
+const PERF_RECORD_HEADER_TRACING_DATA: u32 = 66;
+
+/// Behind it stands a trace.
+const PERF_RECORD_AUXTRACE: u32 = 71;
 
 const PERF_RECORD_COMPRESSED: u32 = 81;
 
@@ -243,7 +248,7 @@ pub(crate) fn read_record_header<R: Reader>(input: &mut R) -> cfi_read_core::Res
     Ok(RecordHeader { kind, misc, size })
 }
 
-/// What follows a record: a trace of which it tells stands between it and the next.
+/// What follows a record, and what stands between it and the next.
 fn after_record<'input>(
     endian: RunTimeEndian,
     header: &RecordHeader,
@@ -253,17 +258,52 @@ fn after_record<'input>(
     ensures { map_ok (λ others. others.now) result
         ≡ after_record (is_big endian) header.now body.now behind.now }
 {
-    if header.kind != PERF_RECORD_AUXTRACE {
-        return Ok(behind);
-    }
-    let mut input = EndianSlice::new(body, endian);
-    let Ok(size) = input.read_u64() else {
-        return Err(PerfError::RecordCut);
-    };
+    let size = uncounted_size(endian, header, body)?;
     if (behind.len() as u64) < size {
         return Err(PerfError::RecordCut);
     }
     Ok(bytes_from(behind, size))
+}
+
+/// How many bytes stand between a record and the next: those of a trace, or of the descriptions of
+/// tracepoints, of which it tells. Fails with `RecordCut`.
+pub(crate) fn uncounted_size(
+    endian: RunTimeEndian,
+    header: &RecordHeader,
+    body: &[u8],
+) -> Result<u64, PerfError>
+    ensures size { result ≡ uncounted_size (is_big endian) header.now body.now }
+    ensures none { IfOk result (λ size. HasUncounted header.now.kind ⊎ (size ≡ 0)) }
+{
+    if header.kind == PERF_RECORD_AUXTRACE {
+        return trace_size(endian, body);
+    }
+    if header.kind == PERF_RECORD_HEADER_TRACING_DATA {
+        return descriptions_size(endian, body);
+    }
+    Ok(0)
+}
+
+/// The size of a trace. Fails with `RecordCut`.
+fn trace_size(endian: RunTimeEndian, body: &[u8]) -> Result<u64, PerfError>
+    ensures { result ≡ trace_size (is_big endian) body.now }
+{
+    let mut input = EndianSlice::new(body, endian);
+    match input.read_u64() {
+        Ok(size) => Ok(size),
+        Err(_) => Err(PerfError::RecordCut),
+    }
+}
+
+/// The size of descriptions of tracepoints. Fails with `RecordCut`.
+fn descriptions_size(endian: RunTimeEndian, body: &[u8]) -> Result<u64, PerfError>
+    ensures { result ≡ descriptions_size (is_big endian) body.now }
+{
+    let mut input = EndianSlice::new(body, endian);
+    match input.read_u32() {
+        Ok(size) => Ok(u64::from(size)),
+        Err(_) => Err(PerfError::RecordCut),
+    }
 }
 
 /// Reads what a record says, by its type.

@@ -6,7 +6,8 @@ ghost use Rattle.cfi_read_core.specs.ByteOrder.{is_big};
 ghost use Rattle.cfi_read_core.specs.ReaderCalls.{map_ok};
 ghost use Rattle.cfi_perf.specs.EventTables.{table_view};
 ghost use Rattle.cfi_perf.specs.Events.{OtherEvent, record_view};
-ghost use Rattle.cfi_perf.specs.Records.{Meets, after_record, first_record, no_records};
+ghost use Rattle.cfi_perf.specs.Records.{HasUncounted, Meets, after_record, first_record};
+ghost use Rattle.cfi_perf.specs.Records.{no_records};
 ghost use Rattle.cfi_perf.specs.Records.{records_of, split_record, until_cut};
 ghost use Rattle.cfi_perf.specs.Windows.{IsAlone, IsSameWalk, IsWindow, IsWithin, bytes_left};
 ghost use Rattle.cfi_perf.specs.Windows.{first_in, framed_in, passed, place_in, record_alone};
@@ -16,9 +17,7 @@ use crate::bytes::part;
 use crate::error::PerfError;
 use crate::event_table::EventTable;
 use crate::record::Record;
-use crate::records::{
-    PERF_RECORD_AUXTRACE, RecordHeader, first_record, read_record_header, record_of,
-};
+use crate::records::{RecordHeader, first_record, read_record_header, record_of, uncounted_size};
 use cfi_read_core::{EndianSlice, Reader, RunTimeEndian};
 
 /// The greatest size of a record, in bytes.
@@ -90,7 +89,7 @@ impl<'input> RecordWalk<'input> {
 
     /// Returns the next record, by a window that begins at its place, or `None` at the end. The
     /// bytes that `left` is less by are the record's own: they are all in the window, but of an
-    /// `Event::Other`, behind which may be a trace.
+    /// `Event::Other`, behind which may be bytes that its size doesn't count.
     ///
     /// Fails as `Records::next` does. Does not allocate.
     pub fn next<'w>(&mut self, window: &'w [u8]) -> Result<Option<Record<'w>>, PerfError>
@@ -149,8 +148,8 @@ impl<'input> RecordWalk<'input> {
     }
 }
 
-/// A record's header, its other bytes, and how many bytes it takes, with those of a trace behind
-/// it.
+/// A record's header, its other bytes, and how many bytes it takes, with those behind it that
+/// its size doesn't count.
 #[derive(Clone, Copy, Debug)]
 pub(crate) struct FramedIn<'w> {
     pub(crate) header: RecordHeader,
@@ -158,7 +157,7 @@ pub(crate) struct FramedIn<'w> {
     pub(crate) size: u64,
 }
 
-/// The first record, and how many bytes it takes, with those of a trace behind it.
+/// The first record, and how many bytes it takes, with those that its size doesn't count.
 #[derive(Clone, Copy, Debug)]
 pub(crate) struct FirstIn<'w> {
     pub(crate) first: Record<'w>,
@@ -202,7 +201,7 @@ fn split_window(endian: RunTimeEndian, window: &[u8], left: u64) -> Result<Frame
         → map_ok (framed_in (window.now ++ others)) result
         ≡ split_record (is_big endian) (window.now ++ others) }
     ensures within { IfOk result (λ found.
-        (found.header.kind ≡ 71) ⊎ (found.size ≤ length window.now)) }
+        HasUncounted found.header.kind ⊎ (found.size ≤ length window.now)) }
 {
     let mut input = EndianSlice::new(window, endian);
     let Ok(header) = read_record_header(&mut input) else {
@@ -215,17 +214,16 @@ fn split_window(endian: RunTimeEndian, window: &[u8], left: u64) -> Result<Frame
     let Some(body) = part(window, 8, size - 8) else {
         return Err(PerfError::RecordCut);
     };
-    let trace = trace_size(endian, &header, body, left.saturating_sub(size))?;
+    let more = size_behind(endian, &header, body, left.saturating_sub(size))?;
     Ok(FramedIn {
         header,
         body,
-        size: size + trace,
+        size: size + more,
     })
 }
 
-/// How many bytes stand between a record and the next, of so many behind it: those of a trace of
-/// which it tells.
-fn trace_size(
+/// How many bytes stand between a record and the next, of so many behind it.
+fn size_behind(
     endian: RunTimeEndian,
     header: &RecordHeader,
     body: &[u8],
@@ -235,15 +233,9 @@ fn trace_size(
         → map_ok (λ size. drop size others) result
         ≡ after_record (is_big endian) header.now body.now others }
     ensures within { IfOk result (λ size. size ≤ behind) }
-    ensures none { IfOk result (λ size. (header.now.kind ≡ 71) ⊎ (size ≡ 0)) }
+    ensures none { IfOk result (λ size. HasUncounted header.now.kind ⊎ (size ≡ 0)) }
 {
-    if header.kind != PERF_RECORD_AUXTRACE {
-        return Ok(0);
-    }
-    let mut input = EndianSlice::new(body, endian);
-    let Ok(size) = input.read_u64() else {
-        return Err(PerfError::RecordCut);
-    };
+    let size = uncounted_size(endian, header, body)?;
     if behind < size {
         return Err(PerfError::RecordCut);
     }

@@ -53,25 +53,25 @@ module _ {Handle : Type 0} (may_open : FilePlace → Option Handle → Type 0) (
 -- ---- as files of the profile
 
 -- with the files of the others, the first are those of all
-pub record IsFilesOn (all left : List Opened) (first : List KnownFile) : Type 0 where
-  pub files_on : (others : List KnownFile) → AreFilesOf left others → AreFilesOf all (first ++ others)
+pub record IsFilesOn (named : Bool) (all left : List Opened) (first : List KnownFile) : Type 0 where
+  pub files_on : (others : List KnownFile) → AreFilesOf named left others → AreFilesOf named all (first ++ others)
 
-pub no_files : (all : List Opened) → IsFilesOn all all []
-no_files all = record { files_on = λ others are. are }
+pub no_files : (named : Bool) (all : List Opened) → IsFilesOn named all all []
+no_files named all = record { files_on = λ others are. are }
 
-pub one_file : (all : List Opened) (opened : List OpenedFile) (i : ℕ) (d : OpenedFile) (first next : List KnownFile) (file : KnownFile) → i < length opened
-    → next ≡ first ++ file ∷ [] → IsFilesOn all (map opened_view (drop i opened)) first → IsFileOf (opened_view (get_or opened i d)) file
-    → IsFilesOn all (map opened_view (drop (i + 1) opened)) next
-one_file all opened i d first next file inside is so one = record {
+pub one_file : (named : Bool) (all : List Opened) (opened : List OpenedFile) (i : ℕ) (d : OpenedFile) (first next : List KnownFile) (file : KnownFile) → i < length opened
+    → next ≡ first ++ file ∷ [] → IsFilesOn named all (map opened_view (drop i opened)) first → IsFileOf named (opened_view (get_or opened i d)) file
+    → IsFilesOn named all (map opened_view (drop (i + 1) opened)) next
+one_file named all opened i d first next file inside is so one = record {
   files_on = λ others are.
       let left : map opened_view (drop i opened) ≡ opened_view (get_or opened i d) ∷ map opened_view (drop (i + 1) opened) = rw (drop-cons opened i d, add-one) refl in
-      let whole = so.files_on (file ∷ others) (subst (λ (left : List Opened). AreFilesOf left (file ∷ others)) (sym left) (file, others, one, are, refl)) in
-      subst (λ (files : List KnownFile). AreFilesOf all files) (sym (ap (λ (front : List KnownFile). front ++ others) is ∙ append_assoc first (file ∷ []) others)) whole;
+      let whole = so.files_on (file ∷ others) (subst (λ (left : List Opened). AreFilesOf named left (file ∷ others)) (sym left) (file, others, one, are, refl)) in
+      subst (λ (files : List KnownFile). AreFilesOf named all files) (sym (ap (λ (front : List KnownFile). front ++ others) is ∙ append_assoc first (file ∷ []) others)) whole;
 }
 
-pub all_files : (opened : List OpenedFile) (i : ℕ) (files : List KnownFile) → length opened ≤ i → IsFilesOn (map opened_view opened) (map opened_view (drop i opened)) files
-    → AreFilesOf (map opened_view opened) files
-all_files opened i files behind so =
+pub all_files : (named : Bool) (opened : List OpenedFile) (i : ℕ) (files : List KnownFile) → length opened ≤ i → IsFilesOn named (map opened_view opened) (map opened_view (drop i opened)) files
+    → AreFilesOf named (map opened_view opened) files
+all_files named opened i files behind so =
     let none : map opened_view (drop i opened) ≡ [] = rw drop_all refl in
-    subst (λ (all : List KnownFile). AreFilesOf (map opened_view opened) all) (append-nil files)
-    (so.files_on [] (subst (λ (left : List Opened). AreFilesOf left []) (sym none) refl))
+    subst (λ (all : List KnownFile). AreFilesOf named (map opened_view opened) all) (append-nil files)
+    (so.files_on [] (subst (λ (left : List Opened). AreFilesOf named left []) (sym none) refl))

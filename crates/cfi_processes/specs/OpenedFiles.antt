@@ -6,7 +6,8 @@
 --     IsDebugOf may_open remaining name bytes debug      what was read of the debug file of a file
 --         of this name and these bytes
 --     AreOpened .. files opened      these files
---     AreFilesOf opened files      what they are as files of a profile
+--     AreFilesOf named opened files      what they are as files of a profile, with their functions
+--         or without
 use Rattle.std.specs.Prelude.{◌≡◌, ◌⊎◌, ℕ, Bool, true, false, not, ◌&&◌, List, [], ◌∷◌, Option}
 use Rattle.std.specs.Prelude.{Some, None, IfSome, Vec, codes, drop, length, nat_eq, option_map}
 use Rattle.std.specs.Prelude.{string_bytes}
@@ -208,15 +209,19 @@ map_by text name = option_map (λ text. record { name = name; text = text }) tex
 abbrev pub map_of : Opened → Option CodeMapText
 map_of opened = option_and_then (map_by opened.bytes) opened.map_name
 
-abbrev pub IsFileOf : Opened → KnownFile → Type 0
-IsFileOf opened file =
+-- those that are asked for
+abbrev pub functions_if : Bool → Opened → Option Functions
+functions_if named opened = if named then functions_in opened else None
+
+abbrev pub IsFileOf : Bool → Opened → KnownFile → Type 0
+IsFileOf named opened file =
     (file.name ≡ opened.name) × (file.build_id ≡ opened.build_id)
-    × (file.functions ≡ functions_in opened) × (file.kernel ≡ kernel_of opened)
+    × (file.functions ≡ functions_if named opened) × (file.kernel ≡ kernel_of opened)
     × (file.process ≡ opened.process) × (file.code_map ≡ map_of opened)
     × IsCodeOf (option_and_then (λ bytes. object_of bytes opened.debug) opened.bytes) file.code
 
-abbrev pub AreFilesOf : List Opened → List KnownFile → Type 0
-AreFilesOf [] files = files ≡ []
-AreFilesOf (one ∷ opened) files =
-    (first : KnownFile) × (others : List KnownFile) × IsFileOf one first × AreFilesOf opened others
-    × (files ≡ first ∷ others)
+abbrev pub AreFilesOf : Bool → List Opened → List KnownFile → Type 0
+AreFilesOf named [] files = files ≡ []
+AreFilesOf named (one ∷ opened) files =
+    (first : KnownFile) × (others : List KnownFile) × IsFileOf named one first
+    × AreFilesOf named opened others × (files ≡ first ∷ others)

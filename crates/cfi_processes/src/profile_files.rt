@@ -12,13 +12,12 @@ ghost use Rattle.cfi_processes.specs.Objects.{object_of};
 ghost use Rattle.cfi_processes.specs.OpenedFiles.{AreFilesOf, AreOpened, IsBuild, IsBuildOf};
 ghost use Rattle.cfi_processes.specs.OpenedFiles.{IsByLink, IsCodeOf, IsContents, IsDebug};
 ghost use Rattle.cfi_processes.specs.OpenedFiles.{IsDebugOf, IsElsewhere, IsFileOf, IsFound};
-ghost use Rattle.cfi_processes.specs.OpenedFiles.{IsLinkedIn, functions_in, if_linked};
-ghost use Rattle.cfi_processes.specs.OpenedFiles.{IsReadOf, IsReading, IsTold, bytes_view};
-ghost use Rattle.cfi_processes.specs.OpenedFiles.{if_built, kernel_of, kernel_text, map_by, map_of};
-ghost use Rattle.cfi_processes.specs.OpenedFiles.{is_file_name, opened_view};
-ghost use Rattle.cfi_processes.specs.Replays.{code_file, has_kernel, has_kernel_frames, has_some};
-ghost use Rattle.cfi_processes.specs.Replays.{is_among, is_code_file, is_of, wanted_in, wanted_of};
-ghost use Rattle.cfi_processes.specs.Replays.{process_of, with_file};
+ghost use Rattle.cfi_processes.specs.OpenedFiles.{IsLinkedIn, IsReadOf, IsReading, IsTold};
+ghost use Rattle.cfi_processes.specs.OpenedFiles.{bytes_view, functions_if, functions_in};
+ghost use Rattle.cfi_processes.specs.OpenedFiles.{if_built, if_linked, is_file_name, kernel_of};
+ghost use Rattle.cfi_processes.specs.OpenedFiles.{kernel_text, map_by, map_of, opened_view};
+ghost use Rattle.cfi_processes.specs.Replays.{code_file, has_kernel_frames, has_some, is_among};
+ghost use Rattle.cfi_processes.specs.Replays.{is_code_file, is_of, process_of, with_file};
 ghost use Rattle.cfi_processes.specs.Wanted.{FilePlace, at_path, code_map, copy_of, debug_of};
 ghost use Rattle.cfi_processes.specs.Wanted.{kernel_symbols, linked, wanted_view};
 ghost use Rattle.cfi_elf.specs.DebugLinks.{link_view};
@@ -148,43 +147,8 @@ impl ProfileFile<'_> {
     }
 }
 
-/// The files that the executable mappings among the records are of, each once, in the order of the
-/// records; and the kernel, if samples have frames of it. Fails where memory is refused.
-pub fn mapped_files<'run>(
-    alloc: Global,
-    records: &[Record<'run>],
-) -> Result<Vec<WantedFile<'run>>, AllocError>
-    ensures { IfOk result (λ files. map wanted_view files.items
-        ≡ wanted_of (map record_view records.now)) }
-{
-    mapped_in(alloc, has_kernel(records), records)
-}
-
-/// The same, where samples have frames of the kernel or none has.
-fn mapped_in<'run>(
-    alloc: Global,
-    in_kernel: bool,
-    records: &[Record<'run>],
-) -> Result<Vec<WantedFile<'run>>, AllocError>
-    ensures { IfOk result (λ files. map wanted_view files.items
-        ≡ wanted_in in_kernel (map record_view records.now)) }
-{
-    let mut files = Vec::new(alloc);
-    for record in records {
-        push_file(&mut files, code_file(in_kernel, record))?;
-    }
-    Ok(files)
-}
-
-/// Whether a sample has frames of the kernel.
-fn has_kernel(records: &[Record<'_>]) -> bool
-    ensures { result ≡ has_kernel (map record_view records.now) }
-{
-    records.iter().any(|record| has_kernel_frames(record))
-}
-
-/// Whether a record is a sample that has frames of the kernel.
-fn has_kernel_frames(item: &Record<'_>) -> bool
+/// Returns whether a record is a sample that has frames of the kernel. Does not allocate.
+pub fn has_kernel_frames(item: &Record<'_>) -> bool
     ensures { result ≡ has_kernel_frames (record_view item.now).event }
 {
     match item.event {
@@ -220,9 +184,9 @@ pub fn push_file<'run>(
     }
 }
 
-/// The file that a record says is mapped as code; the kernel itself only if samples have frames of
-/// it.
-fn code_file<'run>(in_kernel: bool, item: &Record<'run>) -> Option<WantedFile<'run>>
+/// Returns the file that a record says is mapped as code; the kernel itself only if samples have
+/// frames of it. Does not allocate.
+pub fn code_file<'run>(in_kernel: bool, item: &Record<'run>) -> Option<WantedFile<'run>>
     ensures { option_map wanted_view result ≡ code_file in_kernel (record_view item.now).event }
 {
     match item.event {
@@ -569,17 +533,19 @@ fn is_file_name(name: &[u8]) -> bool
         && !name.starts_with(b"/anon_hugepage")
 }
 
-/// The files that were opened. Fails where memory is refused.
+/// The files that were opened, with their functions if these are to be named. Fails where memory is
+/// refused.
 pub fn profile_files<'opened>(
     alloc: Global,
+    named: bool,
     opened: &'opened [OpenedFile<'_>],
 ) -> Result<Vec<ProfileFile<'opened>>, AllocError>
     ensures { IfOk result (λ files.
-        AreFilesOf (map opened_view opened.now) (map known_view files.items)) }
+        AreFilesOf named (map opened_view opened.now) (map known_view files.items)) }
 {
     let mut files = Vec::new(alloc);
     for file in opened {
-        files.push(profile_file(alloc, file)?)?;
+        files.push(profile_file(alloc, named, file)?)?;
     }
     Ok(files)
 }
@@ -587,11 +553,12 @@ pub fn profile_files<'opened>(
 /// A file that was opened.
 fn profile_file<'opened>(
     alloc: Global,
+    named: bool,
     opened: &'opened OpenedFile<'_>,
 ) -> Result<ProfileFile<'opened>, AllocError>
-    ensures { IfOk result (λ file. IsFileOf (opened_view opened.now) (known_view file)) }
+    ensures { IfOk result (λ file. IsFileOf named (opened_view opened.now) (known_view file)) }
 {
-    let functions = functions_of(alloc, opened)?;
+    let functions = functions_if(alloc, named, opened)?;
     let code = match &opened.bytes {
         Some(bytes) => code_of(alloc, bytes.as_slice(), slice_of(&opened.debug))?,
         None => None,
@@ -664,6 +631,22 @@ fn names_in<'opened>(
         ≡ kernel_text name.entry.now text.entry.now) }
 {
     KernelNames::of(alloc, text, bytes_from(name, KERNEL_IMAGE.len() as u64))
+}
+
+/// The functions of a file that was opened, if they are asked for.
+fn functions_if<'opened>(
+    alloc: Global,
+    named: bool,
+    opened: &'opened OpenedFile<'_>,
+) -> Result<Option<FileFunctions<'opened>>, AllocError>
+    ensures { IfOk result (λ functions. option_map functions_view functions
+        ≡ functions_if named (opened_view opened.now)) }
+{
+    if named {
+        functions_of(alloc, opened)
+    } else {
+        Ok(None)
+    }
 }
 
 /// The functions of a file that was opened.

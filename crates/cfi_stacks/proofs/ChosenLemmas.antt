@@ -6,14 +6,10 @@ use Rattle.cfi_perf.specs.Events.{Event, Record, ForkEvent, LostEvent, MappingEv
 use Rattle.cfi_processes.specs.KnownFiles.{KnownFile}
 use Rattle.cfi_processes.specs.Replays.{after}
 use Rattle.cfi_processes.specs.ThreadNames.{names_after}
+use Rattle.std.proofs.Common.{◌⊎◌, inl, inr}
 use Rattle.cfi_stacks.specs.Choices.{Choice, limited}
-use Rattle.cfi_stacks.specs.Foldings.{is_left_out, left_after}
+use Rattle.cfi_stacks.specs.Foldings.{IsKnownAfter, IsTurn, is_left_out, left_after}
 use Rattle.cfi_stacks.specs.ProfileOutputs.{AreOfAll, Known, KnownSample, chosen, chosen_of, is_chosen, known_after, sample_at}
-
--- what is known was known before, but for what the event says
-abbrev pub IsKnownAfter : List KnownFile → Event → Known → Known → Type 0
-IsKnownAfter files event before now =
-    ((pid : ℕ) → now.mapped pid ≡ after files event before.mapped pid) × ((tid : ℕ) → now.names tid ≡ names_after event before.names tid)
 
 follows : (files : List KnownFile) (event : Event) (before now : Known) → IsKnownAfter files event before now → now ≡ known_after files event before
 follows files event before now is_after = λ i. record { mapped = λ pid. is_after.0 pid i; names = λ tid. is_after.1 tid i }
@@ -113,6 +109,17 @@ module _ (files : List KnownFile) (choice : Choice) {A : Type 0} (IsOf : KnownSa
         (subst (λ (records : List Record). AreAll records (front ++ (text ++ found))) (sym (append_assoc first (r ∷ []) rest))
         (so.goes_on (r ∷ rest) (text ++ found) (followed before r.time r.event left text rest found inside some here later)));
   })
+
+  -- ---- a record in either way
+
+  pub turned : (first all : List Record) (r : Record) (left more : Option ℕ) (before now : Known) (front found : List A) → all ≡ first ++ r ∷ [] → option_eq nat_eq left (Some 0) ≡ false
+      → GoesOn first left before front → IsTurn IsOf files choice before left r now more found → GoesOn all more now (front ++ found)
+  turned first all r left more before now front found is_all some so (inl (out, same, as_before, none)) =
+      subst (λ (text : List A). GoesOn all more now text) (sym (ap (λ (l : List A). front ++ l) none ∙ append-nil front))
+      (subst (λ (k : Known). GoesOn all more k front) (sym same)
+      (subst (λ (n : Option ℕ). GoesOn all n before front) (sym as_before) (one_passed first all r left before front is_all out so)))
+  turned first all r left more before now front found is_all some so (inr (inside, is_after, as_after, are)) =
+      subst (λ (n : Option ℕ). GoesOn all n now (front ++ found)) (sym as_after) (one_more first all r left before now front found is_all inside some so is_after are)
 
   -- ---- the end
 

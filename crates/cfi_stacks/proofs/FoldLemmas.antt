@@ -22,10 +22,13 @@ use Rattle.cfi_processes.specs.declared.mappings.MappedCode.{MappedCode}
 use Rattle.cfi_processes.specs.declared.registers.SampleMachine.{SampleMachine}
 use Rattle.cfi_processes.specs.KnownFiles.{KnownFile}
 use Rattle.cfi_stacks.specs.FoldedTexts.{frame_name, names_text}
-use Rattle.cfi_stacks.specs.Foldings.{IsFollowed, IsNotFollowed, is_left_out, left_after}
+use Rattle.cfi_object.specs.declared.input.InputError.TheVariants.{OutOfMemory as InputMemory}
+use Rattle.cfi_stacks.specs.declared.folding.Unfolded.{Unfolded}
+use Rattle.cfi_stacks.specs.declared.folding.Unfolded.TheVariants.{Input, TooMany}
+use Rattle.cfi_stacks.specs.Foldings.{AddsAll, IsFollowed, IsNotFollowed, IsTurn}
 use Rattle.cfi_stacks.specs.Choices.{Choice}
-use Rattle.cfi_stacks.specs.ProfileOutputs.{AreFolded, AreOfAll, AreSamples, IsFolded, IsFoldedText, IsSampleOf, IsUnfolded, Known, KnownSample, ended, in_kernel_of, weight}
-use Rattle.cfi_stacks.proofs.ChosenLemmas.{GoesOn, IsKnownAfter, none_gone, one_more, one_passed, so_far, so_many}
+use Rattle.cfi_stacks.specs.ProfileOutputs.{AreFolded, AreOfAll, AreSamples, HasTooMany, IsFolded, IsFoldedText, IsSampleOf, IsUnfolded, Known, KnownSample, ended, in_kernel_of, weight}
+use Rattle.cfi_stacks.proofs.ChosenLemmas.{GoesOn, none_gone, so_far, so_many, turned}
 
 -- one more part of a text, and then the others
 pub then_more : {T E : Type 0} (r : Result T E) (text start next part more : List ℕ) → next ≡ start ++ part → OnOk r (text ≡ next ++ more) → OnOk r (text ≡ start ++ (part ++ more))
@@ -83,28 +86,21 @@ module _ (by_period : Bool) (machine : SampleMachine) (files : List KnownFile) (
   pub none_so_far : (now : Known) (counts : List Stack) → ((pid : ℕ) → now.mapped pid ≡ []) → ((tid : ℕ) → now.names tid ≡ None) → AreCounted [] counts → SoFar [] choice.limit now counts
   none_so_far now counts nothing nameless are = ([], none_gone files choice (IsSampleOf by_period machine files) now nothing nameless, are)
 
-  -- a record was passed by
-  pub one_left_out : (first all : List Record) (r : Record) (left : Option ℕ) (now : Known) (counts : List Stack) → all ≡ first ++ r ∷ [] → is_left_out choice now r.time r.event ≡ true → SoFar first left now counts → SoFar all left now counts
-  one_left_out first all r left now counts is_all out (samples, so, are) = (samples, one_passed files choice (IsSampleOf by_period machine files) first all r left now samples is_all out so, are)
+  -- one more record
+  pub turn_counted : (first all : List Record) (r : Record) (left more : Option ℕ) (before now : Known) (old new samples : List Stack) → all ≡ first ++ r ∷ [] → option_eq nat_eq left (Some 0) ≡ false → SoFar first left before old
+      → IsTurn (IsSampleOf by_period machine files) files choice before left r now more samples → AddsAll samples old new → SoFar all more now new
+  turn_counted first all r left more before now old new samples is_all some (front, so, are) turn adds =
+      (front ++ samples, turned files choice (IsSampleOf by_period machine files) first all r left more before now front samples is_all some so turn, adds front are)
 
-  pub one_so_far : (first all : List Record) (r : Record) (left : Option ℕ) (before now : Known) (old new : List Stack) → all ≡ first ++ r ∷ [] → is_left_out choice before r.time r.event ≡ false → option_eq nat_eq left (Some 0) ≡ false → SoFar first left before old
-      → IsKnownAfter files r.event before now → IsFollowed by_period machine files now r.time r.event old new → SoFar all (left_after left r.event) now new
-  one_so_far first all r left before now old new is_all inside some (front, so, are) is_after (samples, is, adds) = (
-    front ++ samples,
-    one_more files choice (IsSampleOf by_period machine files) first all r left before now front samples is_all inside some so is_after is,
-    adds front are,
-  )
-
-  pub refused_so_far : (n : ℕ) (records : List Record) (r : Record) (left : Option ℕ) (before now : Known) (old : List Stack) (error : FoldedError) → take (n + 1) records ≡ take n records ++ r ∷ [] → is_left_out choice before r.time r.event ≡ false
-      → option_eq nat_eq left (Some 0) ≡ false → SoFar (take n records) left before old → IsKnownAfter files r.event before now → IsNotFollowed by_period machine files now r.time r.event old error → IsUnfolded by_period machine files choice records error
-  refused_so_far n records r left before now old OutOfMemory is_next inside some so is_after h = tt
-  refused_so_far n records r left before now old (NotFolded number) is_next inside some so is_after h = h
-  refused_so_far n records r left before now old NoSamples is_next inside some so is_after h = h
-  refused_so_far n records r left before now old TooManySamples is_next inside some (front, so, are) is_after (samples, is, many) = (
+  -- of which a stack has too many
+  pub too_many : (n : ℕ) (records : List Record) (r : Record) (left more : Option ℕ) (before now : Known) (old samples : List Stack) → take (n + 1) records ≡ take n records ++ r ∷ [] → option_eq nat_eq left (Some 0) ≡ false
+      → SoFar (take n records) left before old → IsTurn (IsSampleOf by_period machine files) files choice before left r now more samples → ((all : List Stack) → AreCounted all old → HasTooMany (all ++ samples))
+      → IsUnfolded by_period machine files choice records TooMany
+  too_many n records r left more before now old samples is_next some (front, so, are) turn many = (
     n + 1,
     front ++ samples,
-    so_far files choice (IsSampleOf by_period machine files) (take (n + 1) records) (left_after left r.event) now (front ++ samples)
-        (one_more files choice (IsSampleOf by_period machine files) (take n records) (take (n + 1) records) r left before now front samples is_next inside some so is_after is),
+    so_far files choice (IsSampleOf by_period machine files) (take (n + 1) records) more now (front ++ samples)
+        (turned files choice (IsSampleOf by_period machine files) (take n records) (take (n + 1) records) r left more before now front samples is_next some so turn),
     many front are,
   )
 
@@ -128,7 +124,7 @@ module _ (by_period : Bool) (machine : SampleMachine) (files : List KnownFile) (
   pub counts_printed : {E : Type 0} (records : List Record) (folded : List Stack) (error : Option PerfError) (old new : Option (List ℕ)) (r : Result ℕ E) → AreFolded by_period machine files choice records folded
       → PrintsSome (λ line. (line ≡ ended Text (flat_map line_text folded) error) ⊎ (line ≡ out_of_memory)) old new r → PrintsSome (λ line. IsFolded by_period machine files choice records error line) old new r
   counts_printed records folded error old new r are (printed, prints, inl e) = (printed, prints, inl (folded, are, e))
-  counts_printed records folded error old new r are (printed, prints, inr e) = (printed, prints, inr (OutOfMemory, tt, e))
+  counts_printed records folded error old new r are (printed, prints, inr e) = (printed, prints, inr (Input InputMemory, tt, e))
 
 module _ (by_period : Bool) (machine : SampleMachine) (files : List KnownFile) where
   -- ---- a sample

@@ -1,6 +1,5 @@
 mod RoomLemmas
 mod ChosenLemmas
-mod SortedRecords
 mod RunLemmas
 mod FoldLemmas
 mod StackLemmas
@@ -12,3 +11,12 @@ mod CoreLemmas
 mod CoreRunLemmas
 mod QuickLemmas
 mod Worked
+mod PieceLemmas
+mod TurnLemmas
+mod AroundLemmas
+mod ShownLemmas
+mod SampleTurns
+mod FoundLemmas
+mod SortedPieces
+mod WantedPieces
+mod TallyLemmas

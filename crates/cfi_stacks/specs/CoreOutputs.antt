@@ -276,7 +276,7 @@ IsOfFiles listing core opened files printed =
 -- by files that were opened
 abbrev pub IsOfOpened : ThreadListing → Core → List Opened → Line → Type 0
 IsOfOpened listing core opened printed =
-    (files : List KnownFile) × AreFilesOf opened files
+    (files : List KnownFile) × AreFilesOf (not listing.raw) opened files
     × IsOfFiles listing core opened files printed
 
 -- the files of a core, and the vdso

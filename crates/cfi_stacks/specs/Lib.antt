@@ -5,6 +5,8 @@ pub mod Reasons
 pub mod StackObjects
 pub mod Choices
 pub mod Rooms
+pub mod ProfileErrors
+pub mod ProfileIndexes
 pub mod ProfileOutputs
 pub mod Foldings
 pub mod ThreadStacks

@@ -6,35 +6,33 @@
 --     chosen choice files records      the samples that are printed, in the order of the records
 --     AreStacks style machine files choice records text      the texts of these
 --     IsPrinted .. records error line      these, and then the error that ended the records; or a
---         beginning of them, and that memory was refused
+--         beginning of them, and that memory was refused, or that the input can't be read
 --     AreSamples by_period machine files choice records samples      the same samples by their
 --         folded stacks
 --     IsFolded .. records error line      their folded stacks, and then that error; or that memory
---         was refused, or that a stack has too many
+--         was refused, that the input can't be read, or that a stack has too many
 --     IsListed listing choice .. records error line      either of these
 --     IsOutput listing choice may_open remaining bytes line      the output of a profile of these
 --         bytes, whose files may be opened so
 use Rattle.std.specs.Prelude.{◌≡◌, ◌⊎◌, ◌<◌, ◌^◌, ℕ, ◌==◌, Bool, true, false, List, [], ◌∷◌, ◌++◌}
-use Rattle.std.specs.Prelude.{Option, Some, None, Result, Ok, Err, codes, map, take, unwrap_or}
+use Rattle.std.specs.Prelude.{Option, Some, None, Result, Ok, Err, codes, map, not, take, unwrap_or}
 use Rattle.std.specs.Prelude.{if◌then◌else◌}
 use Rattle.std.specs.List.{filter, flat_map}
-use Rattle.std.specs.List.Sorted.{IsSortedByKey, IsStableByKey}
-use Rattle.std.specs.Ordering.{nat_cmp}
 use Rattle.cfi_read_core.specs.declared.error.Error.TheVariants as errors
 use Rattle.cfi_read_core.specs.declared.endianity.RunTimeEndian.{RunTimeEndian}
 use Rattle.cfi_read_core.specs.ByteOrder.{is_big}
 use Rattle.cfi_read_core.specs.SliceReaders.{EndianSlice, slice_position}
 use Rattle.cfi_perf.specs.declared.error.PerfError.{PerfError}
-use Rattle.cfi_perf.specs.declared.record.Record.{Record as RecordOfCode}
-use Rattle.cfi_perf.specs.ErrorNames.{name_of_perf}
-use Rattle.cfi_perf.specs.Events.{Event, Record, SampleEvent, record_view}
+use Rattle.cfi_perf.specs.Events.{Event, Record, SampleEvent}
+use Rattle.cfi_perf.specs.Indexes.{IsInTimeOrder}
 use Rattle.cfi_perf.specs.Profiles.{Profile, architecture, profile, profile_records}
 use Rattle.cfi_perf.specs.Records.{Records}
 use Rattle.cfi_perf.specs.Samples.{Sample, kernel_frames, user_frames}
+use Rattle.cfi_inputs.specs.Refusals.{input_refusal}
+use Rattle.cfi_object.specs.declared.input.InputError.{InputError}
 use Rattle.cfi_programs.specs.declared.style.Format.{Format}
 use Rattle.cfi_programs.specs.declared.style.Format.TheVariants as formats
-use Rattle.cfi_programs.specs.Lines.{Line, line, reason_line as why_line, refusal_in, refused_line}
-use Rattle.cfi_programs.specs.Runs.{out_of_memory}
+use Rattle.cfi_programs.specs.Lines.{Line, line, reason_line as why_line, refusal_in}
 use Rattle.cfi_step.specs.declared.module.LoadedModule.{LoadedModule}
 use Rattle.cfi_step.specs.declared.walk.StackFrame.{StackFrame}
 use Rattle.cfi_step.specs.declared.walk.Walk.{Walk}
@@ -52,11 +50,11 @@ use Rattle.cfi_processes.specs.Replays.{after, named, replayed, wanted_of}
 use Rattle.cfi_processes.specs.ThreadNames.{names_after}
 use Rattle.cfi_processes.specs.Wanted.{FilePlace, Wanted}
 use Rattle.cfi_processes.specs.SampleStacks.{HasRoom, IsUnwound, Room}
-use Rattle.cfi_flame.specs.declared.folded.FoldedError.{FoldedError}
-use Rattle.cfi_flame.specs.declared.folded.FoldedError.TheVariants.{OutOfMemory, NotFolded}
-use Rattle.cfi_flame.specs.declared.folded.FoldedError.TheVariants.{NoSamples, TooManySamples}
 use Rattle.cfi_flame.specs.FoldedCounts.{AreCounted, counted, line_text}
 use Rattle.cfi_flame.specs.FoldedStacks.{Stack}
+use Rattle.cfi_stacks.specs.ProfileErrors.{perf_refusal}
+use Rattle.cfi_stacks.specs.declared.folding.Unfolded.{Unfolded}
+use Rattle.cfi_stacks.specs.declared.folding.Unfolded.TheVariants.{Input, TooMany}
 use Rattle.cfi_stacks.specs.declared.listing.Listing.{Listing}
 use Rattle.cfi_stacks.specs.declared.listing.Listing.TheVariants.{Frames, Json, Folded}
 use Rattle.cfi_stacks.specs.declared.listing.StackStyle.{StackStyle}
@@ -288,11 +286,16 @@ module _ (by_period : Bool) (machine : SampleMachine) (files : List KnownFile) w
 
 -- ---- all samples
 
-abbrev pub perf_refusal : Format → PerfError → Line
-perf_refusal format error = refused_line format (name_of_perf error)
-
 abbrev pub no_memory : Format → Line
 no_memory format = refusal_in format errors.OutOfMemory
+
+-- memory was refused, or the input can't be read
+abbrev pub IsRefused : Format → Line → Type 0
+IsRefused format printed = (why : InputError) × (printed ≡ input_refusal format why)
+
+-- behind a text
+abbrev pub behind_text : List ℕ → Line → Line
+behind_text text line = record { text = text ++ line.text; status = line.status }
 
 -- behind the stacks
 abbrev pub ended : Format → List ℕ → Option PerfError → Line
@@ -307,7 +310,7 @@ module _ (style : StackStyle) (machine : SampleMachine) (files : List KnownFile)
         ((text : List ℕ) × AreStacks style machine files choice records text
         × (printed ≡ ended style.format text error))
         ⊎ ((n : ℕ) × (text : List ℕ) × AreStacks style machine files choice (take n records) text
-        × (printed ≡ record { text = text ++ (no_memory style.format).text; status = 1 }))
+        × (why : InputError) × (printed ≡ behind_text text (input_refusal style.format why)))
 
 -- ---- all samples, folded
 
@@ -315,9 +318,9 @@ module _ (style : StackStyle) (machine : SampleMachine) (files : List KnownFile)
 abbrev pub HasTooMany : List Stack → Type 0
 HasTooMany samples = (frames : List ℕ) × ¬ (unwrap_or (counted frames samples) 0 < 2 ^ 64)
 
-abbrev pub folded_refusal : FoldedError → Line
-folded_refusal TooManySamples = line (codes "refused TooManySamples") 1
-folded_refusal _ = out_of_memory
+abbrev pub folded_refusal : Unfolded → Line
+folded_refusal TooMany = line (codes "refused TooManySamples") 1
+folded_refusal (Input why) = input_refusal formats.Text why
 
 module _ (by_period : Bool) (machine : SampleMachine) (files : List KnownFile) (choice : Choice)
   where
@@ -327,12 +330,11 @@ module _ (by_period : Bool) (machine : SampleMachine) (files : List KnownFile) (
         (samples : List Stack) × AreSamples by_period machine files choice records samples
         × AreCounted samples folded
 
-    -- memory was refused, or a stack has too many samples of the first records
-    abbrev pub IsUnfolded : List Record → FoldedError → Type 0
-    IsUnfolded records OutOfMemory = Unit {0}
-    IsUnfolded records (NotFolded number) = ⊥
-    IsUnfolded records NoSamples = ⊥
-    IsUnfolded records TooManySamples =
+    -- memory was refused, the input can't be read, or a stack has too many samples of the first
+    -- records
+    abbrev pub IsUnfolded : List Record → Unfolded → Type 0
+    IsUnfolded records (Input why) = Unit {0}
+    IsUnfolded records TooMany =
         (n : ℕ) × (samples : List Stack)
         × AreSamples by_period machine files choice (take n records) samples × HasTooMany samples
 
@@ -341,7 +343,7 @@ module _ (by_period : Bool) (machine : SampleMachine) (files : List KnownFile) (
     IsFolded records error printed =
         ((folded : List Stack) × AreFolded records folded
         × (printed ≡ ended formats.Text (flat_map line_text folded) error))
-        ⊎ ((why : FoldedError) × IsUnfolded records why × (printed ≡ folded_refusal why))
+        ⊎ ((why : Unfolded) × IsUnfolded records why × (printed ≡ folded_refusal why))
 
 -- ---- as they are listed
 
@@ -370,24 +372,17 @@ unknown_machine format = why_line format (codes "unknown machine") 1
 abbrev pub wrong_input_in : Format → Line
 wrong_input_in format = why_line format (codes "wrong input") 2
 
--- the records by their times, those of one time in the order of the profile
-pub record AreInTimeOrder (records sorted : List Record) : Type 0 where
-  pub read : List RecordOfCode
-  pub ordered : List RecordOfCode
-  pub are : map record_view read ≡ records
-  pub by_time : IsSortedByKey (λ r. r.time) nat_cmp ordered
-  pub stable : IsStableByKey (λ r. r.time) nat_cmp read ordered
-  pub view : map record_view ordered ≡ sorted
-
--- of the records that were found, with the error that ended them
-abbrev pub IsSortedOf : Records → List Record → Option PerfError → Type 0
-IsSortedOf found sorted error = AreInTimeOrder found.records sorted × (error ≡ found.error)
+-- whether functions are printed
+abbrev pub names_functions : Listing → Bool
+names_functions (Frames raw) = not raw
+names_functions (Json raw) = not raw
+names_functions (Folded by_period) = true
 
 -- by files that were opened
 abbrev pub IsOfOpened :
     Listing → Choice → SampleMachine → List Opened → List Record → Option PerfError → Line → Type 0
 IsOfOpened listing choice machine opened sorted error printed =
-    (files : List KnownFile) × AreFilesOf opened files
+    (files : List KnownFile) × AreFilesOf (names_functions listing) opened files
     × IsListed listing choice machine files sorted error printed
 
 module _ (listing : Listing) (choice : Choice) {Handle : Type 0}
@@ -403,12 +398,12 @@ module _ (listing : Listing) (choice : Choice) {Handle : Type 0}
   IsOfSorted machine sorted error printed =
       IsOfWanted machine (wanted_of sorted) sorted error printed
 
-  -- or memory was refused before the first stack
+  -- or memory was refused before the first stack, or the input can't be read
   abbrev pub IsOfRecords : SampleMachine → Records → Line → Type 0
   IsOfRecords machine found printed =
-      ((sorted : List Record) × AreInTimeOrder found.records sorted
+      ((sorted : List Record) × IsInTimeOrder found.records sorted
       × IsOfSorted machine sorted found.error printed)
-      ⊎ (printed ≡ no_memory (format_of listing))
+      ⊎ IsRefused (format_of listing) printed
 
   abbrev pub IsOfMachine : Option SampleMachine → Records → Line → Type 0
   IsOfMachine None found printed = printed ≡ unknown_machine (format_of listing)
@@ -429,8 +424,7 @@ module _ (listing : Listing) (choice : Choice) {Handle : Type 0}
   -- or there was no memory, or the input can't be read
   abbrev pub IsListingOwed : List ℕ → Line → Type 0
   IsListingOwed bytes printed =
-      IsOutput bytes printed
-      ⊎ ((printed ≡ no_memory (format_of listing)) ⊎ (printed ≡ wrong_input_in (format_of listing)))
+      IsOutput bytes printed ⊎ IsRefused (format_of listing) printed
 
 -- where the stacks of all samples are listed one after the other
 module _ (raw : Bool) {Handle : Type 0} (may_open : FilePlace → Option Handle → Type 0)

@@ -186,7 +186,7 @@ fn quick_opened(
         (with_all bytes (core_view partial.now.core) partial.now.places.items)
         (map opened_view opened.now) (line_of quick))) }
 {
-    let files = profile_files(alloc, opened)?;
+    let files = profile_files(alloc, !listing.raw, opened)?;
     quick_by_files(alloc, listing, image, partial, opened, files.as_slice())
 }
 

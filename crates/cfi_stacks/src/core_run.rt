@@ -226,7 +226,7 @@ pub(crate) fn print_opened<W: Write>(
         (map opened_view opened.now) line ⊎ (line ≡ no_memory listing.format))
         (W.contents output.old) (W.contents output.new) result }
 {
-    match profile_files(alloc, opened) {
+    match profile_files(alloc, !listing.raw, opened) {
         Ok(files) => print_by_files(alloc, listing, core, opened, files.as_slice(), output),
         Err(_) => write_refusal_in(output, listing.format, Error::OutOfMemory),
     }

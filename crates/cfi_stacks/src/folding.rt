@@ -1,9 +1,9 @@
 //! The folded stacks of a profile's samples.
-ghost use Rattle.std.specs.Prelude.{◌≡◌, ◌⊎◌, IfErr, IfOk, OnOk, map};
+ghost use Rattle.std.specs.Prelude.{◌≡◌, ◌⊎◌, IfErr, IfOk, List, OnOk, map, true};
 ghost use Rattle.std.specs.List.{flat_map};
-ghost use Rattle.cfi_flame.specs.declared.folded.FoldedError.TheVariants.{TooManySamples};
 ghost use Rattle.cfi_flame.specs.FoldedCounts.{counted_in, line_text};
 ghost use Rattle.cfi_perf.specs.Events.{record_view};
+ghost use Rattle.cfi_perf.specs.Recordings.{is_sample};
 ghost use Rattle.cfi_perf.specs.Samples.{sample_view};
 ghost use Rattle.cfi_programs.specs.Runs.{out_of_memory};
 ghost use Rattle.cfi_programs.specs.WriterOutput.{Prints, PrintsSome};
@@ -16,17 +16,21 @@ ghost use Rattle.cfi_processes.specs.SampleStacks.{HasRoom};
 ghost use Rattle.cfi_processes.specs.ThreadNames.{bytes_of};
 ghost use Rattle.cfi_programs.specs.declared.style.Format.TheVariants.{Text};
 ghost use Rattle.cfi_stacks.specs.Choices.{choice_view};
-ghost use Rattle.cfi_stacks.specs.Foldings.{IsFollowed, IsNotFollowed};
+ghost use Rattle.cfi_stacks.specs.Foldings.{CountsRecord, CountsTurn, IsFollowed, IsNotFollowed};
+ghost use Rattle.cfi_stacks.specs.ProfileIndexes.{HoldsOf, IsIndex};
 ghost use Rattle.cfi_stacks.specs.ProfileOutputs.{AreFolded, IsFolded, IsFoldedText, IsUnfolded};
 ghost use Rattle.cfi_stacks.specs.ProfileOutputs.{ended, folded_refusal, known_in, weight};
 ghost use Rattle.cfi_stacks.specs.Rooms.{IsRoomFor, KeepsNoRows};
 
 use crate::choice::{Choice, is_left_out, left_after};
 use crate::folded_text::push_stack;
-use crate::run::write_end;
+use crate::profile_index::ProfileIndex;
+use crate::run::{follow_other, load_for, write_end};
 use crate::sample_text::{REGISTERS, Room};
 use cfi_flame::{FoldedError, StackCounts};
-use cfi_perf::{Event, PerfError, Record, Sample};
+use cfi_inputs::write_input_refusal;
+use cfi_object::input::{FileInput, InputError};
+use cfi_perf::{Event, PerfError, PlaceKind, Record, RecordPlace, Sample};
 use cfi_processes::Name;
 use cfi_processes::process_code::{FileModule, KERNEL, ProcessCode};
 use cfi_processes::profile_files::ProfileFile;
@@ -41,96 +45,193 @@ use std::alloc::{AllocError, Global};
 use std::io;
 use std::io::Write;
 
+/// Why the samples of a profile weren't counted.
+#[derive(Clone, Copy)]
+pub enum Unfolded {
+    /// The profile couldn't be read, or memory was refused.
+    Input(InputError),
+    /// A stack has too many samples.
+    TooMany,
+}
+
 /// Prints the folded stacks of the records, by the files, and then the error that ended the
 /// records.
-pub(crate) fn print_folded<W: Write>(
+pub(crate) fn print_folded<I: FileInput, W: Write>(
     alloc: Global,
     by_period: bool,
     choice: &Choice<'_>,
     machine: SampleMachine,
     files: &[ProfileFile<'_>],
-    records: &[Record<'_>],
-    error: Option<PerfError>,
+    index: &ProfileIndex<'_>,
+    input: &mut I,
     output: &mut W,
 ) -> io::Result<u8>
-    ensures { PrintsSome (λ line. IsFolded by_period machine (map known_view files.now)
-        (choice_view choice.now) (map record_view records.now) error line)
+    requires { IsIndex (I.bytes input.old) index.now }
+    ensures { PrintsSome (λ line. HoldsOf (I.bytes input.old) index.now (λ sorted.
+        IsFolded by_period machine (map known_view files.now)
+        (choice_view choice.now) sorted index.now.error line))
         (W.contents output.old) (W.contents output.new) result }
 {
-    match fold_records(alloc, by_period, choice, machine, files, records) {
-        Ok(counts) => write_counts(alloc, &counts, error, output),
-        Err(error) => write_folded_refusal(output, error),
+    match fold_records(alloc, by_period, choice, machine, files, index, input) {
+        Ok(counts) => write_counts(alloc, &counts, index.error, output),
+        Err(error) => write_unfolded(output, error),
     }
 }
 
 /// Counts the samples of the records by their folded stacks.
-fn fold_records(
+fn fold_records<I: FileInput>(
     alloc: Global,
     by_period: bool,
     choice: &Choice<'_>,
     machine: SampleMachine,
     files: &[ProfileFile<'_>],
-    records: &[Record<'_>],
-) -> Result<StackCounts, FoldedError>
-    ensures folded { IfOk result (λ counts. AreFolded by_period machine
-        (map known_view files.now) (choice_view choice.now) (map record_view records.now)
-        (counted_in counts)) }
-    ensures refused { IfErr result (IsUnfolded by_period machine
-        (map known_view files.now) (choice_view choice.now) (map record_view records.now)) }
+    index: &ProfileIndex<'_>,
+    input: &mut I,
+) -> Result<StackCounts, Unfolded>
+    requires index { IsIndex (I.bytes input.old) index.now }
+    ensures folded { IfOk result (λ counts. HoldsOf (I.bytes input.old) index.now (λ sorted.
+        AreFolded by_period machine (map known_view files.now) (choice_view choice.now) sorted
+        (counted_in counts))) }
+    ensures refused { IfErr result (λ why. HoldsOf (I.bytes input.old) index.now (λ sorted.
+        IsUnfolded by_period machine (map known_view files.now) (choice_view choice.now) sorted
+        why)) }
 {
     match Room::new(alloc) {
-        Ok(room) => fold_in(alloc, by_period, choice, room, machine, files, records),
-        Err(_) => Err(FoldedError::OutOfMemory),
+        Ok(room) => fold_in(alloc, by_period, choice, room, machine, files, index, input),
+        Err(_) => Err(Unfolded::Input(InputError::OutOfMemory)),
     }
 }
 
 /// Counts the samples of the records in this room. Neither a sample that isn't chosen nor one
 /// behind the limit is unwound.
-fn fold_in(
+fn fold_in<I: FileInput>(
     alloc: Global,
     by_period: bool,
     choice: &Choice<'_>,
     room: Room,
     machine: SampleMachine,
     files: &[ProfileFile<'_>],
-    records: &[Record<'_>],
-) -> Result<StackCounts, FoldedError>
+    index: &ProfileIndex<'_>,
+    input: &mut I,
+) -> Result<StackCounts, Unfolded>
     requires rows { KeepsNoRows room }
     requires frames { HasRoom room.frames.items }
-    ensures folded { IfOk result (λ counts. AreFolded by_period machine
-        (map known_view files.now) (choice_view choice.now) (map record_view records.now)
-        (counted_in counts)) }
-    ensures refused { IfErr result (IsUnfolded by_period machine
-        (map known_view files.now) (choice_view choice.now) (map record_view records.now)) }
+    requires index { IsIndex (I.bytes input.old) index.now }
+    ensures folded { IfOk result (λ counts. HoldsOf (I.bytes input.old) index.now (λ sorted.
+        AreFolded by_period machine (map known_view files.now) (choice_view choice.now) sorted
+        (counted_in counts))) }
+    ensures refused { IfErr result (λ why. HoldsOf (I.bytes input.old) index.now (λ sorted.
+        IsUnfolded by_period machine (map known_view files.now) (choice_view choice.now) sorted
+        why)) }
 {
     let mut room = room;
     let mut replay = Replay::new(alloc, files);
     let mut line = Vec::new(alloc);
     let mut counts = StackCounts::new(alloc);
     let mut left = choice.limit;
-    for record in records {
+    for place in index.records.places() {
         if left == Some(0) {
             return Ok(counts);
         }
-        if is_left_out(choice, &replay, record) {
-            continue;
-        }
-        left = left_after(left, record);
-        match replay.follow(record) {
-            Ok(()) => fold_followed(
-                alloc,
-                by_period,
-                machine,
-                &replay,
-                record,
-                &mut room,
-                &mut line,
-                &mut counts,
-            )?,
-            Err(_) => return Err(FoldedError::OutOfMemory),
-        }
+        left = fold_place(
+            alloc,
+            by_period,
+            choice,
+            machine,
+            index,
+            place,
+            left,
+            input,
+            &mut replay,
+            &mut room,
+            &mut line,
+            &mut counts,
+        )?;
     }
     Ok(counts)
+}
+
+/// Follows the record at a place, and counts it if it is a sample that is chosen. Returns how many
+/// more may be counted.
+fn fold_place<'k, I: FileInput>(
+    alloc: Global,
+    by_period: bool,
+    choice: &Choice<'_>,
+    machine: SampleMachine,
+    index: &'k ProfileIndex<'_>,
+    place: &RecordPlace,
+    left: Option<u64>,
+    input: &mut I,
+    replay: &mut Replay<'_, '_, 'k>,
+    room: &mut Room,
+    line: &mut Vec<u8>,
+    counts: &mut StackCounts,
+) -> Result<Option<u64>, Unfolded>
+    requires own { HasOwnModules replay.old }
+    requires cached { IsRoomFor (files_of replay.old) room.old }
+    ensures counted { CountsTurn by_period machine (files_in replay.old) (choice_view choice.now)
+        (I.bytes input.old) index.now place.now (known_in replay.old) left (known_in replay.new)
+        (counted_in counts.old) (counted_in counts.new) result }
+    ensures same { I.bytes input.new ≡ I.bytes input.old }
+    ensures own { HasOwnModules replay.new }
+    ensures cached { IsRoomFor (files_of replay.new) room.new }
+    ensures files { files_of replay.new ≡ files_of replay.old }
+{
+    match place.kind {
+        PlaceKind::InFile => match index.sample_bytes(alloc, place, input) {
+            Ok(bytes) => {
+                let Some(item) = index.sample_at(place, bytes.as_slice()) else {
+                    return Err(Unfolded::Input(InputError::Unreadable));
+                };
+                fold_chosen(
+                    alloc, by_period, choice, machine, &item, left, replay, room, line, counts,
+                )
+            }
+            Err(error) => Err(Unfolded::Input(error)),
+        },
+        _ => match follow_other(index, place, left, replay) {
+            Ok(left) => Ok(left),
+            Err(error) => Err(Unfolded::Input(error)),
+        },
+    }
+}
+
+/// Counts a sample, if it is chosen.
+fn fold_chosen(
+    alloc: Global,
+    by_period: bool,
+    choice: &Choice<'_>,
+    machine: SampleMachine,
+    item: &Record<'_>,
+    left: Option<u64>,
+    replay: &mut Replay<'_, '_, '_>,
+    room: &mut Room,
+    line: &mut Vec<u8>,
+    counts: &mut StackCounts,
+) -> Result<Option<u64>, Unfolded>
+    requires sample { is_sample (record_view item.now).event ≡ true }
+    requires own { HasOwnModules replay.old }
+    requires cached { IsRoomFor (files_of replay.old) room.old }
+    ensures counted { CountsRecord by_period machine (files_in replay.old) (choice_view choice.now)
+        (record_view item.now) (known_in replay.old) left (known_in replay.new)
+        (counted_in counts.old) (counted_in counts.new) result }
+    ensures own { HasOwnModules replay.new }
+    ensures cached { IsRoomFor (files_of replay.new) room.new }
+    ensures files { files_of replay.new ≡ files_of replay.old }
+{
+    if is_left_out(choice, replay, item) {
+        return Ok(left);
+    }
+    match load_for(replay, item) {
+        Ok(()) => {
+            match fold_followed(alloc, by_period, machine, replay, item, room, line, counts) {
+                Ok(()) => Ok(left_after(left, item)),
+                Err(FoldedError::TooManySamples) => Err(Unfolded::TooMany),
+                Err(_) => Err(Unfolded::Input(InputError::OutOfMemory)),
+            }
+        }
+        Err(_) => Err(Unfolded::Input(InputError::OutOfMemory)),
+    }
 }
 
 /// Counts a record that was followed last, if it is a sample.
@@ -256,21 +357,19 @@ fn write_folded<W: Write>(text: &[u8], error: Option<PerfError>, output: &mut W)
     write_end(output, Format::Text, error)
 }
 
-/// Prints why there are no folded stacks, and returns the status 1.
-fn write_folded_refusal<W: Write>(output: &mut W, error: FoldedError) -> io::Result<u8>
+/// Prints why there are no folded stacks, and returns the status.
+fn write_unfolded<W: Write>(output: &mut W, error: Unfolded) -> io::Result<u8>
     ensures { Prints (folded_refusal error) (W.contents output.old) (W.contents output.new) result }
 {
     match error {
-        FoldedError::OutOfMemory => write_refusal(output, Error::OutOfMemory),
-        FoldedError::NotFolded(_) => write_refusal(output, Error::OutOfMemory),
-        FoldedError::NoSamples => write_refusal(output, Error::OutOfMemory),
-        FoldedError::TooManySamples => write_too_many(output),
+        Unfolded::Input(error) => write_input_refusal(output, Format::Text, error),
+        Unfolded::TooMany => write_too_many(output),
     }
 }
 
 /// Prints that a stack has too many samples, and returns the status 1.
 fn write_too_many<W: Write>(output: &mut W) -> io::Result<u8>
-    ensures { Prints (folded_refusal TooManySamples)
+    ensures { Prints (folded_refusal Unfolded.TooMany)
         (W.contents output.old) (W.contents output.new) result }
 {
     write_text(output, b"refused TooManySamples\n")?;

@@ -35,7 +35,7 @@ pub struct StackStyle {
 
 impl Listing {
     ghost use Rattle.std.specs.Prelude.{◌≡◌};
-    ghost use Rattle.cfi_stacks.specs.ProfileOutputs.{format_of};
+    ghost use Rattle.cfi_stacks.specs.ProfileOutputs.{format_of, names_functions};
 
     /// The form of the line that says why there are no more stacks.
     pub(crate) fn format(self) -> Format
@@ -44,6 +44,17 @@ impl Listing {
         match self {
             Listing::Json(_) => Format::Json,
             _ => Format::Text,
+        }
+    }
+
+    /// Whether functions are printed.
+    pub(crate) fn names_functions(self) -> bool
+        ensures { result ≡ names_functions self }
+    {
+        match self {
+            Listing::Frames(raw) => !raw,
+            Listing::Json(raw) => !raw,
+            Listing::Folded(_) => true,
         }
     }
 }

@@ -1,10 +1,11 @@
-use Rattle.std.proofs.Common.{◌≡◌, ◌≤◌, ◌++◌, ⊎_elim, inl, inr, length}
+use Rattle.std.proofs.Common.{◌≤◌, ◌++◌, ⊎_elim, inl, inr, length}
 use Rattle.std.proofs.lemmas.Result.{err_from_is_err_and}
 use Rattle.cfi_read_core.specs.ByteOrder.{is_big}
 use Rattle.cfi_perf.specs.EventTables.{table_view}
 use Rattle.cfi_perf.specs.Events.{record_view}
+use Rattle.cfi_perf.specs.Records.{HasUncounted}
 use Rattle.cfi_perf.specs.Windows.{framed_in}
-use Rattle.cfi_perf.proofs.WindowSteps.{first_found, frame_refused, record_refused, trace_tells_nothing}
+use Rattle.cfi_perf.proofs.WindowSteps.{first_found, frame_refused, record_refused, tells_nothing}
 use Rattle.cfi_perf.proofs.windows.first_in_window.Goals as goal
 
 pub returns-in_err-found-clause-first : goal.returns-in_err-found-clause-first
@@ -25,5 +26,5 @@ pub returns-clause-within : goal.returns-clause-within
 returns-clause-within c =
     let found = c.in_ok-found.found in
     ⊎_elim
-    (λ (kind : found.header.kind ≡ 71). inl (trace_tells_nothing (table_view c.args.events.now) (is_big c.args.endian) found.header found.body.now (record_view c.in_ok-first.first) kind c.in_ok-first.ensures))
+    (λ (kind : HasUncounted found.header.kind). inl (tells_nothing (table_view c.args.events.now) (is_big c.args.endian) found.header found.body.now (record_view c.in_ok-first.first) kind c.in_ok-first.ensures))
     (λ (fits : found.size ≤ length c.args.window.now). inr fits) c.in_ok-found.ensures.within

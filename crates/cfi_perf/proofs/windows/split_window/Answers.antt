@@ -24,8 +24,8 @@ returns-in_default-part-clause-framed c others of =
     let none : part c.args.window.now 8 (c.in-Ok.header.size - 8) ≡ None = search rules in
     cut_body (is_big c.args.endian) c.args.window.now others c.args.left of c.in-Ok.header is (omega arith) fits none
 
-pub returns-in_err-trace-clause-framed : goal.returns-in_err-trace-clause-framed
-returns-in_err-trace-clause-framed c others of =
+pub returns-in_err-more-clause-framed : goal.returns-in_err-more-clause-framed
+returns-in_err-more-clause-framed c others of =
     let big = is_big c.args.endian in
     let window = c.args.window.now in
     let header = c.in-Ok.header in
@@ -35,7 +35,7 @@ returns-in_err-trace-clause-framed c others of =
     let same : c.args.left - header.size ≡ c.saturating_sub.result = omega arith in
     let behind = behind_length big window others c.args.left of header.size ∙ same in
     let p = err_from_is_err_and c.from_residual.result c.from_residual.ensures.1 in
-    rw (p.1, p.2) (cut_trace big window others c.args.left of header is (omega arith) fits c.in-Some.body.now some c.in_err-trace.field-0.0 (c.in_err-trace.ensures.others (drop header.size (window ++ others)) behind))
+    rw (p.1, p.2) (cut_trace big window others c.args.left of header is (omega arith) fits c.in-Some.body.now some c.in_err-more.field-0.0 (c.in_err-more.ensures.others (drop header.size (window ++ others)) behind))
 
 pub returns-clause-framed : goal.returns-clause-framed
 returns-clause-framed c others of =
@@ -47,6 +47,6 @@ returns-clause-framed c others of =
     let some : part window 8 (header.size - 8) ≡ Some c.in-Some.body.now = search rules in
     let same : c.args.left - header.size ≡ c.saturating_sub.result = omega arith in
     let behind = behind_length big window others c.args.left of header.size ∙ same in
-    let trace = c.in_ok-trace.trace in
-    ap (λ (n : ℕ). with_others header c.in-Some.body.now (drop (n + trace) (window ++ others))) c.from-size.ensures
-    ∙ framed big window others c.args.left of header is (omega arith) fits c.in-Some.body.now some trace (c.in_ok-trace.ensures.others (drop header.size (window ++ others)) behind)
+    let more = c.in_ok-more.more in
+    ap (λ (n : ℕ). with_others header c.in-Some.body.now (drop (n + more) (window ++ others))) c.from-size.ensures
+    ∙ framed big window others c.args.left of header is (omega arith) fits c.in-Some.body.now some more (c.in_ok-more.ensures.others (drop header.size (window ++ others)) behind)

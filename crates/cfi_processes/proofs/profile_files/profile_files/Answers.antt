@@ -13,10 +13,10 @@ loop-file-preserved c =
     let before = c.loop-file.files.items in
     let file = c.in_ok-profile_file.field-0 in
     let same : get_or opened i c.file-item.result ≡ c.file-item.result = search rules in
-    one_file (map opened_view opened) opened i c.file-item.result (map known_view before) (map known_view c.push.new.self.items) (known_view file) c.loop-file-test.true
+    one_file c.args.named (map opened_view opened) opened i c.file-item.result (map known_view before) (map known_view c.push.new.self.items) (known_view file) c.loop-file-test.true
     (ap (map known_view) c.in_ok-push.ensures.items ∙ map_push known_view before file)
     c.loop-file.invariant
-    (subst (λ (o : OpenedFile). IsFileOf (opened_view o) (known_view file)) (sym same) c.in_ok-profile_file.ensures)
+    (subst (λ (o : OpenedFile). IsFileOf c.args.named (opened_view o) (known_view file)) (sym same) c.in_ok-profile_file.ensures)
 
 pub returns : goal.returns
-returns c = all_files c.args.opened.now c.loop-file.file-index (map known_view c.loop-file.files.items) c.loop-file-test.false c.loop-file.invariant
+returns c = all_files c.args.named c.args.opened.now c.loop-file.file-index (map known_view c.loop-file.files.items) c.loop-file-test.false c.loop-file.invariant

@@ -5,4 +5,4 @@ use Rattle.cfi_processes.proofs.FileLemmas.{IsFilesOn}
 use Rattle.cfi_processes.proofs.profile_files.profile_files.Given as goal
 
 abbrev pub invariant-loop-file : goal.invariant-loop-file
-invariant-loop-file l = IsFilesOn (map opened_view l.opened) (map opened_view (drop l.file-index l.opened)) (map known_view l.files.items)
+invariant-loop-file l = IsFilesOn l.named (map opened_view l.opened) (map opened_view (drop l.file-index l.opened)) (map known_view l.files.items)

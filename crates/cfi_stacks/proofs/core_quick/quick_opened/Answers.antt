@@ -1,4 +1,4 @@
-use Rattle.std.proofs.Common.{List, ap, map, subst, sym}
+use Rattle.std.proofs.Common.{List, ap, map, not, subst, sym}
 use Rattle.cfi_cores.specs.CoreFiles.{core_view}
 use Rattle.cfi_cores.specs.CoreParts.{with_all}
 use Rattle.cfi_processes.specs.KnownFiles.{KnownFile, known_view}
@@ -14,4 +14,4 @@ returns c = λ bytes of is.
     let opened = map opened_view c.args.opened.now in
     let files = map known_view c.as_slice.result.now in
     each_found c.quick_by_files.result (λ quick. IsOfFiles c.args.listing (with_all bytes (core_view partial.core) partial.places.items) opened files (line_of quick)) _
-    (λ quick has. (files, subst (λ (files : List KnownFile). AreFilesOf opened files) (sym (ap (map known_view) c.as_slice.ensures.value)) c.in_ok-files.ensures, has)) (c.quick_by_files.ensures bytes of is)
+    (λ quick has. (files, subst (λ (files : List KnownFile). AreFilesOf (not c.args.listing.raw) opened files) (sym (ap (map known_view) c.as_slice.ensures.value)) c.in_ok-files.ensures, has)) (c.quick_by_files.ensures bytes of is)

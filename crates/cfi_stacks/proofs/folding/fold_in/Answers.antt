@@ -1,90 +1,86 @@
-use Rattle.std.proofs.Common.{◌∙◌, ◌+◌, ℕ, List, Option, map, subst, sym, take}
+use Rattle.std.proofs.Common.{◌≡◌, ◌∙◌, ◌+◌, ◌<◌, ◌≤◌, ℕ, List, Option, Result, Ok, Err, ap, arith, get_or, length, map, refl, subst, sym}
 use Rattle.std.proofs.lemmas.Result.{err_from_is_err_and}
 use Rattle.cfi_flame.specs.FoldedCounts.{counted_in}
-use Rattle.cfi_perf.specs.Events.{record_view}
+use Rattle.cfi_perf.specs.declared.index.PlaceKind.TheVariants.{InFile}
+use Rattle.cfi_perf.specs.declared.index.RecordPlace.{RecordPlace}
 use Rattle.cfi_processes.specs.declared.profile_files.ProfileFile.{ProfileFile}
 use Rattle.cfi_processes.specs.KnownFiles.{known_view}
-use Rattle.cfi_stacks.specs.Foldings.{IsFollowed, IsNotFollowed}
+use Rattle.cfi_stacks.specs.Choices.{choice_view}
 use Rattle.cfi_stacks.specs.ProfileOutputs.{known_in}
 use Rattle.cfi_stacks.specs.Rooms.{IsRoomFor}
-use Rattle.cfi_stacks.proofs.FoldLemmas.{SoFar, all_so_far, many_so_far, none_so_far, one_left_out, one_so_far, refused_so_far}
 use Rattle.cfi_stacks.proofs.RoomLemmas.{room_for_all}
-use Rattle.cfi_stacks.proofs.RunLemmas.{all_records, next_record}
-use Rattle.cfi_stacks.specs.Choices.{choice_view}
-use Rattle.cfi_stacks.proofs.ChosenLemmas.{IsKnownAfter}
+use Rattle.cfi_stacks.proofs.TurnLemmas.{after_count, all_counted, count_of, many_counted, none_counted, place_at, place_inside, places_passed, refused_count}
 use Rattle.cfi_stacks.proofs.folding.fold_in.Goals as goal
 
-pub loop-record-init : goal.loop-record-init
-loop-record-init c = (
+pub loop-place-init : goal.loop-place-init
+loop-place-init g c = (
   c.new-replay.ensures.files,
-  none_so_far c.args.by_period c.args.machine (map known_view c.args.files.now) (choice_view c.args.choice.now) (known_in c.new-replay.result) (counted_in c.new-counts.result) c.new-replay.ensures.nothing c.new-replay.ensures.nameless c.new-counts.ensures,
+  c.places-place-items.ensures,
+  none_counted c.args.by_period c.args.machine (map known_view c.args.files.now) (choice_view c.args.choice.now) (g.I.FileInput.bytes c.args.input.now) c.args.index.now (known_in c.new-replay.result) (counted_in c.new-counts.result) c.requires.index
+      c.new-replay.ensures.nothing c.new-replay.ensures.nameless c.new-counts.ensures,
   room_for_all c.args.files.now c.args.room c.requires.frames c.requires.rows,
   c.new-replay.ensures.own,
+  refl,
 )
 
+pub loop-place-preserved : goal.loop-place-preserved
+loop-place-preserved g c =
+    let files = map known_view c.args.files.now in
+    let choice = choice_view c.args.choice.now in
+    let known = g.I.FileInput.bytes c.args.input.now in
+    let index = c.args.index.now in
+    let items = c.places-place-items.result.now in
+    let i = c.loop-place.place-index in
+    let (same_files, are, so, cached, own, same) = c.loop-place.invariant in
+    let before = known_in c.loop-place.replay in
+    let now = known_in c.fold_place.new.replay in
+    let old = counted_in c.loop-place.counts in
+    let new = counted_in c.fold_place.new.counts in
+    let d : RecordPlace = record { time = 0; offset = 0; size = 0; kind = InFile } in
+    let place = get_or items i d in
+    let turn = count_of c.args.by_period c.args.machine choice index place before now c.loop-place.left old new c.loop-place.replay.files.now c.args.files.now (g.I.FileInput.bytes c.loop-place.input) known _ same_files same c.in_ok-left.ensures.counted in (
+      c.in_ok-left.ensures.files ∙ same_files,
+      are,
+      after_count c.args.by_period c.args.machine files choice known index i place c.loop-place.left before now old new (place_inside items index i are c.loop-place-test.true) (place_at items index i d are c.loop-place-test.true)
+          (sym c.eq.ensures ∙ c.if-eq.false) c.in_ok-left.left so turn,
+      subst (λ (loaded : List ProfileFile). IsRoomFor loaded c.fold_place.new.room) (c.in_ok-left.ensures.files ∙ same_files) c.in_ok-left.ensures.cached,
+      c.in_ok-left.ensures.own,
+      c.in_ok-left.ensures.same ∙ same,
+    )
+
 pub returns-clause-folded : goal.returns-clause-folded
-returns-clause-folded c =
-    all_so_far c.args.by_period c.args.machine (map known_view c.args.files.now) (choice_view c.args.choice.now) _ (map record_view c.args.records.now) _ _ _ (all_records c.args.records.now c.loop-record.record-index c.loop-record-test.false) c.loop-record.invariant.1
-
-pub returns-in_err-fold_followed-in-Ok-clause-refused : goal.returns-in_err-fold_followed-in-Ok-clause-refused
-returns-in_err-fold_followed-in-Ok-clause-refused c =
-    let files = map known_view c.args.files.now in
-    let records = map record_view c.args.records.now in
-    let i = c.loop-record.record-index in
-    let r = c.record-item.result in
-    let same = c.in-Ok.ensures.files ∙ c.loop-record.invariant.0 in
-    let p = err_from_is_err_and c.from_residual.result c.from_residual.ensures.1 in
-    let error = c.in_err-fold_followed-in-Ok.field-0.0 in
-    let is_after : IsKnownAfter files (record_view r).event (known_in c.loop-record.replay) (known_in c.follow.new.self) =
-    subst (λ (known : List ProfileFile). IsKnownAfter (map known_view known) (record_view r).event (known_in c.loop-record.replay) (known_in c.follow.new.self)) c.loop-record.invariant.0 (c.in-Ok.ensures.processes, c.in-Ok.ensures.names) in
-    let refused : IsNotFollowed c.args.by_period c.args.machine files (known_in c.follow.new.self) r.time (record_view r).event (counted_in c.loop-record.counts) error =
-    subst (λ (known : List ProfileFile). IsNotFollowed c.args.by_period c.args.machine (map known_view known) (known_in c.follow.new.self) r.time (record_view r).event (counted_in c.loop-record.counts) error) same
-    c.in_err-fold_followed-in-Ok.ensures.refused in
-    let inside = sym c.is_left_out.ensures ∙ c.if-is_left_out.false in
-    let some = sym c.eq.ensures ∙ c.if-eq.false in
-    rw (p.1, p.2) (refused_so_far c.args.by_period c.args.machine files (choice_view c.args.choice.now) i records (record_view r) _ (known_in c.loop-record.replay) (known_in c.follow.new.self) _ _ (next_record c.args.records.now i r c.record-item.is c.loop-record-test.true) inside some c.loop-record.invariant.1 is_after refused)
-
-pub loop-record-preserved : goal.loop-record-preserved
-loop-record-preserved c =
-    let files = map known_view c.args.files.now in
-    let records = map record_view c.args.records.now in
-    let i = c.loop-record.record-index in
-    let r = c.record-item.result in
-    let same = c.in-Ok.ensures.files ∙ c.loop-record.invariant.0 in
-    let is_after : IsKnownAfter files (record_view r).event (known_in c.loop-record.replay) (known_in c.follow.new.self) =
-    subst (λ (known : List ProfileFile). IsKnownAfter (map known_view known) (record_view r).event (known_in c.loop-record.replay) (known_in c.follow.new.self)) c.loop-record.invariant.0 (c.in-Ok.ensures.processes, c.in-Ok.ensures.names) in
-    let followed : IsFollowed c.args.by_period c.args.machine files (known_in c.follow.new.self) r.time (record_view r).event (counted_in c.loop-record.counts) (counted_in c.fold_followed.new.counts) =
-    subst (λ (known : List ProfileFile). IsFollowed c.args.by_period c.args.machine (map known_view known) (known_in c.follow.new.self) r.time (record_view r).event (counted_in c.loop-record.counts) (counted_in c.fold_followed.new.counts)) same
-    c.in_ok-fold_followed-in-Ok.ensures.followed in
-    let inside = sym c.is_left_out.ensures ∙ c.if-is_left_out.false in
-    let some = sym c.eq.ensures ∙ c.if-eq.false in
-    let so = one_so_far c.args.by_period c.args.machine files (choice_view c.args.choice.now) (take i records) (take (i + 1) records) (record_view r) c.loop-record.left (known_in c.loop-record.replay) (known_in c.follow.new.self) _ _
-    (next_record c.args.records.now i r c.record-item.is c.loop-record-test.true) inside some c.loop-record.invariant.1 is_after followed in (
-      same,
-      subst (λ (left : Option ℕ). SoFar c.args.by_period c.args.machine files (choice_view c.args.choice.now) (take (i + 1) records) left (known_in c.follow.new.self) (counted_in c.fold_followed.new.counts)) (sym c.left_after-left.ensures) so,
-      subst (λ (known : List ProfileFile). IsRoomFor known c.fold_followed.new.room) same c.in_ok-fold_followed-in-Ok.ensures.cached,
-      c.in-Ok.ensures.own c.loop-record.invariant.3,
-    )
-
-pub loop-record-preserved-then-is_left_out : goal.loop-record-preserved-then-is_left_out
-loop-record-preserved-then-is_left_out c =
-    let records = map record_view c.args.records.now in
-    let i = c.loop-record.record-index in
-    let r = c.record-item.result in (
-      c.loop-record.invariant.0,
-      one_left_out c.args.by_period c.args.machine (map known_view c.args.files.now) (choice_view c.args.choice.now) (take i records) (take (i + 1) records) (record_view r) _ _ _
-          (next_record c.args.records.now i r c.record-item.is c.loop-record-test.true) (sym c.is_left_out.ensures ∙ c.if-is_left_out.true) c.loop-record.invariant.1,
-      c.loop-record.invariant.2,
-      c.loop-record.invariant.3,
-    )
+returns-clause-folded g c =
+    let (same_files, are, so, cached, own, same) = c.loop-place.invariant in
+    all_counted c.args.by_period c.args.machine (map known_view c.args.files.now) (choice_view c.args.choice.now) (g.I.FileInput.bytes c.args.input.now) c.args.index.now c.loop-place.place-index c.loop-place.left (known_in c.loop-place.replay) (counted_in c.loop-place.counts)
+    (places_passed c.places-place-items.result.now c.args.index.now c.loop-place.place-index are c.loop-place-test.false) so
 
 pub returns-then-eq-clause-folded : goal.returns-then-eq-clause-folded
-returns-then-eq-clause-folded c =
-    many_so_far c.args.by_period c.args.machine (map known_view c.args.files.now) (choice_view c.args.choice.now) c.loop-record.record-index (map record_view c.args.records.now) _ _ _ (sym c.eq.ensures ∙ c.if-eq.true) c.loop-record.invariant.1
+returns-then-eq-clause-folded g c =
+    let (same_files, are, so, cached, own, same) = c.loop-place.invariant in
+    many_counted c.args.by_period c.args.machine (map known_view c.args.files.now) (choice_view c.args.choice.now) (g.I.FileInput.bytes c.args.input.now) c.args.index.now c.loop-place.place-index c.loop-place.left (known_in c.loop-place.replay) (counted_in c.loop-place.counts)
+    (sym c.eq.ensures ∙ c.if-eq.true) so
 
-pub fold_followed-requires-clause-cached : goal.fold_followed-requires-clause-cached
-fold_followed-requires-clause-cached c =
-    subst (λ (known : List ProfileFile). IsRoomFor known c.loop-record.room) (sym (c.in-Ok.ensures.files ∙ c.loop-record.invariant.0)) c.loop-record.invariant.2
+pub returns-in_err-left-clause-refused : goal.returns-in_err-left-clause-refused
+returns-in_err-left-clause-refused g c =
+    let files = map known_view c.args.files.now in
+    let choice = choice_view c.args.choice.now in
+    let known = g.I.FileInput.bytes c.args.input.now in
+    let index = c.args.index.now in
+    let items = c.places-place-items.result.now in
+    let i = c.loop-place.place-index in
+    let (same_files, are, so, cached, own, same) = c.loop-place.invariant in
+    let before = known_in c.loop-place.replay in
+    let now = known_in c.fold_place.new.replay in
+    let old = counted_in c.loop-place.counts in
+    let new = counted_in c.fold_place.new.counts in
+    let d : RecordPlace = record { time = 0; offset = 0; size = 0; kind = InFile } in
+    let place = get_or items i d in
+    let turn = count_of c.args.by_period c.args.machine choice index place before now c.loop-place.left old new c.loop-place.replay.files.now c.args.files.now (g.I.FileInput.bytes c.loop-place.input) known _ same_files same c.in_err-left.ensures.counted in
+    let p = err_from_is_err_and c.from_residual.result c.from_residual.ensures.1 in
+    rw (p.1, p.2) (refused_count c.args.by_period c.args.machine files choice known index i place c.loop-place.left before now old new (place_inside items index i are c.loop-place-test.true) (place_at items index i d are c.loop-place-test.true)
+    (sym c.eq.ensures ∙ c.if-eq.false) _ so turn)
 
-pub fold_followed-requires-clause-own : goal.fold_followed-requires-clause-own
-fold_followed-requires-clause-own c = c.in-Ok.ensures.own c.loop-record.invariant.3
+pub fold_place-requires-clause-cached : goal.fold_place-requires-clause-cached
+fold_place-requires-clause-cached g c =
+    let (same_files, are, so, cached, own, same) = c.loop-place.invariant in
+    subst (λ (loaded : List ProfileFile). IsRoomFor loaded c.loop-place.room) (sym same_files) cached

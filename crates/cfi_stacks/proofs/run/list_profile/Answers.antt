@@ -1,10 +1,21 @@
-use Rattle.std.proofs.Common.{inl, inr, refl}
-use Rattle.cfi_stacks.specs.ProfileOutputs.{format_of, no_memory, wrong_input_in}
+use Rattle.std.proofs.Common.{ℕ, List, Option, inr, refl, subst, sym}
+use Rattle.cfi_inputs.specs.Refusals.{input_refusal}
+use Rattle.cfi_stacks.specs.Choices.{choice_view}
+use Rattle.cfi_stacks.specs.ProfileIndexes.{IsReadAround}
+use Rattle.cfi_stacks.specs.ProfileOutputs.{format_of}
 use Rattle.cfi_stacks.proofs.ReadLemmas.{for_input}
+use Rattle.cfi_stacks.proofs.ShownLemmas.{IsOfFile}
 use Rattle.cfi_stacks.proofs.run.list_profile.Goals as goal
 
-pub returns-in-Err-OutOfMemory : goal.returns-in-Err-OutOfMemory
-returns-in-Err-OutOfMemory g c = for_input (g.I.FileInput.bytes c.args.input.now) _ (λ bytes. (no_memory (format_of c.args.listing), rw c.format.ensures at c.write_refusal_in.ensures, inr (inl refl)))
+pub print_around-requires : goal.print_around-requires
+print_around-requires g c =
+    subst (λ (known : Option (List ℕ)). IsReadAround known c.in-Ok.around.before.items c.in-Ok.around.behind.items c.in-Ok.around.length) (sym c.in-Ok.ensures.same) c.in-Ok.ensures.read
+
+pub returns-in-Ok : goal.returns-in-Ok
+returns-in-Ok g c =
+    subst (λ (known : Option (List ℕ)). IsOfFile c.args.listing (choice_view c.args.choice.now) (g.O.Opener.may_open c.args.opener.now) g.O.File.Read.remaining known (g.W.Write.contents c.args.output.now) (g.W.Write.contents c.print_around.new.output) c.print_around.result)
+    c.in-Ok.ensures.same c.print_around.ensures
 
 pub returns-in-Err : goal.returns-in-Err
-returns-in-Err g c = for_input (g.I.FileInput.bytes c.args.input.now) _ (λ bytes. (wrong_input_in (format_of c.args.listing), rw c.format-in-Err.ensures at c.write_reason.ensures, inr (inr refl)))
+returns-in-Err g c =
+    for_input (g.I.FileInput.bytes c.args.input.now) _ (λ bytes. (input_refusal (format_of c.args.listing) c.in-Err.error, rw c.format.ensures at c.write_input_refusal.ensures, inr (c.in-Err.error, refl)))

@@ -1,13 +1,29 @@
-use Rattle.std.proofs.Common.{List, map, subst, sym}
-use Rattle.cfi_perf.specs.declared.record.Record.{Record as RecordOfCode}
-use Rattle.cfi_perf.specs.Events.{record_view}
-use Rattle.cfi_perf.specs.Records.{records_left}
+use Rattle.std.proofs.Common.{ℕ, List, Option, refl, subst, sym}
+use Rattle.cfi_inputs.specs.Refusals.{input_refusal}
 use Rattle.cfi_stacks.specs.Choices.{choice_view}
-use Rattle.cfi_stacks.specs.ProfileOutputs.{IsSortedOf}
-use Rattle.cfi_stacks.proofs.SortedRecords.{of_sorted}
+use Rattle.cfi_stacks.specs.ProfileIndexes.{HasRecords, IsIndex}
+use Rattle.cfi_stacks.specs.ProfileOutputs.{format_of}
+use Rattle.cfi_programs.specs.WriterOutput.{PrintsSome}
+use Rattle.cfi_stacks.proofs.ShownLemmas.{IsOfBytes, of_index, refused_bytes, shows_more}
 use Rattle.cfi_stacks.proofs.run.print_records.Goals as goal
+
+pub print_indexed-requires : goal.print_indexed-requires
+print_indexed-requires g c = subst (λ (known : Option (List ℕ)). IsIndex known c.in-Ok.index) (sym c.in-Ok.ensures.same) c.in-Ok.ensures.indexed
 
 pub returns-in-Ok : goal.returns-in-Ok
 returns-in-Ok g c =
-    let ordered = subst (λ (list : List RecordOfCode). IsSortedOf (records_left c.args.records) (map record_view list) c.in-Ok.found.error) (sym c.as_slice.ensures.value) c.in-Ok.ensures in
-    of_sorted c.args.listing (choice_view c.args.choice.now) (g.O.Opener.may_open c.args.opener.now) g.O.File.Read.remaining c.args.machine (records_left c.args.records) _ _ _ _ c.print_sorted.result ordered c.print_sorted.ensures
+    let choice = choice_view c.args.choice.now in
+    let may_open = g.O.Opener.may_open c.args.opener.now in
+    let known : Option (List ℕ) = g.I.FileInput.bytes c.index_records.new.input in
+    let has = subst (λ (k : Option (List ℕ)). HasRecords k c.args.walk) (sym c.in-Ok.ensures.same) c.requires in
+    subst (λ (k : Option (List ℕ)). PrintsSome (IsOfBytes c.args.listing choice may_open g.O.File.Read.remaining k c.args.walk c.args.machine) (g.W.Write.contents c.args.output.now) (g.W.Write.contents c.print_indexed.new.output) c.print_indexed.result)
+    c.in-Ok.ensures.same
+    (shows_more _ _ (g.W.Write.contents c.args.output.now) _ c.print_indexed.result (of_index c.args.listing choice may_open g.O.File.Read.remaining known c.in-Ok.index c.args.walk c.args.machine has c.in-Ok.ensures.walk) c.print_indexed.ensures)
+
+pub returns-in-Err : goal.returns-in-Err
+returns-in-Err g c = (
+  input_refusal (format_of c.args.listing) c.in-Err.error,
+  rw c.format.ensures at c.write_input_refusal.ensures,
+  refused_bytes c.args.listing (choice_view c.args.choice.now) (g.O.Opener.may_open c.args.opener.now) g.O.File.Read.remaining (g.I.FileInput.bytes c.args.input.now) c.args.walk c.args.machine
+      (input_refusal (format_of c.args.listing) c.in-Err.error) c.requires (c.in-Err.error, refl),
+)

@@ -1,0 +1,25 @@
+use Rattle.std.proofs.Common.{◌≡◌, Option, Ok, Err, Some, Result, sym}
+use Rattle.cfi_perf.specs.declared.error.PerfError.{PerfError}
+use Rattle.cfi_perf.specs.Profiles.{head_view}
+use Rattle.cfi_perf.specs.ProfilesAround.{profile_around}
+use Rattle.cfi_stacks.specs.Choices.{choice_view}
+use Rattle.cfi_stacks.proofs.AroundLemmas.{has_records}
+use Rattle.cfi_stacks.proofs.ShownLemmas.{error_around, of_around}
+use Rattle.cfi_stacks.proofs.run.print_around.Goals as goal
+
+pub print_profile-requires : goal.print_profile-requires
+print_profile-requires g c =
+    let read = rw (c.as_slice-before.ensures.value, c.as_slice.ensures.value) at (rw c.in-Ok-Some.field-0-is at c.in-Ok-Some.ensures.head) in
+    has_records c.args.around.now.before.items c.args.around.now.behind.items c.args.around.now.length (head_view c.in-Ok-Some.head) (sym read) (g.I.FileInput.bytes c.args.input.now) c.requires
+
+pub returns-in-Ok-Some : goal.returns-in-Ok-Some
+returns-in-Ok-Some g c =
+    let read = rw (c.as_slice-before.ensures.value, c.as_slice.ensures.value) at (rw c.in-Ok-Some.field-0-is at c.in-Ok-Some.ensures.head) in
+    of_around c.args.listing (choice_view c.args.choice.now) (g.O.Opener.may_open c.args.opener.now) g.O.File.Read.remaining (g.I.FileInput.bytes c.args.input.now) c.args.around.now.before.items c.args.around.now.behind.items c.args.around.now.length
+    (head_view c.in-Ok-Some.head) (g.W.Write.contents c.args.output.now) _ c.print_profile.result c.requires (sym read) c.print_profile.ensures
+
+pub returns-in-Err : goal.returns-in-Err
+returns-in-Err g c =
+    let read = rw (c.as_slice-before.ensures.value, c.as_slice.ensures.value) at c.in-Err.ensures.head in
+    error_around c.args.listing (choice_view c.args.choice.now) (g.O.Opener.may_open c.args.opener.now) g.O.File.Read.remaining (g.I.FileInput.bytes c.args.input.now) c.args.around.now.before.items c.args.around.now.behind.items c.args.around.now.length
+    c.in-Err.error (g.W.Write.contents c.args.output.now) _ c.write_perf_refusal.result c.requires (sym read) (rw c.format.ensures at c.write_perf_refusal.ensures)

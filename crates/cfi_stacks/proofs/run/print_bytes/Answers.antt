@@ -1,0 +1,17 @@
+use Rattle.std.proofs.Common.{Some, subst, sym}
+use Rattle.cfi_perf.specs.Profiles.{head_view, profile_view}
+use Rattle.cfi_perf.specs.Sections.{ProfileHead}
+use Rattle.cfi_stacks.specs.Choices.{choice_view}
+use Rattle.cfi_stacks.specs.ProfileIndexes.{HasRecordsAt}
+use Rattle.cfi_stacks.proofs.AroundLemmas.{has_own_records}
+use Rattle.cfi_stacks.proofs.ShownLemmas.{of_parsed, shows_more}
+use Rattle.cfi_stacks.proofs.run.print_bytes.Goals as goal
+
+pub print_profile-requires : goal.print_profile-requires
+print_profile-requires g c =
+    subst (λ (head : ProfileHead). HasRecordsAt (Some c.args.bytes.now) head.place head.size) (sym c.head-head.ensures) (has_own_records c.args.bytes.now (profile_view c.in-Ok.profile) (sym c.in-Ok.ensures))
+
+pub returns-in-Ok : goal.returns-in-Ok
+returns-in-Ok g c =
+    shows_more _ _ (g.W.Write.contents c.args.output.now) _ c.print_profile.result
+    (of_parsed c.args.listing (choice_view c.args.choice.now) (g.O.Opener.may_open c.args.opener.now) g.O.File.Read.remaining c.args.bytes.now (profile_view c.in-Ok.profile) (head_view c.head-head.result) (sym c.in-Ok.ensures) c.head-head.ensures) c.print_profile.ensures

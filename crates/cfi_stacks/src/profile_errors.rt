@@ -1,0 +1,76 @@
+//! Lines that say why a profile, or a record of it, can't be read.
+ghost use Rattle.std.specs.Prelude.{◌≡◌, ◌++◌};
+ghost use Rattle.cfi_programs.specs.WriterOutput.{Prints, Writes};
+ghost use Rattle.cfi_stacks.specs.ProfileErrors.{perf_advice, perf_refusal, perf_words};
+
+use cfi_perf::PerfError;
+use cfi_programs::error_words::parting;
+use cfi_programs::lines::{write_part, write_text};
+use cfi_programs::style::Format;
+use std::io;
+use std::io::Write;
+
+/// Prints that the profile, or a record, was refused, by the name of the error and in a sentence,
+/// and returns the status 1.
+pub(crate) fn write_perf_refusal<W: Write>(
+    output: &mut W,
+    format: Format,
+    error: PerfError,
+) -> io::Result<u8>
+    ensures { Prints (perf_refusal format error)
+        (W.contents output.old) (W.contents output.new) result }
+{
+    write_refused_line(output, format, error)?;
+    Ok(1)
+}
+
+/// Writes the line.
+fn write_refused_line<W: Write>(output: &mut W, format: Format, error: PerfError) -> io::Result<()>
+    ensures { Writes (W.contents output.old) (W.contents output.new) result
+        (perf_refusal format error).text }
+{
+    match format {
+        Format::Text => write_perf_words(output, Format::Text, b"refused ", error, b"\n"),
+        Format::Json => write_perf_words(output, Format::Json, b"{\"error\":\"", error, b"\"}\n"),
+    }
+}
+
+/// Writes, between two texts, the name of the error and a sentence that says what it is and what to
+/// do.
+fn write_perf_words<W: Write>(
+    output: &mut W,
+    format: Format,
+    before: &[u8],
+    error: PerfError,
+    after: &[u8],
+) -> io::Result<()>
+    ensures { Writes (W.contents output.old) (W.contents output.new) result
+        (before.now ++ (perf_words format error ++ after.now)) }
+{
+    write_text(output, before)?;
+    write_perf_reason(output, format, error)?;
+    write_text(output, after)
+}
+
+/// Writes these words.
+fn write_perf_reason<W: Write>(output: &mut W, format: Format, error: PerfError) -> io::Result<()>
+    ensures { Writes (W.contents output.old) (W.contents output.new) result
+        (perf_words format error) }
+{
+    let name = error.name();
+    let parting = parting(format);
+    let advice = perf_advice(error);
+    write_part(output, format_args!("{name}{parting}{error}{advice}"))
+}
+
+/// Returns what to do about an error, behind its sentence.
+fn perf_advice(error: PerfError) -> &'static str
+    ensures { result.now ≡ perf_advice error }
+{
+    match error {
+        PerfError::AttributeSize(_) => "; record with perf of Linux 3.7 or later",
+        PerfError::MixedEvents => "; record each event by itself",
+        PerfError::Compressed => "; perf record without -z doesn't compress them",
+        _ => "",
+    }
+}
