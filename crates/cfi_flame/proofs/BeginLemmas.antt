@@ -1,5 +1,5 @@
 -- How stacks begin, and in which order they stand.
-use Rattle.std.proofs.Common.{◌≡◌, ◌∙◌, ◌≤◌, ◌<◌, ℕ, suc, zero, ◌+◌, ◌==◌, ◌&&◌, Bool, true, false, true≢false, cond, List, [], ◌∷◌, ◌++◌, length, drop, nat_eq, Ordering, refl, sym, ap, ap₂, arith}
+use Rattle.std.proofs.Common.{◌≡◌, ◌∙◌, ◌≤◌, ◌<◌, ℕ, suc, zero, ◌+◌, ◌==◌, ◌&&◌, Bool, true, false, true≢false, cond, List, [], ◌∷◌, length, drop, nat_eq, Ordering, refl, sym, ap, ap₂, arith}
 use Rattle.std.proofs.lemmas.Bool.{eq-eqb, eqb-true}
 use Rattle.std.proofs.lemmas.Cmp.{nat_list_cmp_total, ranked, tied_itself, upto as upto_upto}
 use Rattle.std.proofs.lemmas.List.Sums.{sum_by-cons}

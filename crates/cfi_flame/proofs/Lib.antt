@@ -9,5 +9,7 @@ pub mod TurnedLemmas
 pub mod BeginLemmas
 pub mod OpeningLemmas
 pub mod PictureLemmas
+pub mod PlainLemmas
 pub mod Worked
 pub mod SharesLemmas
+pub mod LawLemmas

@@ -1,11 +1,11 @@
 -- The boxes that open at a stack, and those behind it.
-use Rattle.std.proofs.Common.{◌≡◌, ◌∙◌, ◌≤◌, ℕ, suc, ◌+◌, ◌==◌, ◌&&◌, ◌≢◌, Bool, true, false, true≢false, cond, List, [], ◌∷◌, ◌++◌, Option, Some, None, All, Contains, not, refl, sym, ap, subst, append-nil, append_assoc, arith}
+use Rattle.std.proofs.Common.{◌≡◌, ◌∙◌, ◌≤◌, ℕ, ◌+◌, ◌==◌, Bool, true, false, true≢false, cond, List, [], ◌∷◌, ◌++◌, Option, All, Contains, refl, sym, ap, subst, append-nil, append_assoc, arith}
 use Rattle.std.proofs.lemmas.Bool.{eqb-true}
 use Rattle.std.proofs.lemmas.List.Elements.{All-append, All-cons, All-head, All-nil, All-tail, All-weaker, Contains-append_left, Contains-append_right}
 use Rattle.std.proofs.lemmas.List.Sums.{sum_by-append}
-use Rattle.cfi_flame.specs.Boxes.{Box, begins, box_of, boxes_from, depth_in, opening, openings, openings_in, opens, weight}
+use Rattle.cfi_flame.specs.Boxes.{Box, begins, box_of, depth_in, opening, openings_in, opens, weight}
 use Rattle.cfi_flame.specs.FoldedStacks.{Stack}
-use Rattle.cfi_flame.specs.Pictures.{AreSideBySide, IsRightOf, depth_of}
+use Rattle.cfi_flame.specs.Pictures.{depth_of}
 use Rattle.cfi_flame.proofs.BeginLemmas.{begins_cons, begins_next}
 
 -- a relation of each box to those behind it

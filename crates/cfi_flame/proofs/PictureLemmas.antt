@@ -1,9 +1,8 @@
 -- How the boxes of a flame graph lie.
-use Rattle.std.proofs.Common.{◌≡◌, ◌∙◌, ◌≤◌, ◌<◌, ◌⊎◌, inl, inr, ℕ, suc, zero, ◌+◌, ◌*◌, ◌==◌, ◌&&◌, filter, nat_le, Bool, true, false, true≢false, cond, List, [], ◌∷◌, ◌++◌, Option, Some, None, All, Contains, length, get_or, not, refl, sym, ap, ap₂, subst, arith}
+use Rattle.std.proofs.Common.{◌≡◌, ◌∙◌, ◌≤◌, ◌<◌, ◌⊎◌, inl, inr, ℕ, suc, zero, ◌+◌, ◌*◌, ◌==◌, ◌&&◌, filter, nat_le, Bool, true, false, true≢false, cond, List, [], ◌∷◌, Option, Some, None, All, Contains, length, get_or, not, refl, sym, ap, ap₂, arith}
 use Rattle.std.proofs.lemmas.Bool.{eq-eqb, eqb-true, le-leb, leb-true}
 use Rattle.std.proofs.lemmas.List.Elements.{All-append, All-filter, All-head, All-nil, All-tail, All-weaker, filter_passes, Contains-append_left, Contains-append_right}
 use Rattle.std.proofs.lemmas.List.Sums.{sum_by-cons}
-use Rattle.std.specs.List.{AllByRecursion, sum_by}
 use Rattle.cfi_flame.specs.Boxes.{Box, begins, box_of, boxes_from, boxes_of, depth_in, is_wide, openings, opens, weight, wide_boxes}
 use Rattle.cfi_flame.specs.FoldedStacks.{Stack}
 use Rattle.cfi_flame.specs.Pictures.{AreSideBySide, IsBorne, IsPicture, IsRightOf, depth_of, end_of, lies_in, lies_on, width_in}

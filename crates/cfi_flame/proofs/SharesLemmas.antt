@@ -1,8 +1,8 @@
 -- A box of sorted stacks is as wide as the samples whose stack begins with its functions.
-use Rattle.std.proofs.Common.{◌≡◌, ◌∙◌, ◌≤◌, ℕ, ◌+◌, Bool, true, false, true≢false, cond, List, [], ◌∷◌, ◌++◌, Option, Some, None, All, get_or, not, refl, sym, ap, arith}
+use Rattle.std.proofs.Common.{◌≡◌, ◌∙◌, ℕ, ◌+◌, Bool, true, false, true≢false, cond, List, [], ◌∷◌, Option, Some, All, get_or, not, refl, sym, ap, arith}
 use Rattle.std.proofs.lemmas.List.Elements.{All-append, All-nil, All-weaker}
 use Rattle.std.proofs.lemmas.List.Sums.{sum_by-cons}
-use Rattle.cfi_flame.specs.Boxes.{Box, begins, boxes_from, openings, opens, weight}
+use Rattle.cfi_flame.specs.Boxes.{Box, begins, boxes_from, openings, weight}
 use Rattle.cfi_flame.specs.FoldedStacks.{Stack}
 use Rattle.cfi_flame.specs.Pictures.{AreInOrder, ArePlain, IsPlain, Rise, Upto, samples_of}
 use Rattle.cfi_flame.proofs.BeginLemmas.{between, upto_itself, upto_trans}

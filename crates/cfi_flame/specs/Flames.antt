@@ -1,5 +1,6 @@
 -- The flame graph of folded stacks.
 --     IsOfPlain drawing text graph      the file of the stacks of a plain text
+--     IsLawfulOfPlain drawing text graph      how wide its boxes are, and how they lie
 --     IsPlainRefused drawing text error      why there is none
 use Rattle.std.specs.Prelude.{◌≡◌, ◌⊎◌, ◌<◌, ◌^◌, ℕ, Bool, List, Ok, map}
 use Rattle.std.specs.Cmp.Lexicographic.{slice_cmp}
@@ -13,6 +14,7 @@ use Rattle.cfi_flame.specs.declared.folded.Stack.{Stack as StackOfCode}
 use Rattle.cfi_flame.specs.Boxes.{Box, boxes_of, total_of, wide_boxes}
 use Rattle.cfi_flame.specs.FoldedStacks.{IsRefused, Stack, drawn, stack_view, stacks_of}
 use Rattle.cfi_flame.specs.Graphs.{graph_text}
+use Rattle.cfi_flame.specs.Pictures.{AreShares, IsPicture}
 use Rattle.cfi_flame.specs.Turned.{as_read}
 
 -- the title, whether stacks are read from the innermost function out, and the least width of a box
@@ -77,6 +79,21 @@ abbrev pub IsOfPlain : Drawing → List ℕ → List ℕ → Type 0
 IsOfPlain drawing text graph =
     (stacks : List Stack) × (stacks_of text ≡ Ok stacks)
     × IsOfStacks drawing (as_read drawing.reverse stacks) graph
+
+-- ---- the law of every graph
+
+-- The boxes that are drawn are each as wide as the samples whose stack begins with its functions,
+-- and lie as those of a picture do.
+pub record IsLawful (drawing : Drawing) (stacks : List Stack) (graph : List ℕ) : Type 0 where
+  pub boxes : List Box
+  pub drawn : graph ≡ graph_text drawing.title (total_of stacks) boxes
+  pub shares : AreShares stacks boxes
+  pub picture : IsPicture boxes
+
+abbrev pub IsLawfulOfPlain : Drawing → List ℕ → List ℕ → Type 0
+IsLawfulOfPlain drawing text graph =
+    (stacks : List Stack) × (stacks_of text ≡ Ok stacks)
+    × IsLawful drawing (as_read drawing.reverse stacks) graph
 
 abbrev pub IsPlainRefused : Drawing → List ℕ → FoldedError → Type 0
 IsPlainRefused drawing text error =

@@ -1,7 +1,8 @@
 //! The flame graph of folded stacks.
 ghost use Rattle.std.specs.Prelude.{◌≡◌, ◌<◌, IfErr, IfOk, map};
 ghost use Rattle.cfi_flame.specs.Boxes.{total_of};
-ghost use Rattle.cfi_flame.specs.Flames.{IsOfPlain, IsOfSorted, IsOfStacks, IsPlainRefused};
+ghost use Rattle.cfi_flame.specs.Flames.{IsLawfulOfPlain, IsOfPlain, IsOfSorted, IsOfStacks};
+ghost use Rattle.cfi_flame.specs.Flames.{IsPlainRefused};
 ghost use Rattle.cfi_flame.specs.Flames.{IsSortedRefused, IsStacksRefused, as_drawn, drawing_view};
 ghost use Rattle.cfi_flame.specs.FoldedStacks.{plain, stack_view};
 ghost use Rattle.cfi_flame.specs.Turned.{as_read, turned, turned_stack};
@@ -33,6 +34,8 @@ pub struct Drawing<'w> {
 pub fn flame_of(alloc: Global, drawing: Drawing<'_>, text: &[u8]) -> Result<Vec<u8>, FoldedError>
     ensures drawn { IfOk result (λ graph.
         IsOfPlain (as_drawn (drawing_view drawing.entry)) (plain text.now) graph.items) }
+    ensures lawful { IfOk result (λ graph.
+        IsLawfulOfPlain (as_drawn (drawing_view drawing.entry)) (plain text.now) graph.items) }
     ensures refused { IfErr result
         (IsPlainRefused (drawing_view drawing.entry) (plain text.now)) }
 {
