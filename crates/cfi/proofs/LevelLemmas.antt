@@ -9,7 +9,7 @@ use Rattle.clap.specs.Simple.{Shape, built_leaf, inherited, marked_built, new_sh
 use Rattle.clap.specs.Kinds.{or_else}
 use Rattle.clap.specs.Faults.{check_fault, defaults_fault, level_fault}
 use Rattle.cfi.specs.CommandLine.{Asked, asked_for, asked_of, cfi_app, values_in}
-use Rattle.cfi.specs.Forms.{Arguments, Form, LongOption, file_and_address, file_and_addresses, format_names, one_file, one_file_or_more, option_named}
+use Rattle.cfi.specs.Forms.{Arguments, Form, LongOption, file_and_address, file_and_addresses, format_names, one_file, any_files, option_named}
 use Rattle.cfi.specs.Words.{Given, addresses_of, asked_by_form, asked_in_form, files_of, fits, has_flag, listed, nothing, or_false, value_given, values_at, values_given}
 use Rattle.cfi.proofs.EndLemmas.{NoDefaults, ends_in, lacks, lacks_end, missing, or_default, quiet_in, values_end, wanted, wanted_in}
 use Rattle.cfi.proofs.FlagLemmas.{IsFault, fault_next, help, waiting}
@@ -26,13 +26,13 @@ abbrev pub last_rules : Arguments → List Rule
 last_rules one_file = single (codes "FILE") 1 true ∷ help ∷ []
 last_rules file_and_address = single (codes "FILE") 1 true ∷ single (codes "ADDRESS") 2 false ∷ help ∷ []
 last_rules file_and_addresses = single (codes "FILE") 1 true ∷ many (codes "ADDRESS") 2 true ∷ help ∷ []
-last_rules one_file_or_more = many (codes "FILE") 1 true ∷ help ∷ []
+last_rules any_files = many (codes "FILE") 1 false ∷ help ∷ []
 
 no_defaults : (arguments : Arguments) → NoDefaults (last_rules arguments)
 no_defaults one_file = (refl, (refl, tt {0}))
 no_defaults file_and_address = (refl, (refl, (refl, tt {0})))
 no_defaults file_and_addresses = (refl, (refl, (refl, tt {0})))
-no_defaults one_file_or_more = (refl, (refl, tt {0}))
+no_defaults any_files = (refl, (refl, tt {0}))
 
 abbrev IsHelp : Option Rule → Type 0
 IsHelp found = (found ≡ None) ⊎ (found ≡ Some help)
@@ -45,13 +45,13 @@ help_by_name : (arguments : Arguments) (name : Text) → IsHelp (arg_by_long (la
 help_by_name one_file name = help_by (bytes_eq (codes "help") name)
 help_by_name file_and_address name = help_by (bytes_eq (codes "help") name)
 help_by_name file_and_addresses name = help_by (bytes_eq (codes "help") name)
-help_by_name one_file_or_more name = help_by (bytes_eq (codes "help") name)
+help_by_name any_files name = help_by (bytes_eq (codes "help") name)
 
 help_by_letter : (arguments : Arguments) (x : ℕ) → IsHelp (arg_by_short (last_rules arguments) x)
 help_by_letter one_file x = help_by (nat_eq 104 x)
 help_by_letter file_and_address x = help_by (nat_eq 104 x)
 help_by_letter file_and_addresses x = help_by (nat_eq 104 x)
-help_by_letter one_file_or_more x = help_by (nat_eq 104 x)
+help_by_letter any_files x = help_by (nat_eq 104 x)
 
 abbrev place_if : Option Rule → Bool
 place_if o = option_map_or (λ (a : Rule). is_place a.id) o true
@@ -68,7 +68,7 @@ are_places : (arguments : Arguments) (position : ℕ) → place_if (arg_by_index
 are_places one_file position = one_place (single (codes "FILE") 1 true) refl (nat_eq 1 position)
 are_places file_and_address position = two_places (single (codes "FILE") 1 true) (single (codes "ADDRESS") 2 false) refl refl (nat_eq 1 position) (nat_eq 2 position)
 are_places file_and_addresses position = two_places (single (codes "FILE") 1 true) (many (codes "ADDRESS") 2 true) refl refl (nat_eq 1 position) (nat_eq 2 position)
-are_places one_file_or_more position = one_place (many (codes "FILE") 1 true) refl (nat_eq 1 position)
+are_places any_files position = one_place (many (codes "FILE") 1 false) refl (nat_eq 1 position)
 
 -- ---- what has to be given
 
@@ -76,14 +76,14 @@ abbrev wants : Arguments → Bool → Bool → Bool
 wants one_file no_file no_address = no_file || false
 wants file_and_address no_file no_address = no_file || false
 wants file_and_addresses no_file no_address = no_file || (no_address || false)
-wants one_file_or_more no_file no_address = no_file || false
+wants any_files no_file no_address = false
 
 wanted_is : (names : Bor (List (Bor Text))) (arguments : Arguments) (rows : List Row)
     → list_any (wanted names rows) (last_rules arguments) ≡ wants arguments (lacks (at_id (codes "FILE") rows)) (lacks (at_id (codes "ADDRESS") rows))
 wanted_is names one_file rows = refl
 wanted_is names file_and_address rows = refl
 wanted_is names file_and_addresses rows = refl
-wanted_is names one_file_or_more rows = refl
+wanted_is names any_files rows = refl
 
 wants_is : (arguments : Arguments) (given : List Text) (position : ℕ) → Placed arguments given position
     → wants arguments (not (is_given (files_of arguments given))) (not (is_given (addresses_of arguments given))) ≡ not (fits arguments given)
@@ -97,8 +97,7 @@ wants_is file_and_address (f ∷ a ∷ x ∷ more) position h = absurd h
 wants_is file_and_addresses [] position h = refl
 wants_is file_and_addresses (f ∷ []) position h = refl
 wants_is file_and_addresses (f ∷ a ∷ more) position h = refl
-wants_is one_file_or_more [] position h = refl
-wants_is one_file_or_more (f ∷ more) position h = refl
+wants_is any_files given position h = refl
 
 -- more than a command takes
 no_second : (given : List Text) → 2 ≤ length given → fits one_file given ≡ false
@@ -221,12 +220,12 @@ module _ (names : Bor (List (Bor Text))) where
         refl,
         λ word. record { placed = ap (next_position (many (codes "ADDRESS") 2 true)) h; file = file; address = one_more more (codes "ADDRESS") address word },
       )
-      go one_file_or_more given h file address = inr (
-        many (codes "FILE") 1 true,
-        at_index one_file_or_more 1 h,
-        record { id = codes "FILE"; index = 1; required = true; found = by_file one_file_or_more; kind = inr refl },
+      go any_files given h file address = inr (
+        many (codes "FILE") 1 false,
+        at_index any_files 1 h,
+        record { id = codes "FILE"; index = 1; required = false; found = by_file any_files; kind = inr refl },
         refl,
-        λ word. record { placed = ap (next_position (many (codes "FILE") 1 true)) h; file = one_more given (codes "FILE") file word; address = address },
+        λ word. record { placed = ap (next_position (many (codes "FILE") 1 false)) h; file = one_more given (codes "FILE") file word; address = address },
       )
 
   -- ---- the end
@@ -311,7 +310,7 @@ module _ (names : Bor (List (Bor Text))) where
   first_placed one_file = record { placed = refl; file = refl; address = refl }
   first_placed file_and_address = record { placed = refl; file = refl; address = refl }
   first_placed file_and_addresses = record { placed = refl; file = refl; address = refl }
-  first_placed one_file_or_more = record { placed = refl; file = refl; address = refl }
+  first_placed any_files = record { placed = refl; file = refl; address = refl }
 
   pub level : (are : map (λ name. name.now) names.now ≡ format_names) (f : Form) → Fine f → (words : List Text) → length words ≤ usize_max
       → Level (leaf f) f.name words (asked_in_form words f)

@@ -14,6 +14,7 @@ mod QuietLemmas
 mod ReadingLemmas
 mod RowLemmas
 mod StepLemmas
+mod TargetLemmas
 mod TimesLemmas
 mod TopLemmas
 mod WordLemmas

@@ -1,5 +1,5 @@
 -- What was written by checks one after the other, and the end of a run.
-use Rattle.std.proofs.Common.{◌≡◌, ℕ, ◌+◌, ◌<◌, List, [], ◌∷◌, ◌++◌, Option, Some, None, Result, Ok, Err, Vec, IfOk, IsSome, suc, length, take, drop, get_or, add-one, drop-cons, refl, sym, ◌∙◌, ap, append_assoc, append-nil, subst, map, codes, inl, inr, unwrap_or}
+use Rattle.std.proofs.Common.{◌≡◌, ℕ, Bool, ◌+◌, ◌<◌, List, [], ◌∷◌, ◌++◌, Option, Some, None, Result, Ok, Err, Vec, IfOk, IsSome, suc, length, take, drop, get_or, add-one, drop-cons, refl, sym, ◌∙◌, ap, append_assoc, append-nil, subst, map, codes, inl, inr, unwrap_or}
 use Rattle.std.proofs.Math.Seq.{take-suc}
 use Rattle.std.proofs.lemmas.List.{map-append, take-append-drop}
 use Rattle.std.specs.Borrow.{Bor}
@@ -31,11 +31,13 @@ use Rattle.cfi.specs.Forms.{format_names}
 use Rattle.cfi.specs.declared.files.CheckStyle.{CheckStyle}
 use Rattle.cfi.specs.Openings.{FileKind, of_any_kind, path_of}
 use Rattle.cfi.specs.FlameOutputs.{IsOwed as IsOwedOfFolded, OfStacks}
-use Rattle.cfi.specs.Findings.{greatest_status, tally_in}
+use Rattle.cfi.specs.Findings.{greatest_status, of_elf_alone, tally_in}
 use Rattle.cfi.specs.Words.{asked}
 use Rattle.cfi_programs.specs.declared.style.Format.{Format}
-use Rattle.cfi.specs.Tasks.{Task, no_times, no_width, of_request, task_for}
-use Rattle.cfi.specs.Process.{AreChecks, AreStacks, AreTallied, AreThreads, Checks, ChecksStyled, Disk, Ends, IsAnswer, IsAnswerTo, IsCheck, IsCheckOf, IsPrint, IsStatusAfter, IsStatusOf, IsSummary, MayOpenAt, MayOpenNamed, PrintsRun, WritesChecks, disk_of, kept, no_checks, nothing, tallied, tally_line, with_check}
+use Rattle.cfi.specs.Tasks.{Names, Task, no_files, no_times, no_width, of_request, task_for, two_namings}
+use Rattle.cfi.specs.Spelled.{spelled}
+use Rattle.cfi.specs.Targets.{Target, Tree, found as found_target, named, unread}
+use Rattle.cfi.specs.Process.{AreChecked, AreChecks, AreStacks, AreTallied, AreTargets, AreThreads, Checks, ChecksStyled, Disk, Ends, IsAnswer, IsAnswerTo, IsCheck, IsCheckOf, IsPrint, IsStatusAfter, IsStatusOf, IsSummary, IsTargetCheck, MayOpenAt, MayOpenNamed, PrintsRun, WritesChecks, disk_of, kept, no_checks, nothing, tallied, tally_line, with_check}
 
 -- ---- checks one after the other
 
@@ -47,7 +49,7 @@ and_then_more : (finding : Finding) (line : List ℕ) (more second : Checks) →
 and_then_more finding line more second =
     ap (λ (lines : List ℕ). record { found = finding ∷ (more.found ++ second.found); lines = lines }) (sym (append_assoc line more.lines second.lines))
 
-checks_then : (disk : Disk) (style : CheckStyle) (names others : List Text) (first second : Checks) → AreChecks disk style names first → AreChecks disk style others second → AreChecks disk style (names ++ others) (and_then first second)
+checks_then : (disk : Disk) (style : CheckStyle) (names others : List Target) (first second : Checks) → AreChecks disk style names first → AreChecks disk style others second → AreChecks disk style (names ++ others) (and_then first second)
 checks_then disk style [] others first second is is' = subst (λ checks. AreChecks disk style others (and_then checks second)) (sym is) is'
 checks_then disk style (name ∷ names) others first second (finding, printed, more, one, rest, e) is' = (
   finding,
@@ -71,7 +73,7 @@ some_check_of : (disk : Disk) (style : CheckStyle) (name : Text) (opened : Optio
 some_check_of disk style name None = (Unreadable, nothing, (refl, refl))
 some_check_of disk style name (Some file) = (
   Unreadable,
-  kept style.quiet Unreadable (under (file_label style.format name) (found_line style.format Unreadable (codes "wrong input"))),
+  kept style Unreadable (under (file_label style.format name) (found_line style.format Unreadable (codes "wrong input"))),
   (
     unwrap_or (disk.bytes_of file) [],
     left_is (disk.bytes_of file),
@@ -89,24 +91,29 @@ some_check disk style opens name =
     let (finding, printed, is) = some_check_of disk style name opened in
     (finding, printed, (opened, may, is))
 
-some_checks : (disk : Disk) (style : CheckStyle) → Opens disk → (names : List Text) → (checks : Checks) × AreChecks disk style names checks
+some_target_check : (disk : Disk) (style : CheckStyle) → Opens disk → (target : Target) → (finding : Finding) × (printed : Line) × IsTargetCheck disk style target finding printed
+some_target_check disk style opens (named name) = some_check disk style opens name
+some_target_check disk style opens (found_target path) = some_check disk (of_elf_alone style) opens path
+some_target_check disk style opens unread = (Unreadable, nothing, (refl, refl))
+
+some_checks : (disk : Disk) (style : CheckStyle) → Opens disk → (names : List Target) → (checks : Checks) × AreChecks disk style names checks
 some_checks disk style opens [] = (no_checks, refl)
 some_checks disk style opens (name ∷ names) =
-    let (finding, printed, is) = some_check disk style opens name in
+    let (finding, printed, is) = some_target_check disk style opens name in
     let (more, are) = some_checks disk style opens names in
     (with_check finding printed.text more, (finding, printed, more, is, are, refl))
 
 -- ---- the checks of the first files
 
 -- their lines were written, and this was found
-abbrev pub SoFar : Disk → CheckStyle → List Text → Option (List ℕ) → Option (List ℕ) → List Finding → Type 0
+abbrev pub SoFar : Disk → CheckStyle → List Target → Option (List ℕ) → Option (List ℕ) → List Finding → Type 0
 SoFar disk style names old now found = (checks : Checks) × AreChecks disk style names checks × Appends old now checks.lines × (found ≡ checks.found)
 
 pub none_so_far : (disk : Disk) (style : CheckStyle) (old : Option (List ℕ)) → SoFar disk style [] old old []
 none_so_far disk style old = (no_checks, refl, none_yet old, refl)
 
-pub one_more : (E : Type 0) (disk : Disk) (style : CheckStyle) (names : List Text) (name : Text) (old mid new : Option (List ℕ)) (found : List Finding) (finding : Finding) →
-    SoFar disk style names old mid found → ChecksSome {E = E} (λ found line. IsCheck disk style name found line) mid new (Ok finding) → SoFar disk style (names ++ name ∷ []) old new (found ++ finding ∷ [])
+pub one_more : (E : Type 0) (disk : Disk) (style : CheckStyle) (names : List Target) (name : Target) (old mid new : Option (List ℕ)) (found : List Finding) (finding : Finding) →
+    SoFar disk style names old mid found → ChecksSome {E = E} (λ found line. IsTargetCheck disk style name found line) mid new (Ok finding) → SoFar disk style (names ++ name ∷ []) old new (found ++ finding ∷ [])
 one_more E disk style names name old mid new found finding (checks, are, given, e) (last, printed, more, is, one) =
     let P : List ℕ → Type 0 = λ xs. Appends mid new xs in (
       and_then checks (with_check last printed.text no_checks),
@@ -116,7 +123,7 @@ one_more E disk style names name old mid new found finding (checks, are, given, 
     )
 
 -- the same by other words for the names and for what was found
-pub same_so_far : (disk : Disk) (style : CheckStyle) (names others : List Text) (old now : Option (List ℕ)) (found items : List Finding) → names ≡ others → items ≡ found → SoFar disk style others old now found → SoFar disk style names old now items
+pub same_so_far : (disk : Disk) (style : CheckStyle) (names others : List Target) (old now : Option (List ℕ)) (found items : List Finding) → names ≡ others → items ≡ found → SoFar disk style others old now found → SoFar disk style names old now items
 same_so_far disk style names others old now found items e e' (checks, are, given, is) = (checks, subst (λ front. AreChecks disk style front checks) (sym e) are, given, e' ∙ is)
 
 no_vector : {E A : Type 0} (r : Result (Vec Finding A) E) (Q : Vec Finding A → Type 0) → IsErr r → IfOk r Q
@@ -124,8 +131,8 @@ no_vector (Ok v) Q err = cc
 no_vector (Err e) Q err = tt
 
 -- the line of the next one failed
-pub next_failed : {E F A : Type 0} (disk : Disk) (style : CheckStyle) → Opens disk → (names others : List Text) (name : Text) (old mid new : Option (List ℕ)) (found : List Finding) (e : E) (r : Result (Vec Finding A) F) → IsErr r →
-    SoFar disk style names old mid found → ChecksSome {E = E} (λ found line. IsCheck disk style name found line) mid new (Err e) → WritesChecks disk style (names ++ name ∷ others) old new r
+pub next_failed : {E F A : Type 0} (disk : Disk) (style : CheckStyle) → Opens disk → (names others : List Target) (name : Target) (old mid new : Option (List ℕ)) (found : List Finding) (e : E) (r : Result (Vec Finding A) F) → IsErr r →
+    SoFar disk style names old mid found → ChecksSome {E = E} (λ found line. IsTargetCheck disk style name found line) mid new (Err e) → WritesChecks disk style (names ++ name ∷ others) old new r
 next_failed disk style opens names others name old mid new found e r err (checks, are, given, _) (last, printed, begun, _, one) =
     let (after, more) = some_checks disk style opens others in
     let rest : Checks = with_check last printed.text after in
@@ -138,7 +145,7 @@ next_failed disk style opens names others name old mid new found e r err (checks
     )
 
 -- memory was refused
-pub stopped : {F A : Type 0} (disk : Disk) (style : CheckStyle) → Opens disk → (names others : List Text) (old new : Option (List ℕ)) (found : List Finding) (r : Result (Vec Finding A) F) → IsErr r →
+pub stopped : {F A : Type 0} (disk : Disk) (style : CheckStyle) → Opens disk → (names others : List Target) (old new : Option (List ℕ)) (found : List Finding) (r : Result (Vec Finding A) F) → IsErr r →
     SoFar disk style names old new found → WritesChecks disk style (names ++ others) old new r
 stopped disk style opens names others old new found r err (checks, are, given, _) =
     let (after, more) = some_checks disk style opens others in
@@ -149,7 +156,7 @@ stopped disk style opens names others old new found r err (checks, are, given, _
       no_vector r (λ found. found.items ≡ all.found) err,
     )
 
-pub finished : {A : Type 0} (E : Type 0) (disk : Disk) (style : CheckStyle) (names : List Text) (old now : Option (List ℕ)) (found : Vec Finding A) → SoFar disk style names old now found.items → WritesChecks {E = E} disk style names old now (Ok found)
+pub finished : {A : Type 0} (E : Type 0) (disk : Disk) (style : CheckStyle) (names : List Target) (old now : Option (List ℕ)) (found : Vec Finding A) → SoFar disk style names old now found.items → WritesChecks {E = E} disk style names old now (Ok found)
 finished E disk style names old now found (checks, are, given, e) = (checks, are, given, e)
 
 -- ---- the names of the first files
@@ -157,17 +164,18 @@ finished E disk style names old now found (checks, are, given, e) = (checks, are
 abbrev pub text_of : Bor (List ℕ) → Text
 text_of word = word.now
 
-pub names_more : (files : List (Bor (List ℕ))) (i : ℕ) (d : Bor (List ℕ)) → i < length files → map text_of (take (i + 1) files) ≡ map text_of (take i files) ++ text_of (get_or files i d) ∷ []
-names_more files i d h = rw add-one (ap (map text_of) (take-suc files i d h) ∙ map-append text_of (take i files) (get_or files i d ∷ []))
+module _ {X Y : Type 0} (f : X → Y) where
+  pub names_more : (files : List X) (i : ℕ) (d : X) → i < length files → map f (take (i + 1) files) ≡ map f (take i files) ++ f (get_or files i d) ∷ []
+  names_more files i d h = rw add-one (ap (map f) (take-suc files i d h) ∙ map-append f (take i files) (get_or files i d ∷ []))
 
-pub names_cut : (files : List (Bor (List ℕ))) (i : ℕ) → map text_of files ≡ map text_of (take i files) ++ map text_of (drop i files)
-names_cut files i = ap (map text_of) (sym (take-append-drop i files)) ∙ map-append text_of (take i files) (drop i files)
+  pub names_cut : (files : List X) (i : ℕ) → map f files ≡ map f (take i files) ++ map f (drop i files)
+  names_cut files i = ap (map f) (sym (take-append-drop i files)) ∙ map-append f (take i files) (drop i files)
 
-pub names_at : (files : List (Bor (List ℕ))) (i : ℕ) (d : Bor (List ℕ)) → i < length files → map text_of files ≡ map text_of (take i files) ++ text_of (get_or files i d) ∷ map text_of (drop (suc i) files)
-names_at files i d h = names_cut files i ∙ ap (λ rest. map text_of (take i files) ++ map text_of rest) (drop-cons files i d h)
+  pub names_at : (files : List X) (i : ℕ) (d : X) → i < length files → map f files ≡ map f (take i files) ++ f (get_or files i d) ∷ map f (drop (suc i) files)
+  names_at files i d h = names_cut files i ∙ ap (λ rest. map f (take i files) ++ map f rest) (drop-cons files i d h)
 
-pub names_after : (files : List (Bor (List ℕ))) (i : ℕ) (d : Bor (List ℕ)) → i < length files → map text_of files ≡ (map text_of (take i files) ++ text_of (get_or files i d) ∷ []) ++ map text_of (drop (i + 1) files)
-names_after files i d h = names_cut files (i + 1) ∙ ap (λ front. front ++ map text_of (drop (i + 1) files)) (names_more files i d h)
+  pub names_after : (files : List X) (i : ℕ) (d : X) → i < length files → map f files ≡ (map f (take i files) ++ f (get_or files i d) ∷ []) ++ map f (drop (i + 1) files)
+  names_after files i d h = names_cut files (i + 1) ∙ ap (λ front. front ++ map f (drop (i + 1) files)) (names_more files i d h)
 
 -- ---- a file that was opened, or not
 
@@ -184,6 +192,10 @@ checked_of disk style name file old new r may (bytes, left, (finding, printed, w
 
 pub unreadable : (E : Type 0) (disk : Disk) (style : CheckStyle) (name : Text) (old : Option (List ℕ)) → MayOpenNamed disk name None → ChecksSome {E = E} (λ finding line. IsCheck disk style name finding line) old old (Ok Unreadable)
 unreadable E disk style name old may = (Unreadable, nothing, none_yet old, refl, (None, may, (refl, refl)))
+
+pub unread_target : (E : Type 0) (disk : Disk) (style : CheckStyle) (target : Target) (old : Option (List ℕ)) → target ≡ unread → ChecksSome {E = E} (λ finding line. IsTargetCheck disk style target finding line) old old (Ok Unreadable)
+unread_target E disk style target old e =
+    subst (λ (t : Target). ChecksSome {E = E} (λ finding line. IsTargetCheck disk style t finding line) old old (Ok Unreadable)) (sym e) (Unreadable, nothing, none_yet old, refl, (refl, refl))
 
 pub stacks_of : {E : Type 0} (disk : Disk) (listing : Listing) (choice : Choice) (folders : Folders) (name : Text) (file : disk.Handle) (old new : Option (List ℕ)) (r : Result ℕ E) → MayOpenNamed disk name (Some file) →
     ((bytes : List ℕ) × AreLeft (disk.bytes_of file) bytes × PrintsSome (λ line. IsOwedOfProfile listing choice (MayOpenAt disk folders) disk.bytes_of bytes line) old new r) → PrintsSome (λ line. AreStacks disk listing choice folders name line) old new r
@@ -212,7 +224,7 @@ pub tally_is : (format : Format) (found items : List Finding) (files tables fait
     tally_in format files tables faithful ++ 10 ∷ [] ≡ tally_line format found
 tally_is format found items files tables faithful e f t h = rw (f, t, h, e) refl
 
-pub counted : {E A : Type 0} (F : Type 0) (disk : Disk) (style : CheckStyle) (names : List Text) (old mid new : Option (List ℕ)) (found : Vec Finding A) (r : Result ℕ E) → WritesChecks {E = F} disk style names old mid (Ok found) →
+pub counted : {E A : Type 0} (F : Type 0) (disk : Disk) (style : CheckStyle) (names : List Target) (old mid new : Option (List ℕ)) (found : Vec Finding A) (r : Result ℕ E) → WritesChecks {E = F} disk style names old mid (Ok found) →
     Writes mid new r (tally_line style.format found.items) → IfOk r (λ status. status ≡ greatest_status found.items) → PrintsSome (λ line. AreTallied disk style names line) old new r
 counted F disk style names old mid new found r (checks, are, given, e) more status = (
   tallied style checks,
@@ -223,11 +235,19 @@ counted F disk style names old mid new found r (checks, are, given, e) more stat
   (checks, are, refl),
 )
 
+-- where there are files to check, or none
+pub checks_of : {E : Type 0} (disk : Disk) (tree : Tree) (recursive : Bool) (names : Names) (style : CheckStyle) (targets : List Target) (old new : Option (List ℕ)) (r : Result ℕ E) → AreTargets disk tree recursive names targets →
+    PrintsSome (λ line. AreTallied disk style targets line) old new r → PrintsSome (λ line. AreChecked disk tree recursive names style line) old new r
+checks_of disk tree recursive names style targets old new r are (printed, prints, tallied) = (printed, prints, inl (targets, are, tallied))
+
+pub no_targets : (E : Type 0) (disk : Disk) (tree : Tree) (recursive : Bool) (names : Names) (style : CheckStyle) (old : Option (List ℕ)) → PrintsSome {E = E} (λ line. AreChecked disk tree recursive names style line) old old (Ok 2)
+no_targets E disk tree recursive names style old = (nothing, (none_yet old, refl), inr refl)
+
 pub no_status : {E : Type 0} (r : Result ℕ E) (Q : ℕ → Type 0) → IsErr r → IfOk r Q
 no_status (Ok n) Q err = cc
 no_status (Err e) Q err = tt
 
-pub uncounted : {E F : Type 0} (A : Type 0) (disk : Disk) (style : CheckStyle) (names : List Text) (old new : Option (List ℕ)) (e : F) (r : Result ℕ E) → IsErr r → WritesChecks {A = A} disk style names old new (Err e) →
+pub uncounted : {E F : Type 0} (A : Type 0) (disk : Disk) (style : CheckStyle) (names : List Target) (old new : Option (List ℕ)) (e : F) (r : Result ℕ E) → IsErr r → WritesChecks {A = A} disk style names old new (Err e) →
     PrintsSome (λ line. AreTallied disk style names line) old new r
 uncounted A disk style names old new e r err (checks, are, begun, _) = (
   tallied style checks,
@@ -246,11 +266,11 @@ ends printed old mid new (Ok answered) status (given, e) (inl same) keeps = (pri
 ends printed old mid new (Ok answered) status (given, e) (inr two) keeps = (printed.text, whole old mid new printed.text given keeps, inr (([], append-nil printed.text), two))
 ends printed old mid new (Err error) status ((front, given, begins), _) two keeps = (front, whole old mid new front given keeps, inr (begins, two))
 
-pub ran : {E : Type 0} (disk : Disk) (words : List Text) (command : Asked) (old mid new : Option (List ℕ)) (r : Result ℕ E) (status : ℕ) → asked words ≡ Some command →
-    PrintsSome (λ line. IsAnswer disk (task_for command) line) old mid r → IsStatusOf r status → Keeps mid new → PrintsRun disk (Some words) old new status
-ran disk words command old mid new r status e (printed, prints, is) after keeps = (
+pub ran : {E : Type 0} (disk : Disk) (tree : Tree) (words : List Text) (command : Asked) (old mid new : Option (List ℕ)) (r : Result ℕ E) (status : ℕ) → asked (spelled words) ≡ Some command →
+    PrintsSome (λ line. IsAnswer disk tree (task_for command) line) old mid r → IsStatusOf r status → Keeps mid new → PrintsRun disk tree (Some words) old new status
+ran disk tree words command old mid new r status e (printed, prints, is) after keeps = (
   printed,
-  subst (λ asked_for. IsAnswerTo disk words asked_for printed) (sym e) (inl is),
+  subst (λ asked_for. IsAnswerTo disk tree (spelled words) asked_for printed) (sym e) (inl is),
   ends printed old mid new r status prints after keeps,
 )
 
@@ -258,28 +278,47 @@ ran disk words command old mid new r status e (printed, prints, is) after keeps 
 abbrev pub IsFault : List Text → Error → Type 0
 IsFault words error = (names : Bor (List (Bor Text))) × (map (λ name. name.now) names.now ≡ format_names) × HasKind (fault_of (cfi_app names) words) error
 
-explained : (disk : Disk) (words : List Text) (asked_for : Option Asked) (error : Error) (old : Option (List ℕ)) (status : ℕ) → IsFault words error →
-    (IsSome asked_for → kind_of error ≡ OutOfMemory) → IsStatusAfter (kind_of error) status → (printed : Line) × IsAnswerTo disk words asked_for printed × Ends printed old old status
-explained disk words None error old status (names, are, kinds) memory after =
+explained : (disk : Disk) (tree : Tree) (words : List Text) (asked_for : Option Asked) (error : Error) (old : Option (List ℕ)) (status : ℕ) → IsFault words error →
+    (IsSome asked_for → kind_of error ≡ OutOfMemory) → IsStatusAfter (kind_of error) status → (printed : Line) × IsAnswerTo disk tree words asked_for printed × Ends printed old old status
+explained disk tree words None error old status (names, are, kinds) memory after =
     (record { text = []; status = status }, (kind_of error, names, are, kinds, refl, after), ([], none_yet old, inl (refl, refl)))
-explained disk words (Some command) error old status kinds memory after =
+explained disk tree words (Some command) error old status kinds memory after =
     (nothing, inr refl, ([], none_yet old, inl (refl, subst (λ kind. IsStatusAfter kind status) (memory refl) after)))
 
 -- where clap has no command for the words
-pub refused : (disk : Disk) (words : List Text) (error : Error) (old : Option (List ℕ)) (status : ℕ) → IsFault words error →
-    (IsSome (asked words) → kind_of error ≡ OutOfMemory) → IsStatusAfter (kind_of error) status → PrintsRun disk (Some words) old old status
-refused disk words error old status kinds memory after = explained disk words (asked words) error old status kinds memory after
+pub refused : (disk : Disk) (tree : Tree) (words : List Text) (error : Error) (old : Option (List ℕ)) (status : ℕ) → IsFault (spelled words) error →
+    (IsSome (asked (spelled words)) → kind_of error ≡ OutOfMemory) → IsStatusAfter (kind_of error) status → PrintsRun disk tree (Some words) old old status
+refused disk tree words error old status kinds memory after = explained disk tree (spelled words) (asked (spelled words)) error old status kinds memory after
+
+-- where memory is refused before there is a command
+format_texts : List (Bor Text)
+format_texts = record { ref_ptr = (0, 0); now = codes "text" } ∷ record { ref_ptr = (0, 0); now = codes "json" } ∷ []
+
+unanswered : (disk : Disk) (tree : Tree) (words : List Text) (asked_for : Option Asked) → IsAnswerTo disk tree words asked_for nothing
+unfolding format_texts
+unanswered disk tree words None = (OutOfMemory, record { ref_ptr = (0, 0); now = format_texts }, refl, inl refl, refl, refl)
+unanswered disk tree words (Some command) = inr refl
+
+pub unspelled : (disk : Disk) (tree : Tree) (words : List Text) (old : Option (List ℕ)) → PrintsRun disk tree (Some words) old old 2
+unspelled disk tree words old = (nothing, unanswered disk tree (spelled words) (asked (spelled words)), ([], none_yet old, inl (refl, refl)))
 
 -- where a text isn't two times
-pub no_times_told : (E : Type 0) (disk : Disk) (task : Task) (text : Text) (old : Option (List ℕ)) → no_times text ≡ task → PrintsSome {E = E} (λ line. IsAnswer disk task line) old old (Ok 2)
-no_times_told E disk task text old is = (nothing, (none_yet old, refl), subst (λ (what : Task). IsAnswer disk what nothing) is refl)
+pub no_times_told : (E : Type 0) (disk : Disk) (tree : Tree) (task : Task) (text : Text) (old : Option (List ℕ)) → no_times text ≡ task → PrintsSome {E = E} (λ line. IsAnswer disk tree task line) old old (Ok 2)
+no_times_told E disk tree task text old is = (nothing, (none_yet old, refl), subst (λ (what : Task). IsAnswer disk tree what nothing) is refl)
 
 -- or a text isn't a width
-pub no_width_told : (E : Type 0) (disk : Disk) (task : Task) (text : Text) (old : Option (List ℕ)) → no_width text ≡ task → PrintsSome {E = E} (λ line. IsAnswer disk task line) old old (Ok 2)
-no_width_told E disk task text old is = (nothing, (none_yet old, refl), subst (λ (what : Task). IsAnswer disk what nothing) is refl)
+pub no_width_told : (E : Type 0) (disk : Disk) (tree : Tree) (task : Task) (text : Text) (old : Option (List ℕ)) → no_width text ≡ task → PrintsSome {E = E} (λ line. IsAnswer disk tree task line) old old (Ok 2)
+no_width_told E disk tree task text old is = (nothing, (none_yet old, refl), subst (λ (what : Task). IsAnswer disk tree what nothing) is refl)
 
-pub wordless : (disk : Disk) (old : Option (List ℕ)) → PrintsRun disk None old old 2
-wordless disk old = (nothing, refl, ([], none_yet old, inl (refl, refl)))
+-- or no file to check is named, or files are named twice
+pub no_files_told : (E : Type 0) (disk : Disk) (tree : Tree) (task : Task) (old : Option (List ℕ)) → no_files ≡ task → PrintsSome {E = E} (λ line. IsAnswer disk tree task line) old old (Ok 2)
+no_files_told E disk tree task old is = (nothing, (none_yet old, refl), subst (λ (what : Task). IsAnswer disk tree what nothing) is refl)
+
+pub two_namings_told : (E : Type 0) (disk : Disk) (tree : Tree) (task : Task) (old : Option (List ℕ)) → two_namings ≡ task → PrintsSome {E = E} (λ line. IsAnswer disk tree task line) old old (Ok 2)
+two_namings_told E disk tree task old is = (nothing, (none_yet old, refl), subst (λ (what : Task). IsAnswer disk tree what nothing) is refl)
+
+pub wordless : (disk : Disk) (tree : Tree) (old : Option (List ℕ)) → PrintsRun disk tree None old old 2
+wordless disk tree old = (nothing, refl, ([], none_yet old, inl (refl, refl)))
 
 -- what is right by the bytes that are left of each file is right by its bytes
 pub same_stacks : {Handle E : Type 0} (may_open : FileKind → Text → Option Handle → Type 0) (left known : Handle → Option (List ℕ)) → ((file : Handle) → left file ≡ known file) → (listing : Listing) (choice : Choice) (folders : Folders) (name : Text) (old new : Option (List ℕ)) (r : Result ℕ E) →

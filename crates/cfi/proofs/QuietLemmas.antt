@@ -7,9 +7,10 @@ use Rattle.cfi_programs.specs.Lines.{Line}
 use Rattle.cfi_programs.specs.WriterOutput.{IsBeginning}
 use Rattle.cfi_programs.proofs.WrittenLemmas.{none_yet, writes_refused}
 use Rattle.cfi_files.specs.FileOutputs.{ChecksNamed}
-use Rattle.cfi_files.specs.Findings.{is_faithful}
 use Rattle.cfi_files.specs.declared.finding.Finding.{Finding}
+use Rattle.cfi_files.specs.declared.finding.Finding.TheVariants.{Faithful, NoTable, OtherFile, Unfaithful, Unreadable}
 use Rattle.cfi.specs.declared.files.CheckStyle.{CheckStyle}
+use Rattle.cfi.specs.Findings.{is_left_out}
 use Rattle.cfi.specs.Process.{ChecksStyled, kept}
 
 no_finding : {E : Type 0} (r : Result Finding E) (Q : Finding → Type 0) → IsErr r → IfOk r Q
@@ -17,44 +18,52 @@ no_finding (Ok finding) Q err = cc
 no_finding (Err e) Q err = tt
 
 -- a line in full
-pub loud : {E : Type 0} (style : CheckStyle) (name : Text) (input old new : Option (List ℕ)) (r : Result Finding E) → style.quiet ≡ false → ChecksNamed style.format name input old new r
+none_left_out : (style : CheckStyle) (finding : Finding) → style.quiet ≡ false → style.elf_alone ≡ false → is_left_out style finding ≡ false
+none_left_out style Faithful e f = e
+none_left_out style Unfaithful e f = refl
+none_left_out style NoTable e f = refl
+none_left_out style OtherFile e f = f
+none_left_out style Unreadable e f = refl
+
+kept_text : (left_out : Bool) (whole : Line) → Line
+kept_text left_out whole = cond left_out (record whole { text = [] }) whole
+
+pub loud : {E : Type 0} (style : CheckStyle) (name : Text) (input old new : Option (List ℕ)) (r : Result Finding E) → style.quiet ≡ false → style.elf_alone ≡ false → ChecksNamed style.format name input old new r
     → ChecksStyled style name input old new r
-loud style name input old new r e (bytes, left, (finding, printed, writes, found, is)) =
-    (bytes, left, (finding, printed, writes, found, (printed, is, sym (ap (λ (b : Bool). kept b finding printed) e))))
+unfolding kept_text
+loud style name input old new r e f (bytes, left, (finding, printed, writes, found, is)) =
+    (bytes, left, (finding, printed, writes, found, (printed, is, sym (ap (λ (b : Bool). kept_text b printed) (none_left_out style finding e f)))))
 
 -- the check fails before its line is written
 pub unmade : {E F : Type 0} (style : CheckStyle) (name : Text) (input old start line : Option (List ℕ)) (e : E) (r : Result Finding F) → IsErr r → ChecksNamed style.format name input start line (Err e)
     → ChecksStyled style name input old old r
 unmade style name input old start line e r err (bytes, left, (finding, whole, writes, found, is)) =
-    let printed : Line = kept style.quiet finding whole in
+    let printed : Line = kept style finding whole in
     (bytes, left, (finding, printed, writes_refused old old r printed.text err ([], none_yet old, (printed.text, refl)), no_finding r (λ x. x ≡ finding) err, (whole, is, refl)))
 
-kept_text : (quiet faithful : Bool) (whole : Line) → Line
-kept_text quiet faithful whole = cond (quiet && faithful) (record whole { text = [] }) whole
-
--- a faithful table has no line
-pub left_out : (E F : Type 0) (style : CheckStyle) (name : Text) (input old start line : Option (List ℕ)) (found : Finding) → style.quiet ≡ true → is_faithful found ≡ true
+-- a file that has no line
+pub left_out : (E F : Type 0) (style : CheckStyle) (name : Text) (input old start line : Option (List ℕ)) (found : Finding) → is_left_out style found ≡ true
     → ChecksNamed {E = E} style.format name input start line (Ok found) → ChecksStyled {E = F} style name input old old (Ok found)
 unfolding kept_text
-left_out E F style name input old start line found quiet faithful (bytes, left, (finding, whole, writes, same, is)) =
-    let none : (kept style.quiet finding whole).text ≡ [] = ap₂ (λ (b c : Bool). (kept_text b c whole).text) quiet (ap is_faithful (sym same) ∙ faithful) in
-    (bytes, left, (finding, kept style.quiet finding whole, subst (λ (text : List ℕ). Appends old old text) (sym none) (none_yet old), same, (whole, is, refl)))
+left_out E F style name input old start line found out (bytes, left, (finding, whole, writes, same, is)) =
+    let none : (kept style finding whole).text ≡ [] = ap (λ (b : Bool). (kept_text b whole).text) (ap (is_left_out style) (sym same) ∙ out) in
+    (bytes, left, (finding, kept style finding whole, subst (λ (text : List ℕ). Appends old old text) (sym none) (none_yet old), same, (whole, is, refl)))
 
 -- another line is written as it was made
-module _ (style : CheckStyle) (name : Text) (input old new : Option (List ℕ)) (start items : List ℕ) (found : Finding) (none : start ≡ []) (quiet : style.quiet ≡ true) (other : is_faithful found ≡ false) where
-  made : (finding : Finding) (whole : Line) → items ≡ start ++ whole.text → found ≡ finding → (kept style.quiet finding whole).text ≡ items
+module _ (style : CheckStyle) (name : Text) (input old new : Option (List ℕ)) (start items : List ℕ) (found : Finding) (none : start ≡ []) (other : is_left_out style found ≡ false) where
+  made : (finding : Finding) (whole : Line) → items ≡ start ++ whole.text → found ≡ finding → (kept style finding whole).text ≡ items
   unfolding kept_text
   made finding whole writes same =
-      ap₂ (λ (b c : Bool). (kept_text b c whole).text) quiet (ap is_faithful (sym same) ∙ other) ∙ sym (writes ∙ ap (λ (x : List ℕ). x ++ whole.text) none)
+      ap (λ (b : Bool). (kept_text b whole).text) (ap (is_left_out style) (sym same) ∙ other) ∙ sym (writes ∙ ap (λ (x : List ℕ). x ++ whole.text) none)
 
   pub written : (E F : Type 0) → ChecksNamed {E = E} style.format name input (Some start) (Some items) (Ok found) → Appends old new items → ChecksStyled {E = F} style name input old new (Ok found)
   written E F (bytes, left, (finding, whole, writes, same, is)) appends =
-      (bytes, left, (finding, kept style.quiet finding whole, subst (λ (text : List ℕ). Appends old new text) (sym (made finding whole writes same)) appends, same, (whole, is, refl)))
+      (bytes, left, (finding, kept style finding whole, subst (λ (text : List ℕ). Appends old new text) (sym (made finding whole writes same)) appends, same, (whole, is, refl)))
 
   pub begun : {F : Type 0} (E : Type 0) (r : Result Finding F) → IsErr r → ChecksNamed {E = E} style.format name input (Some start) (Some items) (Ok found)
       → ((front : List ℕ) × Appends old new front × IsBeginning front items) → ChecksStyled style name input old new r
   begun E r err (bytes, left, (finding, whole, writes, same, is)) front =
-      let printed : Line = kept style.quiet finding whole in (
+      let printed : Line = kept style finding whole in (
         bytes,
         left,
         (

@@ -9,7 +9,7 @@ use Rattle.clap.specs.Simple.{Shape}
 use Rattle.clap.specs.Kinds.{or_else}
 use Rattle.clap.specs.Faults.{check_fault, defaults_fault, long_fault, step_fault, turn_fault}
 use Rattle.cfi.specs.CommandLine.{Asked, asked_of}
-use Rattle.cfi.specs.Forms.{Arguments, Form, LongOption, file_and_address, file_and_addresses, one_file, one_file_or_more, option_named}
+use Rattle.cfi.specs.Forms.{Arguments, Form, LongOption, file_and_address, file_and_addresses, one_file, any_files, option_named}
 use Rattle.cfi.specs.Words.{Given, addresses_of, asked_by_form, files_of, fits, listed, value_given}
 use Rattle.cfi.proofs.FlagLemmas.{IsFault, held, help}
 use Rattle.cfi.proofs.OptionLemmas.{here}
@@ -50,7 +50,7 @@ Placed file_and_address (f ∷ a ∷ []) position = position ≡ 3
 Placed file_and_address (f ∷ a ∷ x ∷ more) position = ⊥
 Placed file_and_addresses [] position = position ≡ 1
 Placed file_and_addresses (f ∷ more) position = position ≡ 2
-Placed one_file_or_more given position = position ≡ 1
+Placed any_files given position = position ≡ 1
 
 pub record Places (arguments : Arguments) (given : List Text) (position : ℕ) (now : Text → List Text) : Type 0 where
   pub placed : Placed arguments given position

@@ -10,11 +10,13 @@ use Rattle.cfi_programs.specs.declared.style.Format.TheVariants as form
 use Rattle.hex.specs.Hex.{encode_with}
 use Rattle.cfi.specs.Tasks as task
 use Rattle.cfi.specs.Tasks.{task_for}
+use Rattle.cfi.specs.Targets.{names_of, path_in}
 use Rattle.cfi.specs.CommandLine.{Samples, cfi_app, check, dump, flame, fold, report, row, rows, stack, unwind}
 use Rattle.cfi.specs.Findings.{tally_in}
 use Rattle.cfi.specs.Folders.{Folders, copy_path, debug_path, path_below}
 use Rattle.cfi.specs.Forms.{LongOption, number_of, raw, text_option}
 use Rattle.cfi.specs.Openings.{path_of}
+use Rattle.cfi.specs.Spelled.{spelled}
 use Rattle.cfi.specs.Times.{time_of, times_of}
 use Rattle.cfi.specs.Words.{asked, given, nothing}
 
@@ -27,7 +29,7 @@ no_address = refl
 an_address_is_optional : asked (codes "cfi" ∷ codes "rows" ∷ codes "a" ∷ []) ≡ Some (rows false form.Text (codes "a") None)
 an_address_is_optional = refl
 
-several_files : asked (codes "cfi" ∷ codes "check" ∷ codes "a" ∷ codes "b" ∷ []) ≡ Some (check false form.Text (codes "a" ∷ codes "b" ∷ []))
+several_files : asked (codes "cfi" ∷ codes "check" ∷ codes "a" ∷ codes "b" ∷ []) ≡ Some (check false form.Text false None (codes "a" ∷ codes "b" ∷ []))
 several_files = refl
 
 one_file_alone : asked (codes "cfi" ∷ codes "dump" ∷ codes "a" ∷ codes "b" ∷ []) ≡ None
@@ -79,11 +81,51 @@ help_answered formats = refl
 flags : asked (codes "cfi" ∷ codes "row" ∷ codes "a" ∷ codes "--format" ∷ codes "json" ∷ codes "0x10" ∷ codes "--raw" ∷ codes "main" ∷ []) ≡ Some (row true form.Json (codes "a") (codes "0x10" ∷ codes "main" ∷ []))
 flags = refl
 
-a_format : asked (codes "cfi" ∷ codes "check" ∷ codes "--format=text" ∷ codes "a" ∷ []) ≡ Some (check false form.Text (codes "a" ∷ []))
+a_format : asked (codes "cfi" ∷ codes "check" ∷ codes "--format=text" ∷ codes "a" ∷ []) ≡ Some (check false form.Text false None (codes "a" ∷ []))
 a_format = refl
 
-a_quiet_check : asked (codes "cfi" ∷ codes "check" ∷ codes "a" ∷ codes "--quiet" ∷ codes "--format" ∷ codes "json" ∷ codes "b" ∷ []) ≡ Some (check true form.Json (codes "a" ∷ codes "b" ∷ []))
+a_quiet_check : asked (codes "cfi" ∷ codes "check" ∷ codes "a" ∷ codes "--quiet" ∷ codes "--format" ∷ codes "json" ∷ codes "b" ∷ []) ≡ Some (check true form.Json false None (codes "a" ∷ codes "b" ∷ []))
 a_quiet_check = refl
+
+-- a check of files in folders, and of those that a list names; both may not be named
+in_folders : asked (codes "cfi" ∷ codes "check" ∷ codes "--recursive" ∷ codes "lib" ∷ []) ≡ Some (check false form.Text true None (codes "lib" ∷ []))
+in_folders = refl
+
+by_a_list : asked (codes "cfi" ∷ codes "check" ∷ codes "--files0-from=-" ∷ []) ≡ Some (check false form.Text false (Some (codes "-")) [])
+by_a_list = refl
+
+both_namings : task_for (check false form.Text false (Some (codes "-")) (codes "a" ∷ [])) ≡ task.two_namings
+both_namings = refl
+
+no_naming : task_for (check false form.Text true None []) ≡ task.no_files
+no_naming = refl
+
+-- a flag of one letter of `check`, before `--`
+a_letter : spelled (codes "cfi" ∷ codes "check" ∷ codes "-r" ∷ codes "lib" ∷ codes "--" ∷ codes "-r" ∷ [])
+    ≡ codes "cfi" ∷ codes "check" ∷ codes "--recursive" ∷ codes "lib" ∷ codes "--" ∷ codes "-r" ∷ []
+a_letter = refl
+
+no_letter_of_rows : spelled (codes "cfi" ∷ codes "rows" ∷ codes "-r" ∷ []) ≡ codes "cfi" ∷ codes "rows" ∷ codes "-r" ∷ []
+no_letter_of_rows = refl
+
+-- a name is ended by a zero byte, the last one perhaps not
+two_names : names_of (97 ∷ 0 ∷ 98 ∷ 99 ∷ 0 ∷ []) ≡ codes "a" ∷ codes "bc" ∷ []
+two_names = refl
+
+not_ended : names_of (97 ∷ 0 ∷ 98 ∷ []) ≡ codes "a" ∷ codes "b" ∷ []
+not_ended = refl
+
+an_empty_name : names_of (97 ∷ 0 ∷ 0 ∷ []) ≡ codes "a" ∷ [] ∷ []
+an_empty_name = refl
+
+an_empty_list : names_of [] ≡ []
+an_empty_list = refl
+
+below_a_folder : path_in (codes "/usr/lib") (codes "a") ≡ codes "/usr/lib/a"
+below_a_folder = refl
+
+below_the_root : path_in (codes "/") (codes "a") ≡ codes "/a"
+below_the_root = refl
 
 -- a flag is given once, a format is one of the two, and it has to be named
 raw_twice : asked (codes "cfi" ∷ codes "table" ∷ codes "--raw" ∷ codes "a" ∷ codes "--raw" ∷ []) ≡ None

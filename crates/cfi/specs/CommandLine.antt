@@ -27,9 +27,9 @@ use Rattle.cfi.specs.declared.command.Command.{Command}
 use Rattle.cfi.specs.declared.command.Command.TheVariants as command
 use Rattle.cfi.specs.declared.command.Samples.{Samples as SamplesOfCode}
 use Rattle.cfi.specs.Folders.{Folders, folders_view}
-use Rattle.cfi.specs.Forms.{Arguments, Form, LongOption, Value, any_text, file_and_address}
-use Rattle.cfi.specs.Forms.{file_and_addresses, format_name, format_names, forms, no_value, number}
-use Rattle.cfi.specs.Forms.{number_of, one_file, one_file_or_more}
+use Rattle.cfi.specs.Forms.{Arguments, Form, LongOption, Value, any_files, any_text}
+use Rattle.cfi.specs.Forms.{file_and_address, file_and_addresses, format_name, format_names}
+use Rattle.cfi.specs.Forms.{forms, no_value, number, number_of, one_file}
 use Rattle.cfi_programs.specs.declared.style.Format.{Format}
 use Rattle.cfi_programs.specs.declared.style.Format.TheVariants as form
 
@@ -58,15 +58,15 @@ samples_view samples = record {
 }
 
 -- first whether registers are printed by number, or stacks without functions, and the form of what
--- is printed; for a check, whether files with faithful tables have no line; for folded stacks,
--- whether they are counted by periods; for a core file, which thread alone; for a flame graph, its
--- title, whether stacks are read from the innermost function out, and the least width of a box, a
--- text
+-- is printed; for a check, whether files with faithful tables have no line, whether folders are
+-- looked into, and the list of the files, if there is one; for folded stacks, whether they are
+-- counted by periods; for a core file, which thread alone; for a flame graph, its title, whether
+-- stacks are read from the innermost function out, and the least width of a box, a text
 pub data Asked : Type 0 where
   row : Bool → Format → Text → List Text → Asked
   rows : Bool → Format → Text → Option Text → Asked
   dump : Bool → Text → Asked
-  check : Bool → Format → List Text → Asked
+  check : Bool → Format → Bool → Option Text → List Text → Asked
   table : Bool → Text → Asked
   unwind : Bool → Format → Samples → Folders → Text → Asked
   stack : Bool → Format → Option ℕ → Folders → Text → Asked
@@ -80,8 +80,8 @@ command_view (command.Row raw format file addresses) =
 command_view (command.Rows raw format file address) =
     rows raw format file.now (text_view address)
 command_view (command.Dump raw file) = dump raw file.now
-command_view (command.Check quiet format files) =
-    check quiet format (map (λ file. file.now) files.items)
+command_view (command.Check quiet format recursive list files) =
+    check quiet format recursive (text_view list) (map (λ file. file.now) files.items)
 command_view (command.Table raw file) = table raw file.now
 command_view (command.Unwind raw format samples folders file) =
     unwind raw format (samples_view samples) (folders_view folders) file.now
@@ -104,7 +104,7 @@ several rule =
     record rule { range = Some (record { start_inclusive = 1; end_inclusive = usize_max }) }
 
 abbrev pub files_rule : Rule
-files_rule = several file_rule
+files_rule = several (new_rule (codes "FILE"))
 
 abbrev pub address_rule : Rule
 address_rule = new_rule (codes "ADDRESS")
@@ -143,6 +143,9 @@ raw_rule = flag_rule (codes "raw")
 abbrev pub quiet_rule : Rule
 quiet_rule = flag_rule (codes "quiet")
 
+abbrev pub recursive_rule : Rule
+recursive_rule = flag_rule (codes "recursive")
+
 abbrev pub period_rule : Rule
 period_rule = flag_rule (codes "period")
 
@@ -164,7 +167,7 @@ abbrev pub argument_rules : Arguments → List Rule
 argument_rules one_file = file_rule ∷ []
 argument_rules file_and_address = file_rule ∷ address_rule ∷ []
 argument_rules file_and_addresses = file_rule ∷ addresses_rule ∷ []
-argument_rules one_file_or_more = files_rule ∷ []
+argument_rules any_files = files_rule ∷ []
 
 -- a command, where the names of formats have this parser
 abbrev pub form_app : ValueParser → Form → App
@@ -238,6 +241,9 @@ raw_in = has_value (codes "raw") (codes "true")
 abbrev pub quiet_in : (Text → List Text) → Bool
 quiet_in = has_value (codes "quiet") (codes "true")
 
+abbrev pub recursive_in : (Text → List Text) → Bool
+recursive_in = has_value (codes "recursive") (codes "true")
+
 abbrev pub period_in : (Text → List Text) → Bool
 period_in = has_value (codes "period") (codes "true")
 
@@ -296,8 +302,8 @@ asked_for name values =
     if bytes_eq name (codes "row") then row raw format (file_in values) (values (codes "ADDRESS"))
     else if bytes_eq name (codes "rows") then rows raw format (file_in values)
     (first_in values (codes "ADDRESS"))
-    else if bytes_eq name (codes "check") then check (quiet_in values) format
-    (values (codes "FILE"))
+    else if bytes_eq name (codes "check") then check (quiet_in values) format (recursive_in values)
+    (first_in values (codes "files0-from")) (values (codes "FILE"))
     else of_stacks name values
 
 -- by the name and the matches of a subcommand

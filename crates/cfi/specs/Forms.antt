@@ -53,13 +53,13 @@ option_named options name = find (λ o. bytes_eq o.name name) options
 
 -- ---- commands
 
--- the arguments: a file; a file, and an address or none; a file, and one address at least; or one
--- file at least
+-- the arguments: a file; a file, and an address or none; a file, and one address at least; or any
+-- number of files
 pub data Arguments : Type 0 where
   one_file : Arguments
   file_and_address : Arguments
   file_and_addresses : Arguments
-  one_file_or_more : Arguments
+  any_files : Arguments
 
 pub record Form : Type 0 where
   pub name : Text
@@ -82,6 +82,9 @@ period = record { name = codes "period"; value = no_value }
 
 abbrev pub reverse : LongOption
 reverse = record { name = codes "reverse"; value = no_value }
+
+abbrev pub recursive : LongOption
+recursive = record { name = codes "recursive"; value = no_value }
 
 abbrev pub format : LongOption
 format = record { name = codes "format"; value = format_name }
@@ -120,7 +123,9 @@ abbrev pub dump_form : Form
 dump_form = form (codes "dump") (raw ∷ []) one_file
 
 abbrev pub check_form : Form
-check_form = form (codes "check") (quiet ∷ format ∷ []) one_file_or_more
+check_form =
+    form (codes "check") (quiet ∷ format ∷ recursive ∷ text_option (codes "files0-from") ∷ [])
+    any_files
 
 abbrev pub table_form : Form
 table_form = form (codes "table") (raw ∷ []) one_file

@@ -5,7 +5,9 @@ pub mod Findings
 pub mod Words
 pub mod Times
 pub mod Tasks
+pub mod Targets
 pub mod Openings
 pub mod FunctionObjects
 pub mod FlameOutputs
+pub mod Spelled
 pub mod Process

@@ -1,9 +1,9 @@
 -- Which output and status are right for a run of `cfi`.
---     IsAnswer disk task printed      the output of a task, by the bytes of the files that were
---         opened
---     IsOutput disk words printed      the output for the words of the process
---     PrintsRun disk words old new status      what a run writes, and its status
-use Rattle.std.specs.Prelude.{◌≡◌, ◌⊎◌, ◌&&◌, ℕ, Bool, List, [], ◌∷◌, ◌++◌, length, Option, Some}
+--     IsAnswer disk tree task printed      the output of a task, by the bytes of the files that
+--         were opened, and by what folders were listed with
+--     IsOutput disk tree words printed      the output for the words of the process
+--     PrintsRun disk tree words old new status      what a run writes, and its status
+use Rattle.std.specs.Prelude.{◌≡◌, ◌⊎◌, ℕ, Bool, List, [], ◌∷◌, ◌++◌, length, Option, Some}
 use Rattle.std.specs.Prelude.{None, Result, Vec, IsNone, MatchResult, IfOk, codes, map}
 use Rattle.std.specs.Prelude.{if◌then◌else◌}
 use Rattle.std.specs.Borrow.{Bor}
@@ -35,10 +35,14 @@ use Rattle.cfi.specs.Forms.{format_names}
 use Rattle.cfi.specs.Openings.{FileKind, of_any_kind, path_of, regular}
 use Rattle.cfi.specs.FlameOutputs.{IsOwed as IsOwedOfFolded, OfStacks, graph, table}
 use Rattle.cfi.specs.declared.files.CheckStyle.{CheckStyle}
-use Rattle.cfi.specs.Findings.{greatest_status, tally_in}
+use Rattle.cfi.specs.Findings.{greatest_status, is_left_out, of_elf_alone, tally_in}
 use Rattle.cfi_programs.specs.declared.style.Format.{Format}
-use Rattle.cfi.specs.Tasks.{OfRequest, Task, check, flame, no_times, no_width, of_request, print}
-use Rattle.cfi.specs.Tasks.{report, stack, task_for, unwind}
+use Rattle.cfi.specs.Spelled.{spelled}
+use Rattle.cfi.specs.Targets.{AreFilesOf, AreListed, Target, Tree, found as found_in_folder}
+use Rattle.cfi.specs.Targets.{named, unread}
+use Rattle.cfi.specs.Tasks.{Names, OfRequest, Task, check, flame, no_files, no_times, no_width}
+use Rattle.cfi.specs.Tasks.{of_files, of_list, of_request, print, report, stack, task_for}
+use Rattle.cfi.specs.Tasks.{two_namings, unwind}
 use Rattle.cfi.specs.Words.{asked}
 
 -- The files of a system: what a path may be opened to, where files of any kind are opened or
@@ -79,14 +83,15 @@ IsPrint disk name what printed =
 
 -- ---- what checks of files find
 
--- the line of a file, which a quiet check leaves out where the table is faithful
-abbrev pub kept : Bool → Finding → Line → Line
-kept quiet finding line = if quiet && is_faithful finding then record line { text = [] } else line
+-- the line of a file, which may be left out
+abbrev pub kept : CheckStyle → Finding → Line → Line
+kept style finding line =
+    if is_left_out style finding then record line { text = [] } else line
 
 abbrev pub IsStyledCheck : CheckStyle → Text → List ℕ → Finding → Line → Type 0
 IsStyledCheck style name bytes finding printed =
     (whole : Line) × IsNamedCheck style.format name bytes finding whole
-    × (printed ≡ kept style.quiet finding whole)
+    × (printed ≡ kept style finding whole)
 
 -- for the bytes of a file, with its line; a file that can't be opened has no line
 abbrev pub IsCheckOf :
@@ -101,6 +106,14 @@ IsCheck disk style name finding printed =
     (opened : Option disk.Handle) × MayOpenNamed disk name opened
     × IsCheckOf disk style name opened finding printed
 
+-- of a file that was found in a folder there is no line if it isn't an ELF file; a name by which
+-- nothing can be opened, and a folder that can't be read, is as a file that can't be opened
+abbrev pub IsTargetCheck : Disk → CheckStyle → Target → Finding → Line → Type 0
+IsTargetCheck disk style (named name) finding printed = IsCheck disk style name finding printed
+IsTargetCheck disk style (found_in_folder path) finding printed =
+    IsCheck disk (of_elf_alone style) path finding printed
+IsTargetCheck disk style unread finding printed = (finding ≡ Unreadable) × (printed ≡ nothing)
+
 -- what was found in several files, and their lines
 pub record Checks : Type 0 where
   pub found : List Finding
@@ -113,11 +126,11 @@ abbrev pub with_check : Finding → List ℕ → Checks → Checks
 with_check finding line more = record { found = finding ∷ more.found; lines = line ++ more.lines }
 
 -- one file after the other
-abbrev pub AreChecks : Disk → CheckStyle → List Text → Checks → Type 0
+abbrev pub AreChecks : Disk → CheckStyle → List Target → Checks → Type 0
 AreChecks disk style [] checks = checks ≡ no_checks
-AreChecks disk style (name ∷ names) checks =
+AreChecks disk style (target ∷ targets) checks =
     (finding : Finding) × (printed : Line) × (more : Checks)
-    × IsCheck disk style name finding printed × AreChecks disk style names more
+    × IsTargetCheck disk style target finding printed × AreChecks disk style targets more
     × (checks ≡ with_check finding printed.text more)
 
 -- the line that counts them
@@ -133,9 +146,28 @@ tallied style checks = record {
   status = greatest_status checks.found;
 }
 
-abbrev pub AreTallied : Disk → CheckStyle → List Text → Line → Type 0
-AreTallied disk style names printed =
-    (checks : Checks) × AreChecks disk style names checks × (printed ≡ tallied style checks)
+abbrev pub AreTallied : Disk → CheckStyle → List Target → Line → Type 0
+AreTallied disk style targets printed =
+    (checks : Checks) × AreChecks disk style targets checks × (printed ≡ tallied style checks)
+
+-- ---- which files a check is of
+
+-- the bytes of a list
+abbrev pub IsListRead : Disk → Text → List ℕ → Type 0
+IsListRead disk name bytes =
+    (file : disk.Handle) × MayOpenNamed disk name (Some file) × AreLeft (disk.bytes_of file) bytes
+
+abbrev pub AreTargets : Disk → Tree → Bool → Names → List Target → Type 0
+AreTargets disk tree recursive (of_files names) targets = AreFilesOf tree recursive names targets
+AreTargets disk tree recursive (of_list name) targets =
+    (bytes : List ℕ) × IsListRead disk name bytes × AreListed tree recursive bytes targets
+
+-- their lines and the count; or nothing, where the list can't be read or memory is refused
+abbrev pub AreChecked : Disk → Tree → Bool → Names → CheckStyle → Line → Type 0
+AreChecked disk tree recursive names style printed =
+    ((targets : List Target) × AreTargets disk tree recursive names targets
+    × AreTallied disk style targets printed)
+    ⊎ (printed ≡ nothing)
 
 -- ---- what is printed of a profile, and of a core file
 
@@ -195,16 +227,20 @@ IsSummary disk summary name printed =
 
 -- ---- a run
 
-abbrev pub IsAnswer : Disk → Task → Line → Type 0
-IsAnswer disk (print name what) printed = IsPrint disk name what printed
-IsAnswer disk (check names style) printed = AreTallied disk style names printed
-IsAnswer disk (unwind listing choice folders name) printed =
+abbrev pub IsAnswer : Disk → Tree → Task → Line → Type 0
+IsAnswer disk tree (print name what) printed = IsPrint disk name what printed
+IsAnswer disk tree (check names recursive style) printed =
+    AreChecked disk tree recursive names style printed
+IsAnswer disk tree no_files printed = printed ≡ nothing
+IsAnswer disk tree two_namings printed = printed ≡ nothing
+IsAnswer disk tree (unwind listing choice folders name) printed =
     AreStacks disk listing choice folders name printed
-IsAnswer disk (stack listing folders name) printed = AreThreads disk listing folders name printed
-IsAnswer disk (no_times text) printed = printed ≡ nothing
-IsAnswer disk (no_width text) printed = printed ≡ nothing
-IsAnswer disk (flame drawing name) printed = IsSummary disk (graph drawing) name printed
-IsAnswer disk (report format name) printed = IsSummary disk (table format) name printed
+IsAnswer disk tree (stack listing folders name) printed =
+    AreThreads disk listing folders name printed
+IsAnswer disk tree (no_times text) printed = printed ≡ nothing
+IsAnswer disk tree (no_width text) printed = printed ≡ nothing
+IsAnswer disk tree (flame drawing name) printed = IsSummary disk (graph drawing) name printed
+IsAnswer disk tree (report format name) printed = IsSummary disk (table format) name printed
 
 -- the status after a text of clap's, which may be 0 after help; 2 where the text can't be written
 abbrev pub IsStatusAfter : ErrorKind → ℕ → Type 0
@@ -221,15 +257,16 @@ IsExplained words printed =
     × IsStatusAfter kind printed.status
 
 -- where memory is refused before there is a command, nothing is written
-abbrev pub IsAnswerTo : Disk → List Text → Option Asked → Line → Type 0
-IsAnswerTo disk words None printed = IsExplained words printed
-IsAnswerTo disk words (Some asked_for) printed =
-    IsAnswer disk (task_for asked_for) printed ⊎ (printed ≡ nothing)
+abbrev pub IsAnswerTo : Disk → Tree → List Text → Option Asked → Line → Type 0
+IsAnswerTo disk tree words None printed = IsExplained words printed
+IsAnswerTo disk tree words (Some asked_for) printed =
+    IsAnswer disk tree (task_for asked_for) printed ⊎ (printed ≡ nothing)
 
--- by the words of the process, none where they can't be had
-abbrev pub IsOutput : Disk → Option (List Text) → Line → Type 0
-IsOutput disk None printed = printed ≡ nothing
-IsOutput disk (Some words) printed = IsAnswerTo disk words (asked words) printed
+-- by the words of the process, none where they can't be had, with a flag of one letter by its name
+abbrev pub IsOutput : Disk → Tree → Option (List Text) → Line → Type 0
+IsOutput disk tree None printed = printed ≡ nothing
+IsOutput disk tree (Some words) printed =
+    IsAnswerTo disk tree (spelled words) (asked (spelled words)) printed
 
 -- ---- what was written
 
@@ -243,10 +280,10 @@ ChecksStyled style name input old new result =
 
 -- all checks, or a beginning of their lines
 abbrev pub WritesChecks :
-    {E A : Type 0} → Disk → CheckStyle → List Text → Option (List ℕ) → Option (List ℕ) →
+    {E A : Type 0} → Disk → CheckStyle → List Target → Option (List ℕ) → Option (List ℕ) →
     Result (Vec Finding A) E → Type 0
-WritesChecks disk style names old new result =
-    (checks : Checks) × AreChecks disk style names checks × Writes old new result checks.lines
+WritesChecks disk style targets old new result =
+    (checks : Checks) × AreChecks disk style targets checks × Writes old new result checks.lines
     × IfOk result (λ found. found.items ≡ checks.found)
 
 -- all of an output, with its status; or a beginning, with the status 2: the output failed, or
@@ -257,9 +294,10 @@ Ends printed old new status =
     × (((written ≡ printed.text) × (status ≡ printed.status))
     ⊎ (IsBeginning written printed.text × (status ≡ 2)))
 
-abbrev pub PrintsRun : Disk → Option (List Text) → Option (List ℕ) → Option (List ℕ) → ℕ → Type 0
-PrintsRun disk words old new status =
-    (printed : Line) × IsOutput disk words printed × Ends printed old new status
+abbrev pub PrintsRun :
+    Disk → Tree → Option (List Text) → Option (List ℕ) → Option (List ℕ) → ℕ → Type 0
+PrintsRun disk tree words old new status =
+    (printed : Line) × IsOutput disk tree words printed × Ends printed old new status
 
 -- the status once the output is flushed, which may fail
 abbrev pub IsStatusOf : {E : Type 0} → Result ℕ E → ℕ → Type 0

@@ -1,5 +1,6 @@
 -- What a command is to do.
-use Rattle.std.specs.Prelude.{ℕ, Bool, List, Option, Some, None, codes, map, option_map, unwrap_or}
+use Rattle.std.specs.Prelude.{ℕ, Bool, false, List, [], ◌∷◌, Option, Some, None, codes, map}
+use Rattle.std.specs.Prelude.{option_map, unwrap_or}
 use Rattle.std.specs.Option.{option_map_or}
 use Rattle.clap.specs.Words.{Text}
 use Rattle.cfi_flame.specs.Flames.{Drawing, drawing_view}
@@ -13,9 +14,12 @@ use Rattle.cfi_stacks.specs.declared.listing.Listing.{Listing}
 use Rattle.cfi_stacks.specs.declared.listing.Listing.TheVariants.{Frames, Json, Folded}
 use Rattle.cfi_stacks.specs.declared.listing.ThreadListing.{ThreadListing}
 use Rattle.cfi.specs.declared.files.CheckStyle.{CheckStyle}
+use Rattle.cfi.specs.declared.task.Names.{Names as NamesOfCode}
+use Rattle.cfi.specs.declared.task.Names.TheVariants as names_of_code
 use Rattle.cfi.specs.declared.task.Task.{Task as TaskOfCode}
 use Rattle.cfi.specs.declared.task.Task.TheVariants.{Print, Check, Unwind, Stack, Flame}
-use Rattle.cfi.specs.declared.task.Task.TheVariants.{NoTimes, NoWidth, Report}
+use Rattle.cfi.specs.declared.task.Task.TheVariants.{NoFiles, NoTimes, NoWidth, Report}
+use Rattle.cfi.specs.declared.task.Task.TheVariants.{TwoNamings}
 use Rattle.cfi.specs.declared.times.Times.{Times}
 use Rattle.cfi.specs.CommandLine.{Asked, Samples}
 use Rattle.cfi.specs.CommandLine as asked
@@ -48,12 +52,24 @@ of_request request = asking request.raw (of_file request.printed)
 
 -- ---- a task
 
--- to print something of a file; to check files, in a style; to print the stacks of samples of a
+-- the files that a check is of: those that are named, or those of a list
+pub data Names : Type 0 where
+  of_files : List Text → Names
+  of_list : Text → Names
+
+abbrev pub names_view : NamesOfCode → Names
+names_view (names_of_code.Files names) = of_files (map (λ name. name.now) names.now)
+names_view (names_of_code.List name) = of_list name.now
+
+-- to print something of a file; to check files, and if asked those in folders, in a style; to say
+-- that none are named, or that they are named twice; to print the stacks of samples of a
 -- profile, as listed, or of threads of a core file, by files in folders; to say that a text isn't
 -- two times, or isn't a width; or the flame graph of folded stacks, drawn so, or their functions
 pub data Task : Type 0 where
   print : Text → OfRequest → Task
-  check : List Text → CheckStyle → Task
+  check : Names → Bool → CheckStyle → Task
+  no_files : Task
+  two_namings : Task
   unwind : Listing → Choice → Folders → Text → Task
   stack : ThreadListing → Folders → Text → Task
   no_times : Text → Task
@@ -63,7 +79,9 @@ pub data Task : Type 0 where
 
 abbrev pub task_view : TaskOfCode → Task
 task_view (Print file request) = print file.now (of_request request)
-task_view (Check files style) = check (map (λ file. file.now) files.now) style
+task_view (Check names recursive style) = check (names_view names) recursive style
+task_view NoFiles = no_files
+task_view TwoNamings = two_namings
 task_view (Unwind file listing choice folders) =
     unwind listing (choice_view choice) (folders_view folders) file.now
 task_view (Stack file listing folders) = stack listing (folders_view folders) file.now
@@ -119,13 +137,20 @@ drawing title reverse min_width file =
     option_map_or (λ text. by_width title reverse file text (time_of text)) min_width
     (drawn title reverse 0 file)
 
+-- files are named by words or in a list
+abbrev pub checking : CheckStyle → Bool → Option Text → List Text → Task
+checking style recursive None [] = no_files
+checking style recursive None (name ∷ names) = check (of_files (name ∷ names)) recursive style
+checking style recursive (Some name) [] = check (of_list name) recursive style
+checking style recursive (Some name) (file ∷ more) = two_namings
+
 -- for what the words ask for
 abbrev pub task_for : Asked → Task
 task_for (asked.row raw format file addresses) = print file (asking raw (row_of format addresses))
 task_for (asked.rows raw format file address) = print file (asking raw (rows_of format address))
 task_for (asked.dump raw file) = print file (asking raw dump_of)
-task_for (asked.check quiet format files) =
-    check files (record { format = format; quiet = quiet })
+task_for (asked.check quiet format recursive list files) =
+    checking (record { format = format; quiet = quiet; elf_alone = false }) recursive list files
 task_for (asked.table raw file) = print file (asking raw table_of)
 task_for (asked.unwind raw format samples folders file) =
     unwinding (listing_for raw format) samples folders file

@@ -11,7 +11,7 @@ use Rattle.std.specs.Str.{bytes_eq, chars}
 use Rattle.clap.specs.Lexer.{long_of, short_of}
 use Rattle.clap.specs.Words.{Text}
 use Rattle.cfi.specs.Forms.{Arguments, Form, LongOption, file_and_address, file_and_addresses}
-use Rattle.cfi.specs.Forms.{form_named, forms, has_no_value, one_file, one_file_or_more}
+use Rattle.cfi.specs.Forms.{any_files, form_named, forms, has_no_value, one_file}
 use Rattle.cfi.specs.Forms.{option_named, takes}
 use Rattle.cfi.specs.CommandLine.{Asked, asked_for}
 
@@ -100,17 +100,17 @@ fits one_file (file ∷ []) = true
 fits file_and_address (file ∷ []) = true
 fits file_and_address (file ∷ address ∷ []) = true
 fits file_and_addresses (file ∷ address ∷ more) = true
-fits one_file_or_more (file ∷ more) = true
+fits any_files files = true
 fits _ _ = false
 
 abbrev pub files_of : Arguments → List Text → List Text
 files_of one_file words = words
-files_of one_file_or_more words = words
+files_of any_files words = words
 files_of _ words = take 1 words
 
 abbrev pub addresses_of : Arguments → List Text → List Text
 addresses_of one_file words = []
-addresses_of one_file_or_more words = []
+addresses_of any_files words = []
 addresses_of _ words = drop 1 words
 
 abbrev pub listed : Option Text → List Text

@@ -9,7 +9,8 @@ ghost use Rattle.cfi.specs.CommandLine.{cfi_app, command_view, file_in, file_rul
 ghost use Rattle.cfi.specs.CommandLine.{folders_in, form_app, format_in, format_rule, has_value};
 ghost use Rattle.cfi.specs.CommandLine.{number_in, number_rule, of_one_file, of_stacks, period_in};
 ghost use Rattle.cfi.specs.CommandLine.{period_rule, plain_app, quiet_in, quiet_rule, raw_in};
-ghost use Rattle.cfi.specs.CommandLine.{raw_rule, samples_in, samples_view, text_rule, text_view};
+ghost use Rattle.cfi.specs.CommandLine.{raw_rule, recursive_rule, samples_in, samples_view};
+ghost use Rattle.cfi.specs.CommandLine.{text_rule, text_view};
 ghost use Rattle.cfi.specs.CommandLine.{AddsOptions, first_in, reverse_in, reverse_rule, top_app};
 ghost use Rattle.cfi.specs.CommandLine.{values_in};
 ghost use Rattle.cfi.specs.Folders.{folders_view};
@@ -69,11 +70,14 @@ pub enum Command<'w> {
         raw: bool,
         file: &'w str,
     },
-    /// `check FILE..`: whether the table of each file is faithful; there is one file at least. If
-    /// `quiet`, files with faithful tables have no line.
+    /// `check FILE..`, or `check --files0-from=LIST`: whether the table of each file is faithful.
+    /// If `quiet`, files with faithful tables have no line; if `recursive`, those in folders are
+    /// checked.
     Check {
         quiet: bool,
         format: Format,
+        recursive: bool,
+        list: Option<&'w str>,
         files: Vec<&'w str>,
     },
     /// `table FILE`: the compiled table.
@@ -179,6 +183,8 @@ fn named<'w>(
         Ok(Command::Check {
             quiet: quiet_in(arguments),
             format: format_in(arguments),
+            recursive: has_value(arguments, "recursive", "true"),
+            list: text_in(arguments, "files0-from"),
             files: values_in(alloc, arguments, "FILE")?,
         })
     } else {
@@ -426,6 +432,8 @@ fn check<'w>(alloc: Global, formats: &'w [&'w str]) -> Result<clap::Command<'w>,
         .about("Checks that the table of .eh_frame_hdr lists the entries of .eh_frame faithfully")
         .arg(quiet_flag(alloc))?
         .arg(format_flag(alloc, formats))?
+        .arg(recursive_flag(alloc))?
+        .arg(list_option(alloc))?
         .arg(files(alloc))
 }
 
@@ -586,6 +594,30 @@ fn quiet_flag<'w>(alloc: Global) -> Arg<'w>
         .action(ArgAction::SetTrue)
 }
 
+/// Returns the flag `--recursive` of `check`.
+fn recursive_flag<'w>(alloc: Global) -> Arg<'w>
+    ensures rule { rule_of result ≡ recursive_rule }
+    ensures local { result.global ≡ false }
+{
+    Arg::new(alloc, "recursive")
+        .help("Checks the files in folders and below, follows no links there; -r is short for it")
+        .long("recursive")
+        .action(ArgAction::SetTrue)
+}
+
+/// Returns the option `--files0-from` of `check`.
+fn list_option<'w>(alloc: Global) -> Arg<'w>
+    ensures rule { rule_of result ≡ text_rule (codes "files0-from") }
+    ensures local { result.global ≡ false }
+{
+    text_option(
+        alloc,
+        "files0-from",
+        "LIST",
+        "Checks the files that LIST names, each name ended by a zero byte; - is standard input",
+    )
+}
+
 /// Returns the flag `--period` of `fold`.
 fn period_flag<'w>(alloc: Global) -> Arg<'w>
     ensures rule { rule_of result ≡ period_rule }
@@ -712,14 +744,13 @@ fn folded_file<'w>(alloc: Global) -> Arg<'w>
         .required(true)
 }
 
-/// Returns the argument that names one ELF file or more.
+/// Returns the argument that names ELF files.
 fn files<'w>(alloc: Global) -> Arg<'w>
     ensures rule { rule_of result ≡ files_rule }
     ensures local { result.global ≡ false }
 {
     Arg::new(alloc, "FILE")
         .help("Programs or libraries, in the ELF format; - is standard input")
-        .required(true)
         .num_args(1..)
 }
 

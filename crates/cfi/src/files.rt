@@ -3,11 +3,14 @@ ghost use Rattle.std.specs.Prelude.{◌≡◌, ◌++◌, [], ◌∷◌, OnOk, So
 ghost use Rattle.std.specs.List.{count_by};
 ghost use Rattle.cfi_programs.specs.WriterOutput.{Writes};
 ghost use Rattle.cfi_files.specs.Findings.{ChecksSome, has_table, is_faithful};
-ghost use Rattle.cfi.specs.Findings.{greatest_status, tally_in, tally_object, tally_text};
+ghost use Rattle.cfi.specs.Findings.{greatest_status, is_left_out, of_elf_alone, tally_in};
+ghost use Rattle.cfi.specs.Findings.{tally_object, tally_text};
 ghost use Rattle.cfi.specs.Openings.{of_any_kind, path_of};
-ghost use Rattle.cfi.specs.Process.{ChecksStyled, IsCheck, WritesChecks, disk_of};
+ghost use Rattle.cfi.specs.Process.{ChecksStyled, IsCheck, IsTargetCheck, WritesChecks, disk_of};
+ghost use Rattle.cfi.specs.Targets.{target_view};
 
 use crate::system::System;
+use crate::targets::Target;
 use cfi_files::{Finding, check_file};
 use cfi_object::FileInput;
 use cfi_programs::json::push_number;
@@ -31,6 +34,8 @@ pub struct CheckStyle {
     pub format: Format,
     /// Whether a file with a faithful table has no line.
     pub quiet: bool,
+    /// Whether a file that isn't an ELF file has no line.
+    pub elf_alone: bool,
 }
 
 /// Opens the file that a command names, `-` for standard input. Where it can't be opened, the
@@ -55,20 +60,19 @@ fn path_of(name: &str) -> &str
 pub fn check_files<S: System, W: Write>(
     system: &S,
     style: CheckStyle,
-    files: &[&str],
+    targets: &[Target],
     output: &mut W,
 ) -> io::Result<Vec<Finding>>
     ensures { WritesChecks (disk_of (S.may_open system.now) S.File.bytes) style
-        (map (λ file. file.now) files.now) (W.contents output.old) (W.contents output.new)
-        result }
+        (map target_view targets.now) (W.contents output.old) (W.contents output.new) result }
 {
-    let shows_progress = files.len() > MANY;
+    let shows_progress = targets.len() > MANY;
     let mut findings = Vec::new(system.alloc());
-    for file in files {
+    for target in targets {
         if shows_progress {
-            system.show_progress(findings.len() + 1, files.len(), file);
+            show_progress(system, findings.len() + 1, targets.len(), target);
         }
-        let finding = check_one(system, style, file, output)?;
+        let finding = check_target(system, style, target, output)?;
         findings.push(finding)?;
     }
     if shows_progress {
@@ -77,7 +81,58 @@ pub fn check_files<S: System, W: Write>(
     Ok(findings)
 }
 
-/// Checks one file, and returns what was found.
+/// Says which of several files is checked.
+fn show_progress<S: System>(system: &S, number: usize, files: usize, target: &Target) {
+    match target {
+        Target::Named(name) => system.show_progress(number, files, name.as_str()),
+        Target::Found(path) => system.show_progress(number, files, path.as_str()),
+        Target::Unread => {}
+    }
+}
+
+/// Checks one file, and returns what was found. One that was found in a folder and isn't an ELF
+/// file has no line.
+fn check_target<S: System, W: Write>(
+    system: &S,
+    style: CheckStyle,
+    target: &Target,
+    output: &mut W,
+) -> io::Result<Finding>
+    ensures { ChecksSome
+        (λ finding line. IsTargetCheck (disk_of (S.may_open system.now) S.File.bytes) style
+        (target_view target.now) finding line)
+        (W.contents output.old) (W.contents output.new) result }
+{
+    match target {
+        Target::Named(name) => check_one(system, style, name.as_str(), output),
+        Target::Found(path) => check_one(system, of_elf_alone(style), path.as_str(), output),
+        Target::Unread => Ok(Finding::Unreadable),
+    }
+}
+
+/// Returns the style in which a file that isn't an ELF file has no line.
+fn of_elf_alone(style: CheckStyle) -> CheckStyle
+    ensures { result ≡ of_elf_alone style }
+{
+    CheckStyle {
+        format: style.format,
+        quiet: style.quiet,
+        elf_alone: true,
+    }
+}
+
+/// Returns whether a file of which this was found has no line.
+fn is_left_out(style: CheckStyle, finding: Finding) -> bool
+    ensures { result ≡ is_left_out style finding }
+{
+    match finding {
+        Finding::Faithful => style.quiet,
+        Finding::OtherFile => style.elf_alone,
+        _ => false,
+    }
+}
+
+/// Checks the file of this name, and returns what was found.
 fn check_one<S: System, W: Write>(
     system: &S,
     style: CheckStyle,
@@ -106,12 +161,12 @@ fn check_input<I: FileInput, W: Write>(
     ensures { ChecksStyled style name.now (I.bytes input.old) (W.contents output.old)
         (W.contents output.new) result }
 {
-    if !style.quiet {
+    if !style.quiet && !style.elf_alone {
         return check_file(alloc, style.format, name, input, output);
     }
     let mut line = Vec::new(alloc);
     let finding = check_file(alloc, style.format, name, input, &mut line)?;
-    if finding.is_faithful() {
+    if is_left_out(style, finding) {
         return Ok(finding);
     }
     write_text(output, line.as_slice())?;

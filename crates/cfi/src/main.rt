@@ -10,9 +10,11 @@ ghost use Rattle.cfi_stacks.specs.Choices.{choice_view};
 ghost use Rattle.cfi.specs.CommandLine.{command_view};
 ghost use Rattle.cfi.specs.FlameOutputs.{summary_view};
 ghost use Rattle.cfi.specs.Folders.{folders_view};
-ghost use Rattle.cfi.specs.Process.{AreStacks, AreTallied, AreThreads, IsAnswer, IsPrint};
-ghost use Rattle.cfi.specs.Process.{IsStatusAfter, IsStatusOf, IsSummary, PrintsRun, disk_of};
-ghost use Rattle.cfi.specs.Tasks.{of_request, task_for};
+ghost use Rattle.cfi.specs.Process.{AreChecked, AreStacks, AreTallied, AreThreads, IsAnswer};
+ghost use Rattle.cfi.specs.Process.{IsPrint, IsStatusAfter, IsStatusOf, IsSummary, PrintsRun};
+ghost use Rattle.cfi.specs.Process.{disk_of};
+ghost use Rattle.cfi.specs.Targets.{target_view, tree_of};
+ghost use Rattle.cfi.specs.Tasks.{names_view, of_request, task_for};
 
 mod arguments;
 mod command;
@@ -21,7 +23,9 @@ mod flames;
 mod folders;
 mod function_objects;
 mod profile;
+mod spelled;
 mod system;
+mod targets;
 mod task;
 mod times;
 
@@ -35,13 +39,15 @@ use files::{
 use flames::{Summary, print_folded};
 use folders::Folders;
 use profile::ProfileOpener;
+use spelled::spelled;
 use std::alloc::AllocGlobal;
 use std::convert::AsStr;
 use std::io;
 use std::io::{BufWriter, IsTerminal, Write};
 use std::process::ExitCode;
 use system::{Host, System};
-use task::{Task, task_of};
+use targets::{Target, targets_of};
+use task::{Names, Task, task_of};
 
 /// How many bytes of the output are held back before they are written.
 const OUTPUT: usize = 32_768;
@@ -57,7 +63,8 @@ fn main(rt: HostRuntime) -> ExitCode {
 /// Runs the program by the words of the process, and returns the status with which it ends.
 fn run<S: System, W: Write>(system: &S, output: &mut W) -> u8
     ensures { (words : Option (List (List ℕ))) × S.has_words system.now words
-        × PrintsRun (disk_of (S.may_open system.now) S.File.bytes) words
+        × PrintsRun (disk_of (S.may_open system.now) S.File.bytes)
+        (tree_of (S.may_be system.now) (S.may_list system.now)) words
         (W.contents output.old) (W.contents output.new) result }
 {
     match system.words() {
@@ -69,10 +76,14 @@ fn run<S: System, W: Write>(system: &S, output: &mut W) -> u8
 /// Runs the program by these words, of which the first is its name, and returns the status.
 fn run_words<S: System, T: AsStr, W: Write>(system: &S, words: &[T], output: &mut W) -> u8
     ensures { PrintsRun (disk_of (S.may_open system.now) S.File.bytes)
+        (tree_of (S.may_be system.now) (S.may_list system.now))
         (Some (map T.text words.entry.now)) (W.contents output.old) (W.contents output.new)
         result }
 {
-    match command_of(system.alloc(), words) {
+    let Ok(words) = spelled(system.alloc(), words) else {
+        return WRONG;
+    };
+    match command_of(system.alloc(), words.as_slice()) {
         Ok(command) => finish(run_command(system, &command, output), output),
         Err(error) => explain(system, &error),
     }
@@ -103,12 +114,23 @@ fn finish<W: Write>(printed: io::Result<u8>, output: &mut W) -> u8
 /// Does what the command says, and returns the status.
 fn run_command<S: System, W: Write>(system: &S, command: &Command, output: &mut W) -> io::Result<u8>
     ensures { PrintsSome (λ line. IsAnswer (disk_of (S.may_open system.now) S.File.bytes)
+        (tree_of (S.may_be system.now) (S.may_list system.now))
         (task_for (command_view command.now)) line)
         (W.contents output.old) (W.contents output.new) result }
 {
     match task_of(command) {
         Task::Print(file, request) => print_file(system, file, request, output),
-        Task::Check(files, style) => print_checks(system, style, files, output),
+        Task::Check(names, recursive, style) => {
+            print_checks(system, style, recursive, names, output)
+        }
+        Task::NoFiles => {
+            system.tell_no_files();
+            Ok(WRONG)
+        }
+        Task::TwoNamings => {
+            system.tell_two_namings();
+            Ok(WRONG)
+        }
         Task::Unwind(file, listing, choice, folders) => {
             print_stacks(system, listing, &choice, folders, file, output)
         }
@@ -216,18 +238,37 @@ fn print_summary<S: System, W: Write>(
     }
 }
 
-/// Checks the files, prints how many there are, and returns the greatest status.
+/// Finds the files that are named, if `recursive` also those in folders, and checks them.
 fn print_checks<S: System, W: Write>(
     system: &S,
     style: CheckStyle,
-    files: &[&str],
+    recursive: bool,
+    names: Names,
+    output: &mut W,
+) -> io::Result<u8>
+    ensures { PrintsSome (λ line. AreChecked (disk_of (S.may_open system.now) S.File.bytes)
+        (tree_of (S.may_be system.now) (S.may_list system.now)) recursive
+        (names_view names.entry) style line)
+        (W.contents output.old) (W.contents output.new) result }
+{
+    match targets_of(system, recursive, names) {
+        Some(targets) => print_counted(system, style, targets.as_slice(), output),
+        None => Ok(WRONG),
+    }
+}
+
+/// Checks the files, prints how many there are, and returns the greatest status.
+fn print_counted<S: System, W: Write>(
+    system: &S,
+    style: CheckStyle,
+    targets: &[Target],
     output: &mut W,
 ) -> io::Result<u8>
     ensures { PrintsSome (λ line. AreTallied (disk_of (S.may_open system.now) S.File.bytes)
-        style (map (λ file. file.now) files.now) line)
+        style (map target_view targets.now) line)
         (W.contents output.old) (W.contents output.new) result }
 {
-    let findings = check_files(system, style, files, output)?;
+    let findings = check_files(system, style, targets, output)?;
     write_tally(count_findings(findings.as_slice()), style.format, output)?;
     Ok(greatest_status(findings.as_slice()))
 }

@@ -1,6 +1,6 @@
 //! What a run has of the system: its words, the files that they name, and standard error.
-ghost use Rattle.std.specs.Prelude.{◌≡◌, ◌≢◌, ℕ, ⊤, List, Option, None, IfErr, IfOk, length, map};
-ghost use Rattle.std.specs.Prelude.{option_map, refl, string_bytes};
+ghost use Rattle.std.specs.Prelude.{◌≡◌, ◌≢◌, ℕ, ⊤, Bool, List, Option, None, IfErr, IfOk, length};
+ghost use Rattle.std.specs.Prelude.{map, option_map, refl, string_bytes};
 ghost use Rattle.cfi.specs.Openings.{FileKind, of_any_kind, regular};
 
 use crate::arguments::{asks_for_check, before_mark, marked_words};
@@ -19,8 +19,24 @@ use std::{env, fs, io, str};
 /// The error of Linux for a directory where a file is wanted.
 const EISDIR: i32 = 21;
 
+/// How many bytes of the names in a folder are read at once.
+const NAMES: usize = 16_384;
+
+/// What is at a path.
+#[derive(Clone, Copy, Debug)]
+pub enum Kind {
+    /// A regular file, or nothing that can be told.
+    File,
+    /// A folder.
+    Folder,
+    /// A link, a pipe, a device or a socket.
+    Other,
+}
+
 /// What a run has of the system. Whatever it gives, `run` prints what is right for it.
 pub trait System {
+    ghost use Rattle.cfi.specs.declared.system.Kind.{Kind};
+
     /// An open file. Of an ELF file what is needed is read; a file of folded stacks is read from
     /// its beginning to its end.
     type File: FileInput + Read + Drop;
@@ -32,6 +48,13 @@ pub trait System {
     /// What a path may be opened to, where files of any kind are opened or regular ones alone;
     /// none where it can't be opened.
     ghost may_open: { Self → FileKind → List ℕ → Option Self.File → Type 0 };
+
+    /// What may be at a path, where a link that it names is followed or where it isn't.
+    ghost may_be: { Self → Bool → List ℕ → Kind → Type 0 };
+
+    /// The names that the folder at a path may be listed with, each ended by a zero byte, in any
+    /// order; none where it can't be read.
+    ghost may_list: { Self → List ℕ → Option (List ℕ) → Type 0 };
 
     /// The memory of the run.
     fn alloc(&self) -> Global;
@@ -57,6 +80,15 @@ pub trait System {
     fn find_regular(&self, path: &str) -> Option<Self::File>
         ensures { may_open self.now regular path.now result };
 
+    /// Returns what is at a path, where a link that it names is followed or where it isn't.
+    fn kind(&self, path: &str, follows: bool) -> Kind
+        ensures { may_be self.now follows path.now result };
+
+    /// Returns the names in the folder at a path, each ended by a zero byte, in any order. Where it
+    /// can't be read, the reason is printed on standard error, as `open` does, and there are none.
+    fn list(&self, folder: &str) -> Option<Vec<u8>>
+        ensures { may_list self.now folder.now (option_map (λ list. list.items) result) };
+
     /// Returns the home folder of the user, below which `perf record` keeps copies of files. `None`
     /// where it isn't known, or memory is refused.
     fn home(&self) -> Option<String>;
@@ -66,6 +98,22 @@ pub trait System {
 
     /// Says on standard error that the text isn't a width, as `cfi: TEXT: SENTENCE`.
     fn tell_no_width(&self, text: &str);
+
+    /// Says on standard error that no file to check is named.
+    fn tell_no_files(&self);
+
+    /// Says on standard error that files to check are named, and a list of such.
+    fn tell_two_namings(&self);
+
+    /// Says on standard error that the list at this path can't be read, as `cfi: LIST: SENTENCE`.
+    fn tell_unread(&self, list: &str);
+
+    /// Says on standard error that a name in the list at this path is empty, as
+    /// `cfi: LIST: SENTENCE`.
+    fn tell_empty_name(&self, list: &str);
+
+    /// Says on standard error that the name of a file isn't UTF-8, as `cfi: FILE: SENTENCE`.
+    fn tell_no_text(&self, name: &[u8]);
 
     /// Says on standard error that for the file with this name none of the build that ran was
     /// found, as `cfi: FILE: SENTENCE`.
@@ -140,6 +188,10 @@ impl<P: Env + Files + Print + Eprint + AllocGlobal> System for Host<'_, P> {
 
     ghost may_open = { λ _ _ _ _. ⊤ };
 
+    ghost may_be = { λ _ _ _ _. ⊤ };
+
+    ghost may_list = { λ _ _ _. ⊤ };
+
     fn alloc(&self) -> Global {
         self.rt.alloc()
     }
@@ -190,6 +242,31 @@ impl<P: Env + Files + Print + Eprint + AllocGlobal> System for Host<'_, P> {
         }
     }
 
+    fn kind(&self, path: &str, follows: bool) -> Kind {
+        let metadata = if follows {
+            fs::metadata(self.rt, path)
+        } else {
+            fs::symlink_metadata(self.rt, path)
+        };
+        match metadata {
+            Ok(metadata) if metadata.is_dir() => Kind::Folder,
+            Ok(metadata) if metadata.is_file() => Kind::File,
+            Ok(_) => Kind::Other,
+            // Opening it as a file then tells why.
+            Err(_) => Kind::File,
+        }
+    }
+
+    fn list(&self, folder: &str) -> Option<Vec<u8>> {
+        match read_names(self.rt, folder) {
+            Ok(names) => Some(names),
+            Err(error) => {
+                self.tell(folder.as_bytes(), error);
+                None
+            }
+        }
+    }
+
     fn home(&self) -> Option<String> {
         env::var(self.rt, "HOME").ok()
     }
@@ -203,6 +280,26 @@ impl<P: Env + Files + Print + Eprint + AllocGlobal> System for Host<'_, P> {
 
     fn tell_no_width(&self, text: &str) {
         let _ = eprintln!(self.rt; "cfi: {text}: no width: pixels with at most nine decimals");
+    }
+
+    fn tell_no_files(&self) {
+        let _ = eprintln!(self.rt; "cfi: check: no FILE, and no --files0-from");
+    }
+
+    fn tell_two_namings(&self) {
+        let _ = eprintln!(self.rt; "cfi: check: FILE can't be combined with --files0-from");
+    }
+
+    fn tell_unread(&self, list: &str) {
+        self.tell(list.as_bytes(), "the list can't be read");
+    }
+
+    fn tell_empty_name(&self, list: &str) {
+        self.tell(list.as_bytes(), "a name is empty");
+    }
+
+    fn tell_no_text(&self, name: &[u8]) {
+        self.tell(name, "the name isn't UTF-8, so it can't be opened");
     }
 
     fn tell_missing(&self, name: &[u8]) {
@@ -321,6 +418,24 @@ fn open_file<P: Files>(rt: &P, path: &str) -> io::Result<P::File> {
         Ok(metadata) if metadata.is_dir() => Err(io::Error::from_raw_os_error(EISDIR)),
         _ => File::open(rt, path),
     }
+}
+
+/// Reads the names in the folder at a path, each ended by a zero byte.
+fn read_names<P: Files + AllocGlobal>(rt: &P, folder: &str) -> io::Result<Vec<u8>> {
+    // With a slash behind it a link to a folder is followed.
+    let path = format!(in rt.alloc(); "{folder}/")?;
+    let mut dir = rt.open_dir(path.as_str())?;
+    let mut names = Vec::new(rt.alloc());
+    // A read fails where it has no room for a name and what the system has beside it.
+    let mut chunk = [0u8; NAMES];
+    for _ in 0..u64::MAX {
+        let length = dir.read(&mut chunk)?;
+        if length == 0 {
+            break;
+        }
+        names.extend_from_slice(&chunk[..length])?;
+    }
+    Ok(names)
 }
 
 /// Reads `size` bytes from the offset on.

@@ -1,10 +1,10 @@
 //! What a command is to do.
-ghost use Rattle.std.specs.Prelude.{◌≡◌};
+ghost use Rattle.std.specs.Prelude.{◌≡◌, map};
 ghost use Rattle.cfi_stacks.specs.Choices.{choice_view};
 ghost use Rattle.cfi.specs.CommandLine.{command_view, samples_view, text_view};
 ghost use Rattle.cfi.specs.Folders.{folders_view};
-ghost use Rattle.cfi.specs.Tasks.{asking, between, drawing, drawn, listing_for, of_file, print};
-ghost use Rattle.cfi.specs.Tasks.{task_for, task_view, unwinding};
+ghost use Rattle.cfi.specs.Tasks.{asking, between, checking, drawing, drawn, listing_for, of_file};
+ghost use Rattle.cfi.specs.Tasks.{print, task_for, task_view, unwinding};
 
 use crate::command::{Command, Samples};
 use crate::files::CheckStyle;
@@ -15,13 +15,27 @@ use cfi_flame::Drawing;
 use cfi_programs::style::Format;
 use cfi_stacks::{Choice, Listing, ThreadListing};
 
+/// The files that a check is of.
+#[derive(Clone, Copy)]
+pub enum Names<'c> {
+    /// These.
+    Files(&'c [&'c str]),
+    /// Those that the list at this path names, each name ended by a zero byte; `-` is standard
+    /// input.
+    List(&'c str),
+}
+
 /// What a command is to do.
 #[derive(Clone, Copy)]
 pub enum Task<'c> {
     /// Print this of a file.
     Print(&'c str, Request<'c>),
-    /// Check these files, and print what was found in a style.
-    Check(&'c [&'c str], CheckStyle),
+    /// Check these files, if asked those in folders too, and print what was found in a style.
+    Check(Names<'c>, bool, CheckStyle),
+    /// Say that no file to check is named.
+    NoFiles,
+    /// Say that files to check are named, and a list of such.
+    TwoNamings,
     /// Print the stacks of these samples of this profile so.
     Unwind(&'c str, Listing, Choice<'c>, Folders<'c>),
     /// Print the stacks of threads of this core file so.
@@ -57,13 +71,18 @@ pub fn task_of<'c>(command: &'c Command<'c>) -> Task<'c>
         Command::Check {
             quiet,
             format,
+            recursive,
+            list,
             files,
-        } => Task::Check(
-            files.as_slice(),
+        } => checking(
             CheckStyle {
                 format: *format,
                 quiet: *quiet,
+                elf_alone: false,
             },
+            *recursive,
+            *list,
+            files.as_slice(),
         ),
         Command::Table { raw, file } => printed_of(file, Printed::Table, *raw),
         Command::Unwind {
@@ -101,6 +120,25 @@ pub fn task_of<'c>(command: &'c Command<'c>) -> Task<'c>
             folders,
             file,
         } => unwinding(file, Listing::Folded(*period), *samples, *folders),
+    }
+}
+
+/// Returns the task to check these files or those of this list, or to say that none are named, or
+/// that both are given.
+fn checking<'c>(
+    style: CheckStyle,
+    recursive: bool,
+    list: Option<&'c str>,
+    files: &'c [&'c str],
+) -> Task<'c>
+    ensures { task_view result ≡ checking style recursive (text_view list.entry)
+        (map (λ file. file.now) files.entry.now) }
+{
+    match list {
+        None if files.is_empty() => Task::NoFiles,
+        None => Task::Check(Names::Files(files), recursive, style),
+        Some(list) if files.is_empty() => Task::Check(Names::List(list), recursive, style),
+        Some(_) => Task::TwoNamings,
     }
 }
 

@@ -9,7 +9,7 @@ use Rattle.cfi_programs.specs.WriterOutput.{Prints, PrintsSome}
 use Rattle.cfi_object.specs.FileParts.{IsEnoughOf}
 use Rattle.cfi_files.specs.declared.request.Request.{Request}
 use Rattle.cfi_files.specs.FileLines.{elf_refusal}
-use Rattle.cfi_files.specs.FileOutputs.{IsOfFile, IsOfParsed, PrintsOwed, format_for, needs_symbols}
+use Rattle.cfi_files.specs.FileOutputs.{IsOfFile, IsOfParsed, PrintsOwed, format_for, needed_for}
 use Rattle.cfi_files.proofs.WholeOutputs.{output_by}
 
 -- ---- a file that is not relocatable
@@ -26,7 +26,7 @@ other_whole : (image : Image) (bytes : List ℕ) → IsImageOf image bytes → I
 other_whole image bytes of read (Ok file) is differs = let (same, kept) = file_found of file is in found_is_other (elf_file bytes) _ (sym same)
 other_whole image bytes of read (Err e) is differs = λ bad. differs (sym (file_refused of e is read) ∙ bad)
 
-printed_parts : {E : Type 0} (request : Request) (known : Option (List ℕ)) (image : Image) (old new : Option (List ℕ)) (r : Result ℕ E) → IsEnoughOf known (needs_symbols request.printed) image → elf_file_of image ≢ Err Relocatable →
+printed_parts : {E : Type 0} (request : Request) (known : Option (List ℕ)) (image : Image) (old new : Option (List ℕ)) (r : Result ℕ E) → IsEnoughOf known (needed_for request.printed) image → elf_file_of image ≢ Err Relocatable →
     PrintsSome (λ line. IsOfParsed request (elf_file_of image) line) old new r → PrintsOwed request known old new r
 printed_parts request known image old new r ((bytes, left, of), (read, enough)) differs (line, prints, is) =
     (bytes, left, (line, prints, inl (inl (other_whole image bytes of read (elf_file_of image) refl differs, output_by request image bytes of read (elf_file_of image) refl enough line is))))
@@ -38,8 +38,8 @@ module _ {E : Type 0} (request : Request) (old new : Option (List ℕ)) (r : Res
   refusal_parsed : (e : ElfError) (parsed : Result File ElfError) → Err e ≡ parsed → Prints (elf_refusal (format_for request.printed) e) old new r → PrintsSome (λ line. IsOfParsed request parsed line) old new r
   refusal_parsed e parsed is prints = subst (λ (p : Result File ElfError). PrintsSome (λ line. IsOfParsed request p line) old new r) is (elf_refusal (format_for request.printed) e, prints, refl)
 
-  pub parts_found : (known : Option (List ℕ)) (image : Image) (file : File) → IsEnoughOf known (needs_symbols request.printed) image → Ok file ≡ elf_file_of image → PrintsSome (λ line. IsOfFile request file line) old new r → PrintsOwed request known old new r
+  pub parts_found : (known : Option (List ℕ)) (image : Image) (file : File) → IsEnoughOf known (needed_for request.printed) image → Ok file ≡ elf_file_of image → PrintsSome (λ line. IsOfFile request file line) old new r → PrintsOwed request known old new r
   parts_found known image file enough is printed = printed_parts request known image old new r enough (found_is_other (elf_file_of image) file is) (file_parsed file (elf_file_of image) is printed)
 
-  pub parts_refused : (known : Option (List ℕ)) (image : Image) (e : ElfError) → IsEnoughOf known (needs_symbols request.printed) image → Err e ≡ elf_file_of image → e ≢ Relocatable → Prints (elf_refusal (format_for request.printed) e) old new r → PrintsOwed request known old new r
+  pub parts_refused : (known : Option (List ℕ)) (image : Image) (e : ElfError) → IsEnoughOf known (needed_for request.printed) image → Err e ≡ elf_file_of image → e ≢ Relocatable → Prints (elf_refusal (format_for request.printed) e) old new r → PrintsOwed request known old new r
   parts_refused known image e enough is differs prints = printed_parts request known image old new r enough (refused_is_other (elf_file_of image) e is differs) (refusal_parsed e (elf_file_of image) is prints)

@@ -1,12 +1,13 @@
 -- What is right for a file is right for one of which as much is the same.
-use Rattle.std.proofs.Common.{◌≡◌, ◌⊎◌, ◌∙◌, inl, inr, ℕ, Bool, List, [], ◌∷◌, true, Option, Some, None, Result, Ok, Err, refl, ap, subst, length, ◌==◌, if◌then◌else◌}
-use Rattle.std.specs.List.{after_first, before_first, position_or_len}
+use Rattle.std.proofs.Common.{◌≡◌, ◌∙◌, ◌||◌, inl, inr, ℕ, Bool, List, [], ◌∷◌, true, false, Option, Some, None, Result, Ok, Err, refl, ap, subst, length, ◌==◌, if◌then◌else◌}
+use Rattle.std.specs.List.{after_first, before_first, list_any, position_or_len}
 use Rattle.std.specs.Borrow.{Bor}
 use Rattle.std.specs.Result.{result_transpose}
 use Rattle.cfi_elf.specs.declared.error.ElfError.{ElfError}
 use Rattle.cfi_elf.specs.ElfFiles.{File}
 use Rattle.cfi_elf.specs.FunctionNames.{functions_in, best_name, named_functions}
 use Rattle.cfi_elf.specs.Images.{Image}
+use Rattle.cfi_elf.specs.PltAddresses.{PltParts, entries_of, plt_addresses, plt_parts}
 use Rattle.cfi_elf.specs.Results.{and_then}
 use Rattle.cfi_elf.specs.SymbolAddresses.{addresses_of, symbol_addresses}
 use Rattle.cfi_elf.specs.declared.error.ElfError.TheVariants as elf
@@ -19,17 +20,25 @@ use Rattle.cfi_object.specs.declared.register_names.RegisterNames.{RegisterNames
 use Rattle.cfi_programs.specs.declared.style.Style.{Style}
 use Rattle.gimli_cfi.specs.SectionSources.{GivenSection}
 use Rattle.cfi_object.specs.CallFrames.{debug_frame_of, eh_frame_of}
-use Rattle.cfi_object.specs.Targets.{addresses_by_name, addresses_named, behind_name, is_at, is_plus, listed, moved_by, number_or_name, or_others, section_addresses, symbols_named, symbols_or_section, target_addresses, with_version_or_not, without_version}
+use Rattle.cfi_object.specs.Targets.{addresses_named, before_plt, behind_name, by_ending, ends_with_plt, entries_named, is_at, is_plus, is_there, listed, moved_by, names_entry, number_or_name, or_others, section_addresses, symbols_named, symbols_or_section, target_addresses, with_version_or_not, without_version}
 use Rattle.cfi_files.specs.declared.request.Printed.{Printed}
 use Rattle.cfi_files.specs.declared.request.Printed.TheVariants.{Row, Rows, Dump, Table}
 use Rattle.cfi_files.specs.declared.sections.SectionPrinted.{SectionPrinted}
 use Rattle.cfi_files.specs.declared.sections.SectionPrinted.TheVariants.{Compiled, Listed}
 use Rattle.cfi_programs.specs.declared.dump.printed.Printed.TheVariants.{Entries, Rows as AllRows}
-use Rattle.cfi_files.specs.FileLines.{AreEach, out_of_memory}
-use Rattle.cfi_files.specs.FileOutputs.{AreEntries, AreFdeRows, AreParts, AreRows, AreRowsAt, AreSections, IsNamed, needs_symbols, styled}
+use Rattle.cfi_files.specs.FileLines.{AreEach}
+use Rattle.cfi_files.specs.FileOutputs.{AreEntries, AreFdeRows, AreParts, AreRows, AreRowsAt, AreSections, IsNamed, needs_plt, needs_symbols, styled}
 use Rattle.cfi_files.specs.Asked.{has_several}
 use Rattle.cfi_files.specs.Found.{debug_frame_in, eh_frame_in}
 use Rattle.cfi_files.specs.RowOutputs.{AreAnswersIn, AreAnswersTo, IsAnswer, IsAnswerAt, IsAnswerTo, IsWordLine, several_lines}
+
+first_true : (a b : Bool) → a ≡ true → (a || b) ≡ true
+first_true true b is = refl
+first_true false b is = absurd (cc)
+
+second_true : (a b : Bool) → b ≡ true → (a || b) ≡ true
+second_true true b is = refl
+second_true false b is = is
 
 module _ (file : File) (image : Image) where
   -- the other file
@@ -76,29 +85,51 @@ module _ (file : File) (image : Image) where
   same_unversioned : HasSameSymbols → (name : List ℕ) → without_version file name ≡ without_version other name
   same_unversioned e name = ap (λ found. if position_or_len is_at name == length name then Ok [] else found) (same_symbol e (before_first is_at name))
 
-  same_versioned : HasSameSymbols → (name : List ℕ) → with_version_or_not file name ≡ with_version_or_not other name
+  -- ---- entries of the procedure linkage table, where a word names them
+
+  abbrev pub HasSameEntries : Type 0
+  HasSameEntries = plt_parts file ≡ plt_parts other
+
+  abbrev IfNamed : List ℕ → Type 0
+  IfNamed name = ends_with_plt name ≡ true → HasSameEntries
+
+  abbrev entries_by : List ℕ → PltParts → Result (List ℕ) ElfError
+  entries_by name parts = Ok (entries_of file name parts)
+
+  same_plt : HasSameEntries → (name : List ℕ) → plt_addresses file name ≡ plt_addresses other name
+  unfolding plt_addresses
+  same_plt e name = ap (λ (parts : Result PltParts ElfError). and_then parts (entries_by name)) e
+
+  same_entries_named : HasSameEntries → (name : List ℕ) → entries_named file name ≡ entries_named other name
+  same_entries_named e name = ap (λ found. if length name == 0 then Ok [] else found) (same_plt e name)
+
+  same_ending : HasSameSymbols → (name : List ℕ) (before : Option (List ℕ)) → (is_there before ≡ true → HasSameEntries) → by_ending file name before ≡ by_ending other name before
+  same_ending e name (Some symbol) plt = same_entries_named (plt refl) symbol
+  same_ending e name None plt = same_unversioned e name
+
+  same_versioned : HasSameSymbols → (name : List ℕ) → IfNamed name → with_version_or_not file name ≡ with_version_or_not other name
   unfolding with_version_or_not
-  same_versioned e name = λ i. and_then (same_or_section e name i) (λ found. or_others found (same_unversioned e name i))
+  same_versioned e name plt = λ i. and_then (same_or_section e name i) (λ found. or_others found (same_ending e name (before_plt name) plt i))
 
-  same_named : HasSameSymbols → (name : List ℕ) → addresses_named file name ≡ addresses_named other name
-  same_named e name = ap (λ found. if length name == 0 then Ok [] else found) (same_versioned e name)
+  same_named : HasSameSymbols → (name : List ℕ) → IfNamed name → addresses_named file name ≡ addresses_named other name
+  same_named e name plt = ap (λ found. if length name == 0 then Ok [] else found) (same_versioned e name plt)
 
-  same_behind : HasSameSymbols → (name : List ℕ) (count : Option ℕ) → behind_name file name count ≡ behind_name other name count
+  same_behind : HasSameSymbols → (name : List ℕ) (count : Option ℕ) → IfNamed name → behind_name file name count ≡ behind_name other name count
   unfolding behind_name
-  same_behind e name count = ap (λ found. and_then found (λ addresses. Ok (moved_by count addresses))) (same_named e name)
+  same_behind e name count plt = ap (λ found. and_then found (λ addresses. Ok (moved_by count addresses))) (same_named e name plt)
 
-  same_name : HasSameSymbols → (word : List ℕ) → addresses_by_name file word ≡ addresses_by_name other word
-  same_name e word = λ i.
-      if position_or_len is_plus word == length word
-      then same_named e word i
-      else same_behind e (before_first is_plus word) (number (after_first is_plus word)) i
+  -- by whether a plus sign ends the name
+  same_by_plus : HasSameSymbols → (word name : List ℕ) (count : Option ℕ) (b : Bool) → ((if b then ends_with_plt word else ends_with_plt name) ≡ true → HasSameEntries) →
+      (if b then addresses_named file word else behind_name file name count) ≡ (if b then addresses_named other word else behind_name other name count)
+  same_by_plus e word name count true plt = same_named e word plt
+  same_by_plus e word name count false plt = same_behind e name count plt
 
-  same_number : HasSameSymbols → (word : List ℕ) (found : Option ℕ) → number_or_name file word found ≡ number_or_name other word found
-  same_number e word (Some address) = refl
-  same_number e word None = same_name e word
+  same_number : HasSameSymbols → (word : List ℕ) → (names_entry word ≡ true → HasSameEntries) → (found : Option ℕ) → number_or_name file word found ≡ number_or_name other word found
+  same_number e word plt (Some address) = refl
+  same_number e word plt None = same_by_plus e word (before_first is_plus word) (number (after_first is_plus word)) (position_or_len is_plus word == length word) plt
 
-  same_targets : HasSameSymbols → (word : List ℕ) → target_addresses file word ≡ target_addresses other word
-  same_targets e word = same_number e word (number word)
+  same_targets : HasSameSymbols → (word : List ℕ) → (names_entry word ≡ true → HasSameEntries) → target_addresses file word ≡ target_addresses other word
+  same_targets e word plt = same_number e word plt (number word)
 
   -- ---- rows
 
@@ -117,11 +148,11 @@ module _ (file : File) (image : Image) where
   same_rows_at frames e style (Ok []) line are = are
   same_rows_at frames e style (Err error) line are = are
 
-  same_rows : HasSameFrames → HasSameSymbols → (style : Style) (word : Option (Bor (List ℕ))) (line : Line) → AreRows style file word line → AreRows style other word line
-  same_rows frames e style None line are = same_fde_rows frames e style None line are
-  same_rows frames e style (Some word) line (inl are) =
-      inl (subst (λ (named : Result (List ℕ) ElfError). AreRowsAt style other named line) (same_targets e word.now) (same_rows_at frames e style (target_addresses file word.now) line are))
-  same_rows frames e style (Some word) line (inr are) = inr are
+  same_rows : HasSameFrames → HasSameSymbols → (style : Style) (word : Option (Bor (List ℕ))) → (needs_plt (Rows word style.format) ≡ true → HasSameEntries) → (line : Line) → AreRows style file word line → AreRows style other word line
+  same_rows frames e style None plt line are = same_fde_rows frames e style None line are
+  same_rows frames e style (Some word) plt line (inl are) =
+      inl (subst (λ (named : Result (List ℕ) ElfError). AreRowsAt style other named line) (same_targets e word.now plt) (same_rows_at frames e style (target_addresses file word.now) line are))
+  same_rows frames e style (Some word) plt line (inr are) = inr are
 
   -- ---- rows of words
 
@@ -143,21 +174,26 @@ module _ (file : File) (image : Image) where
   same_answers frames style several word (Ok (a ∷ others)) line are = same_each frames style several word (a ∷ others) line are
   same_answers frames style several word (Err error) line is = same_word frames style several word (Err error) line is
 
-  same_word_line : HasSameFrames → HasSameSymbols → (style : Style) (several : Bool) (word : List ℕ) (line : Line) → IsWordLine style file several word line → IsWordLine style other several word line
-  same_word_line frames e style several word line (inl are) =
-      inl (subst (λ (named : Result (List ℕ) ElfError). AreAnswersIn style other several word named line) (same_targets e word)
+  same_word_line : HasSameFrames → HasSameSymbols → (style : Style) (several : Bool) (word : List ℕ) → (names_entry word ≡ true → HasSameEntries) → (line : Line) → IsWordLine style file several word line → IsWordLine style other several word line
+  same_word_line frames e style several word plt line (inl are) =
+      inl (subst (λ (named : Result (List ℕ) ElfError). AreAnswersIn style other several word named line) (same_targets e word plt)
       (same_answers frames style (several_lines several (target_addresses file word)) word (target_addresses file word) line are))
-  same_word_line frames e style several word line (inr are) = inr (same_answers frames style several word (Err elf.OutOfMemory) line are)
+  same_word_line frames e style several word plt line (inr are) = inr (same_answers frames style several word (Err elf.OutOfMemory) line are)
 
-  same_lines : HasSameFrames → HasSameSymbols → (style : Style) (several : Bool) (words : List (List ℕ)) (line : Line) → AreEach (IsWordLine style file several) words line → AreEach (IsWordLine style other several) words line
-  same_lines frames e style several [] line are = are
-  same_lines frames e style several (word ∷ words) line (first, second, is, are, whole) =
-      (first, second, same_word_line frames e style several word first is, same_lines frames e style several words second are, whole)
+  same_lines : HasSameFrames → HasSameSymbols → (style : Style) (several : Bool) (words : List (List ℕ)) → (list_any names_entry words ≡ true → HasSameEntries) → (line : Line) → AreEach (IsWordLine style file several) words line → AreEach (IsWordLine style other several) words line
+  same_lines frames e style several [] plt line are = are
+  same_lines frames e style several (word ∷ words) plt line (first, second, is, are, whole) = (
+    first,
+    second,
+    same_word_line frames e style several word (λ named. plt (first_true (names_entry word) (list_any names_entry words) named)) first is,
+    same_lines frames e style several words (λ named. plt (second_true (names_entry word) (list_any names_entry words) named)) second are,
+    whole,
+  )
 
   -- ---- all that is printed of a file
 
-  pub same_output : HasSameFrames → (names : RegisterNames) (printed : Printed) → (needs_symbols printed ≡ true → HasSameSymbols) → (line : Line) → IsNamed names printed file line → IsNamed names printed other line
-  same_output frames names (Row words format) symbols line is = same_lines frames (symbols refl) (styled names format) (has_several (texts words.now)) (texts words.now) line is
-  same_output frames names (Rows word format) symbols line is = same_rows frames (symbols refl) (styled names format) word line is
-  same_output frames names Dump symbols line is = same_entries frames (symbols refl) names line is
-  same_output frames names Table symbols line is = same_sections frames names Compiled line is
+  pub same_output : HasSameFrames → (names : RegisterNames) (printed : Printed) → (needs_symbols printed ≡ true → HasSameSymbols) → (needs_plt printed ≡ true → HasSameEntries) → (line : Line) → IsNamed names printed file line → IsNamed names printed other line
+  same_output frames names (Row words format) symbols plt line is = same_lines frames (symbols refl) (styled names format) (has_several (texts words.now)) (texts words.now) plt line is
+  same_output frames names (Rows word format) symbols plt line is = same_rows frames (symbols refl) (styled names format) word plt line is
+  same_output frames names Dump symbols plt line is = same_entries frames (symbols refl) names line is
+  same_output frames names Table symbols plt line is = same_sections frames names Compiled line is

@@ -1,7 +1,7 @@
 -- What stands before the answer to a word: the word that was given, and the address that it names.
 --     asked_text format has_several word address      before the answer: in text where there are
 --         several; in JSON always, as the beginning of an object
-use Rattle.std.specs.Prelude.{ℕ, Bool, true, false, List, [], ◌∷◌, ◌++◌, Option, Some, None, codes}
+use Rattle.std.specs.Prelude.{ℕ, Bool, true, false, List, [], ◌++◌, Option, Some, None, codes}
 use Rattle.std.specs.Prelude.{Result, Ok, Err, length, nat_lt}
 use Rattle.cfi_elf.specs.declared.error.ElfError.{ElfError}
 use Rattle.cfi_object.specs.Numbers.{number}

@@ -10,6 +10,7 @@
 use Rattle.std.specs.Prelude.{◌≡◌, ◌≢◌, ◌⊎◌, ℕ, Bool, true, false, List, [], ◌∷◌, Option, Some}
 use Rattle.std.specs.Prelude.{None, Result, Ok, Err, codes}
 use Rattle.std.specs.Borrow.{Bor}
+use Rattle.std.specs.List.{list_any}
 use Rattle.cfi_elf.specs.declared.error.ElfError.{ElfError}
 use Rattle.cfi_elf.specs.declared.function_names.FunctionNames.{FunctionNames}
 use Rattle.cfi_elf.specs.declared.error.ElfError.TheVariants.{Relocatable}
@@ -36,7 +37,8 @@ use Rattle.cfi_programs.specs.declared.style.Format.{Format}
 use Rattle.cfi_programs.specs.declared.style.Format.TheVariants.{Text}
 use Rattle.cfi_programs.specs.declared.style.Style.{Style}
 use Rattle.cfi_object.specs.MachineNames.{names_in}
-use Rattle.cfi_object.specs.Targets.{target_addresses}
+use Rattle.cfi_object.specs.Targets.{names_entry, target_addresses}
+use Rattle.cfi_object.specs.declared.parts.Needed.{Needed}
 use Rattle.cfi_object.specs.FileParts.{AreLeft}
 use Rattle.cfi_files.specs.declared.request.Request.{Request}
 use Rattle.cfi_files.specs.declared.request.Printed.{Printed}
@@ -202,6 +204,17 @@ needs_symbols (Row words format) = true
 needs_symbols (Rows word format) = true
 needs_symbols Dump = true
 needs_symbols Table = false
+
+-- whether the procedure linkage table is: words name entries of it
+abbrev pub needs_plt : Printed → Bool
+needs_plt (Row words format) = list_any names_entry (texts words.now)
+needs_plt (Rows (Some word) format) = names_entry word.now
+needs_plt (Rows None format) = false
+needs_plt Dump = false
+needs_plt Table = false
+
+abbrev pub needed_for : Printed → Needed
+needed_for printed = record { symbols = needs_symbols printed; plt = needs_plt printed }
 
 abbrev pub styled : RegisterNames → Format → Style
 styled names format = record { names = names; format = format }

@@ -1,7 +1,12 @@
 //! What is printed of a file.
 ghost use Rattle.std.specs.Prelude.{◌≡◌};
-ghost use Rattle.cfi_files.specs.FileOutputs.{format_for, needs_symbols};
+ghost use Rattle.std.specs.List.{list_any};
+ghost use Rattle.cfi_object.specs.Targets.{names_entry};
+ghost use Rattle.cfi_programs.specs.Words.{texts};
+ghost use Rattle.cfi_files.specs.FileOutputs.{format_for, needed_for, needs_plt, needs_symbols};
 
+use cfi_object::parts::Needed;
+use cfi_object::target::names_entry;
 use cfi_programs::style::Format;
 
 /// What is asked for of a file.
@@ -53,4 +58,39 @@ impl Printed<'_> {
             Printed::Table => false,
         }
     }
+
+    /// Returns whether the procedure linkage table of the file is needed: words name entries of it.
+    pub fn needs_plt(self) -> bool
+        ensures { result ≡ needs_plt self.entry }
+    {
+        match self {
+            Printed::Row(words, _) => any_names_entry(words),
+            Printed::Rows(Some(word), _) => names_entry(word),
+            Printed::Rows(None, _) => false,
+            Printed::Dump => false,
+            Printed::Table => false,
+        }
+    }
+
+    /// Returns what is needed of the file beside its call frames.
+    pub fn needed(self) -> Needed
+        ensures { result ≡ needed_for self.entry }
+    {
+        Needed {
+            symbols: self.needs_symbols(),
+            plt: self.needs_plt(),
+        }
+    }
+}
+
+/// Whether one of the words names entries of the procedure linkage table.
+fn any_names_entry(words: &[&str]) -> bool
+    ensures { result ≡ list_any names_entry (texts words.now) }
+{
+    for word in words {
+        if names_entry(word) {
+            return true;
+        }
+    }
+    false
 }

@@ -4,7 +4,7 @@ ghost use Rattle.cfi_elf.specs.Images.{image_view};
 ghost use Rattle.cfi_programs.specs.WriterOutput.{Writes, PrintsSome};
 ghost use Rattle.cfi_files.specs.FileLines.{file_label};
 ghost use Rattle.cfi_files.specs.FileOutputs.{ChecksInput, ChecksNamed, IsCheckOfParsed};
-ghost use Rattle.cfi_files.specs.FileOutputs.{IsOfFile, PrintsOwed, needs_symbols};
+ghost use Rattle.cfi_files.specs.FileOutputs.{IsOfFile, PrintsOwed, needed_for};
 ghost use Rattle.cfi_object.specs.FileParts.{IsEnoughOf};
 ghost use Rattle.cfi_files.specs.Findings.{ChecksSome};
 
@@ -20,7 +20,7 @@ use crate::table_check::check_table;
 use cfi_elf::{ElfError, ElfFile, Image};
 use cfi_object::input::{FileInput, InputError};
 use cfi_object::machine_names::names_in;
-use cfi_object::parts::{read_parts, read_whole};
+use cfi_object::parts::{Needed, read_parts, read_whole};
 use cfi_programs::lines::{write_refusal_in, write_text};
 use cfi_programs::names;
 use cfi_programs::names::write_json_name;
@@ -55,7 +55,7 @@ pub fn run_on_file<I: FileInput, W: Write>(
         (W.contents output.new) result }
 {
     let format = request.printed.format();
-    match read_parts(alloc, request.printed.needs_symbols(), input) {
+    match read_parts(alloc, request.printed.needed(), input) {
         Ok(parts) => print_image(alloc, request, parts.image(), input, output),
         Err(InputError::OutOfMemory) => write_refusal_in(output, format, Error::OutOfMemory),
         Err(_) => write_wrong_input(output, format),
@@ -70,7 +70,7 @@ fn print_image<I: FileInput, W: Write>(
     input: &mut I,
     output: &mut W,
 ) -> io::Result<u8>
-    requires { IsEnoughOf (I.bytes input.old) (needs_symbols request.printed) (image_view image) }
+    requires { IsEnoughOf (I.bytes input.old) (needed_for request.printed) (image_view image) }
     ensures { PrintsOwed request.entry (I.bytes input.old) (W.contents output.old)
         (W.contents output.new) result }
 {
@@ -185,7 +185,11 @@ fn check_input<I: FileInput, W: Write>(
     ensures { ChecksInput format (I.bytes input.old) (W.contents output.old)
         (W.contents output.new) result }
 {
-    match read_parts(alloc, false, input) {
+    let needed = Needed {
+        symbols: false,
+        plt: false,
+    };
+    match read_parts(alloc, needed, input) {
         Ok(parts) => check_image(parts.image(), format, output),
         Err(InputError::OutOfMemory) => {
             let name = Error::OutOfMemory.name();

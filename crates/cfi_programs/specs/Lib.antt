@@ -3,7 +3,6 @@ pub mod SectionOfWords
 pub mod Input
 pub mod Addresses
 pub mod ErrorWords
-pub mod Sayings
 pub mod Lines
 pub mod RowLines
 pub mod Operations

@@ -1,38 +1,18 @@
-use Rattle.std.proofs.Common.{◌≡◌, ◌∙◌, ◌++◌, [], ◌∷◌, ℕ, List, Result, Ok, ap, map, subst}
-use Rattle.cfi_programs.specs.WriterOutput.{Writes}
-use Rattle.cfi_programs.proofs.WrittenLemmas.{writes_refused}
-use Rattle.cfi.specs.Findings.{greatest_status, tally_in}
+use Rattle.std.proofs.Common.{ℕ, map}
 use Rattle.cfi.specs.Process.{disk_of}
-use Rattle.cfi.proofs.ProcessLemmas.{counted, no_status, tally_is, text_of, uncounted}
+use Rattle.cfi.specs.Targets.{target_view, tree_of}
+use Rattle.cfi.specs.Tasks.{names_view}
+use Rattle.cfi.proofs.ProcessLemmas.{checks_of, no_targets}
 use Rattle.cfi.proofs.print_checks.Goals as goal
 
-pub returns-in_err-findings : goal.returns-in_err-findings
-returns-in_err-findings g c =
-    uncounted ℕ (disk_of (g.S.System.may_open c.args.system.now) g.S.File.FileInput.bytes) c.args.style (map text_of c.args.files.now) _ _ c.in_err-findings.field-0.0 c.from_residual.result c.from_residual.ensures.0 c.in_err-findings.ensures
+pub returns-in-Some : goal.returns-in-Some
+returns-in-Some g c =
+    let disk = disk_of (g.S.System.may_open c.args.system.now) g.S.File.FileInput.bytes in
+    let tree = tree_of (g.S.System.may_be c.args.system.now) (g.S.System.may_list c.args.system.now) in
+    checks_of disk tree c.args.recursive (names_view c.args.names) c.args.style (map target_view c.in-Some.targets.items) (g.W.Write.contents c.args.output.now) _ c.print_counted.result
+    c.in-Some.ensures (rw (← c.as_slice.ensures.value) c.print_counted.ensures)
 
-pub returns-in_err-write_tally : goal.returns-in_err-write_tally
-returns-in_err-write_tally g c =
-    let contents = g.W.Write.contents in
-    let mid = contents c.check_files.new.output in
-    let new = contents c.write_tally.new.output in
-    let r = c.from_residual-in_err-write_tally.result in
-    let err = c.from_residual-in_err-write_tally.ensures.0 in
-    let tally = c.count_findings.result in
-    let counts = c.count_findings.ensures in
-    let found = c.in_ok-findings.findings in
-    let text = tally_in c.args.style.format tally.files tally.tables tally.faithful ++ 10 ∷ [] in
-    counted ℕ (disk_of (g.S.System.may_open c.args.system.now) g.S.File.FileInput.bytes) c.args.style (map text_of c.args.files.now) (contents c.args.output.now) mid new found r c.in_ok-findings.ensures
-    (subst (λ (line : List ℕ). Writes mid new r line) (tally_is c.args.style.format found.items _ _ _ _ c.as_slice.ensures.value counts.files counts.tables counts.faithful) (writes_refused mid new r text err c.in_err-write_tally.ensures))
-    (no_status r (λ status. status ≡ greatest_status found.items) err)
-
-pub returns : goal.returns
-returns g c =
-    let contents = g.W.Write.contents in
-    let mid = contents c.check_files.new.output in
-    let new = contents c.write_tally.new.output in
-    let r : Result ℕ ℕ = Ok c.greatest_status.result in
-    let counts = c.count_findings.ensures in
-    let found = c.in_ok-findings.findings in
-    counted ℕ (disk_of (g.S.System.may_open c.args.system.now) g.S.File.FileInput.bytes) c.args.style (map text_of c.args.files.now) (contents c.args.output.now) mid new found r c.in_ok-findings.ensures
-    (subst (λ (line : List ℕ). Writes mid new r line) (tally_is c.args.style.format found.items _ _ _ _ c.as_slice.ensures.value counts.files counts.tables counts.faithful) c.in_ok-write_tally.ensures)
-    (c.greatest_status.ensures ∙ ap greatest_status c.as_slice-2.ensures.value)
+pub returns-in-None : goal.returns-in-None
+returns-in-None g c =
+    no_targets ℕ (disk_of (g.S.System.may_open c.args.system.now) g.S.File.FileInput.bytes) (tree_of (g.S.System.may_be c.args.system.now) (g.S.System.may_list c.args.system.now)) c.args.recursive
+    (names_view c.args.names) c.args.style (g.W.Write.contents c.args.output.now)

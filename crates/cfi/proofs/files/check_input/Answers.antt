@@ -1,7 +1,7 @@
 use Rattle.std.proofs.Common.{◌≡◌, ℕ, true, false, List, Some, subst, rules}
 use Rattle.std.specs.Io.KnownBytes.{Appends}
 use Rattle.cfi_programs.specs.WriterOutput.{IsBeginning}
-use Rattle.cfi_files.specs.Findings.{is_faithful}
+use Rattle.cfi.specs.Findings.{is_left_out}
 use Rattle.cfi.proofs.QuietLemmas.{begun, left_out, unmade, written}
 use Rattle.cfi.proofs.files.check_input.Goals as goal
 
@@ -10,27 +10,24 @@ returns-in_err-finding g c =
     unmade c.args.style c.args.name.now (g.I.FileInput.bytes c.args.input.now) (g.W.Write.contents c.args.output.now) (Some c.new-line.result.items) (Some c.check_file-2.new.output.items) c.in_err-finding.field-0.0 c.from_residual.result c.from_residual.ensures.0
     c.in_err-finding.ensures
 
-pub returns-then-is_faithful : goal.returns-then-is_faithful
-returns-then-is_faithful g c =
-    let quiet : c.args.style.quiet ≡ true = search rules in
-    let faithful : is_faithful c.in_ok-finding.finding ≡ true = search rules in
-    left_out ℕ ℕ c.args.style c.args.name.now (g.I.FileInput.bytes c.args.input.now) (g.W.Write.contents c.args.output.now) (Some c.new-line.result.items) (Some c.check_file-2.new.output.items) c.in_ok-finding.finding quiet faithful c.in_ok-finding.ensures
+pub returns-then-is_left_out : goal.returns-then-is_left_out
+returns-then-is_left_out g c =
+    let out : is_left_out c.args.style c.in_ok-finding.finding ≡ true = search rules in
+    left_out ℕ ℕ c.args.style c.args.name.now (g.I.FileInput.bytes c.args.input.now) (g.W.Write.contents c.args.output.now) (Some c.new-line.result.items) (Some c.check_file-2.new.output.items) c.in_ok-finding.finding out c.in_ok-finding.ensures
 
 pub returns-in_err-write_text : goal.returns-in_err-write_text
 returns-in_err-write_text g c =
-    let quiet : c.args.style.quiet ≡ true = search rules in
-    let other : is_faithful c.in_ok-finding.finding ≡ false = search rules in
+    let other : is_left_out c.args.style c.in_ok-finding.finding ≡ false = search rules in
     let old = g.W.Write.contents c.args.output.now in
     let new = g.W.Write.contents c.write_text.new.output in
-    begun c.args.style c.args.name.now (g.I.FileInput.bytes c.args.input.now) old new c.new-line.result.items c.check_file-2.new.output.items c.in_ok-finding.finding c.new-line.ensures.items quiet other ℕ
+    begun c.args.style c.args.name.now (g.I.FileInput.bytes c.args.input.now) old new c.new-line.result.items c.check_file-2.new.output.items c.in_ok-finding.finding c.new-line.ensures.items other ℕ
     c.from_residual-in_err-write_text.result c.from_residual-in_err-write_text.ensures.0 c.in_ok-finding.ensures
     (subst (λ (text : List ℕ). (front : List ℕ) × Appends old new front × IsBeginning front text) c.as_slice.ensures.value c.in_err-write_text.ensures)
 
 pub returns : goal.returns
 returns g c =
-    let quiet : c.args.style.quiet ≡ true = search rules in
-    let other : is_faithful c.in_ok-finding.finding ≡ false = search rules in
+    let other : is_left_out c.args.style c.in_ok-finding.finding ≡ false = search rules in
     let old = g.W.Write.contents c.args.output.now in
     let new = g.W.Write.contents c.write_text.new.output in
-    written c.args.style c.args.name.now (g.I.FileInput.bytes c.args.input.now) old new c.new-line.result.items c.check_file-2.new.output.items c.in_ok-finding.finding c.new-line.ensures.items quiet other ℕ ℕ
+    written c.args.style c.args.name.now (g.I.FileInput.bytes c.args.input.now) old new c.new-line.result.items c.check_file-2.new.output.items c.in_ok-finding.finding c.new-line.ensures.items other ℕ ℕ
     c.in_ok-finding.ensures (subst (λ (text : List ℕ). Appends old new text) c.as_slice.ensures.value c.in_ok-write_text.ensures)

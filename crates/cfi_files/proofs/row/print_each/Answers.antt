@@ -1,4 +1,4 @@
-use Rattle.std.proofs.Common.{List, ℕ, ◌+◌, drop, subst, arith}
+use Rattle.std.proofs.Common.{List, ℕ, subst, arith}
 use Rattle.cfi_elf.specs.ElfFiles.{file_view}
 use Rattle.cfi_files.specs.RowOutputs.{IsAnswerAt}
 use Rattle.cfi_files.proofs.WordLines.{SoFar, all_given, drop_all_left, next_address, none_so_far, one_failed, one_more, some_answer_at}

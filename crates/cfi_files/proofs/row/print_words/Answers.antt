@@ -1,4 +1,4 @@
-use Rattle.std.proofs.Common.{Err, List, ℕ, ◌+◌, drop, subst, arith}
+use Rattle.std.proofs.Common.{Err, List, ℕ, subst, arith}
 use Rattle.cfi_elf.specs.ElfFiles.{file_view}
 use Rattle.cfi_programs.specs.Words.{texts}
 use Rattle.cfi_files.specs.Asked.{has_several}

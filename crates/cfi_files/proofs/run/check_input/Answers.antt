@@ -11,7 +11,7 @@ use Rattle.cfi_files.proofs.run.check_input.Goals as goal
 
 pub returns-in-Ok : goal.returns-in-Ok
 returns-in-Ok g c =
-    checked_parts c.args.format (g.I.FileInput.bytes c.args.input.now) (image_of c.in-Ok.parts) (g.W.Write.contents c.args.output.now) _ c.check_image.result
+    checked_parts c.args.format (g.I.FileInput.bytes c.args.input.now) (image_of c.in-Ok.parts) (g.W.Write.contents c.args.output.now) _ c.check_image.result _
     c.in-Ok.ensures.read (rw c.image.ensures at c.check_image.ensures)
 
 pub returns-in-Err-OutOfMemory : goal.returns-in-Err-OutOfMemory

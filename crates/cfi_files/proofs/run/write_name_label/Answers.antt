@@ -1,4 +1,4 @@
-use Rattle.std.proofs.Common.{◌++◌, codes}
+use Rattle.std.proofs.Common.{codes}
 use Rattle.cfi_names.specs.Names.{shown}
 use Rattle.cfi_programs.proofs.DumpSectionWritten.{first_refused, last_written}
 use Rattle.cfi_files.proofs.run.write_name_label.Goals as goal
