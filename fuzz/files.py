@@ -111,7 +111,7 @@ def main():
     parser.add_argument("--runs", type=int, default=10000)
     parser.add_argument("--seed", type=int, default=1)
     parser.add_argument("--jobs", type=int, default=max(1, (os.cpu_count() or 2) // 2))
-    asked = parser.parse_args()
+    asked = parser.parse_intermixed_args()
     names = [*sorted((TOP / "crates/cfi/data").iterdir()), Path("/bin/true"), *map(Path, asked.files)]
     seeds = [(kind_of(name, data), data) for name in names if name.is_file() for data in [name.read_bytes()] if data]
     seeds.append(("folded", FOLDED))

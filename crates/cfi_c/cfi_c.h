@@ -242,7 +242,7 @@ typedef struct {
 /* Why there are no more frames. Behind each kind is what CfiEnd.refused holds, else it is 0. From 4 on the last frame has no
  * caller that can be found. */
 typedef enum {
-    CFI_END_OUTERMOST = 0,   /* the last frame is the outermost one: its return address is undefined */
+    CFI_END_OUTERMOST = 0,   /* the last frame is the outermost one: its return address is undefined, or 0 */
     CFI_END_NO_MODULE = 1,   /* its pc is in the code of no module */
     CFI_END_NOT_RISING = 2,  /* its CFA isn't above that of the frame it called: a corrupt stack */
     CFI_END_NO_ROOM = 3,     /* there is no room for another frame */

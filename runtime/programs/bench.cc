@@ -2,8 +2,11 @@
 //
 // CHAIN says what the frames are of: functions (each frame another function), libraries (the frames go round all LIBRARIES) or
 // backtrace (_Unwind_Backtrace over frames of functions). LIBRARIES m0.so, m1.so .. of the working folder are loaded. DEPTHS are
-// numbers of frames, with commas between them. For each, the least mean of some rounds, in nanoseconds: of the thread's own time
-// if there is one thread, else of the clock.
+// numbers of frames, with commas between them. Prints for each the least mean of some rounds, in nanoseconds: of the thread's own
+// time if there is one thread, else of the clock.
+//
+// Two more chains take a throw over the first of DEPTHS alone. first: the nanoseconds and the page faults of the process's first.
+// stack: how many bytes of the stack the first takes, and how many another.
 #include <algorithm>
 #include <atomic>
 #include <dlfcn.h>
@@ -11,6 +14,7 @@
 #include <stdlib.h>
 #include <string.h>
 #include <string>
+#include <sys/resource.h>
 #include <thread>
 #include <time.h>
 #include <unwind.h>
@@ -98,9 +102,49 @@ static double mean_in_threads(int frames, int rounds, int threads) {
     return sum / threads;
 }
 
+static int print_first(int frames) {
+    struct rusage before, after;
+    getrusage(RUSAGE_THREAD, &before);
+    double took = mean_of(frames, 1);
+    getrusage(RUSAGE_THREAD, &after);
+    printf("first: %.0f faults: %ld\n", took, after.ru_minflt - before.ru_minflt);
+    return 0;
+}
+
+enum { PAINTED = 1 << 16 };
+static unsigned char *paint; // where it begins, and the stack ends for now
+
+static NOINLINE void paint_stack() {
+    unsigned char room[PAINTED];
+    paint = room;
+    memset(room, 0xa5, sizeof room);
+    __asm__ volatile("" : : "r"(room) : "memory");
+}
+
+static NOINLINE int not_painted() {
+    int at = 0;
+    while (at < PAINTED && paint[at] == 0xa5)
+        at++;
+    return PAINTED - at;
+}
+
+static int print_stack(int frames) {
+    for (const char *name : {"first", "another"}) {
+        paint_stack();
+        mean_of(frames, 1);
+        printf("%s: %d ", name, not_painted());
+    }
+    puts("");
+    return 0;
+}
+
 int main(int count, char **arguments) {
     if (count < 5)
         return 2;
+    if (!strcmp(arguments[1], "first"))
+        return print_first(atoi(arguments[2]));
+    if (!strcmp(arguments[1], "stack"))
+        return print_stack(atoi(arguments[2]));
     int threads = atoi(arguments[3]);
     if (threads > 1)
         used_clock = CLOCK_MONOTONIC;
@@ -115,16 +159,12 @@ int main(int count, char **arguments) {
     if (!strcmp(arguments[1], "libraries"))
         chain = through_libraries;
     traces = !strcmp(arguments[1], "backtrace");
-    double first = now();
-    mean_of(10, 1);
-    first = now() - first;
-    printf("first %.0f", first);
     for (char *depth = strtok(arguments[2], ","); depth; depth = strtok(nullptr, ",")) {
         int frames = atoi(depth), rounds = 5 + 20000 / (frames + 20);
         double best = 1e18;
         for (int round = 0; round < 5; round++)
             best = std::min(best, threads == 1 ? mean_of(frames, rounds) : mean_in_threads(frames, rounds, threads));
-        printf("  %d: %.0f", frames, best);
+        printf("%d: %.0f ", frames, best);
     }
     printf("\n");
 }

@@ -10,7 +10,7 @@ EXPORT const void *_Unwind_Find_FDE(void *pc, struct dwarf_eh_bases *bases);
 const void *_Unwind_Find_FDE(void *pc, struct dwarf_eh_bases *bases) {
     CfiModule module;
     CfiFunction function;
-    if (!find_function((uint64_t)pc, &module, &function))
+    if (!find_function(begin_call(), (uint64_t)pc, &module, &function))
         return NULL;
     bases->text = (void *)module.bases.text;
     bases->data = (void *)module.bases.data_base;

@@ -2,8 +2,10 @@
  *
  * A library may be closed, and another be loaded in its place. So each module is found anew in each call that meets it, and
  * has another number than before unless it lies at the same addresses with the same build id. Within a call it isn't looked for
- * again: it has a frame on the stack. A number is never taken twice. */
+ * again: it has a frame on the stack. A number is never taken twice. The program and the C library stay. */
+#include <stdlib.h>
 #include <string.h>
+#include <sys/auxv.h>
 
 #include "unwinder.h"
 
@@ -22,6 +24,15 @@ void forget_modules(struct known_modules *known) {
 void forget_calls(struct known_modules *known) {
     for (unsigned i = 0; i < known->count; i++)
         known->all[i].call = 0;
+}
+
+static CfiRange range_of(const CfiModule *module) {
+    return (CfiRange){module->start, module->end};
+}
+
+/* The program is never unloaded, nor is the C library, which this one is bound to. */
+static bool stays(const CfiModule *module) {
+    return is_in(range_of(module), getauxval(AT_PHDR)) || is_in(range_of(module), (uint64_t)abort);
 }
 
 static bool is_same(const struct loaded *one, const struct loaded *other) {
@@ -55,6 +66,7 @@ static struct known_module *look_for(struct known_modules *known, uint64_t call,
     if (!module->file || !is_same(&module->loaded, &loaded)) {
         module->loaded = loaded;
         module->file = ++known->files;
+        module->stays = stays(&loaded.module);
     }
     module->call = call;
     return module;
@@ -64,7 +76,8 @@ static struct known_module *look_for(struct known_modules *known, uint64_t call,
 static uint16_t by_page(const struct known_modules *known, unsigned place, uint64_t address) {
     for (unsigned way = 0; way < WAYS; way++) {
         uint16_t index = known->by_page[place + way];
-        if (index && is_in(&known->all[index - 1].loaded.module, address))
+        const CfiModule *module = &known->all[index - 1].loaded.module;
+        if (index && is_in(range_of(module), address))
             return index;
     }
     return 0;
@@ -82,7 +95,7 @@ const struct known_module *find_known(struct known_modules *known, uint64_t call
     unsigned place = place_of(address) & -(unsigned)WAYS;
     uint16_t index = by_page(known, place, address);
     struct known_module *module = index ? &known->all[index - 1] : NULL;
-    if (module && (module->call == call || is_still(&module->loaded, address))) {
+    if (module && (module->call == call || module->stays || is_still(&module->loaded, address))) {
         module->call = call;
         return module;
     }

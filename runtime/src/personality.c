@@ -4,22 +4,22 @@
 
 /* Whether a word is there, as far as can be told: in the module, if the frame's code is loaded. */
 static bool has_word(const struct walk *walk, uint64_t address) {
-    return !walk->is_loaded || (is_in(&walk->module, address) && is_in(&walk->module, address + sizeof address - 1));
+    return !walk->is_loaded || (is_in(walk->module, address) && is_in(walk->module, address + sizeof address - 1));
 }
 
 /* Whether a function with unwind information begins at the address. */
-static bool is_function(uint64_t address) {
+static bool is_function(const struct walk *walk, uint64_t address) {
     CfiModule module;
     CfiFunction function;
-    return find_function(address, &module, &function) && function.start == address;
+    return find_function(walk->call, address, &module, &function) && function.start == address;
 }
 
 /* The same for a personality: each frame of a throw has one, mostly the same. */
-static bool is_personality(_Unwind_Personality_Fn personality) {
+static bool is_personality(const struct walk *walk, _Unwind_Personality_Fn personality) {
     const struct workspace *first = own_workspaces[0];
     if (first && first->personality == personality)
         return true;
-    if (!is_function((uint64_t)personality))
+    if (!is_function(walk, (uint64_t)personality))
         return false;
     struct workspace *workspace = take_workspace();
     if (workspace) {
@@ -38,7 +38,7 @@ static bool find_lsda(struct walk *walk) {
             return false;
         lsda = *(const uint64_t *)lsda;
     }
-    walk->frame->lsda = lsda;
+    walk->frame.lsda = lsda;
     return !lsda || has_word(walk, lsda);
 }
 
@@ -53,18 +53,19 @@ _Unwind_Reason_Code call_personality_of(struct walk *walk, _Unwind_Action action
         address = *(const uint64_t *)address;
     }
     _Unwind_Personality_Fn personality = (_Unwind_Personality_Fn)address;
-    if (!address || !find_lsda(walk) || !is_personality(personality))
+    if (!address || !find_lsda(walk) || !is_personality(walk, personality))
         return _URC_FATAL_PHASE1_ERROR;
-    return personality(1, actions, exception->exception_class, exception, walk->frame);
+    return personality(1, actions, exception->exception_class, exception, &walk->frame);
 }
 
 bool may_land(const struct walk *walk) {
     const CfiFunction *facts = &walk->facts;
-    uint64_t pc = walk->frame->pc;
+    uint64_t pc = walk->frame.pc;
     if (pc - facts->start < facts->end - facts->start)
         return true;
     if (!walk->is_loaded)
         return find_registered_function(pc, &(CfiModule){0}, &(CfiFunction){0});
+    CfiModule module;
     CfiFunction part; /* of a function that the compiler split into a hot and a cold part */
-    return is_in(&walk->module, pc) && function_in(&walk->module, pc, &part) && part.has_lsda;
+    return is_in(walk->module, pc) && find_function(walk->call, pc, &module, &part) && part.has_lsda;
 }

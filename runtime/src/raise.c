@@ -6,9 +6,9 @@
 #include "unwinder.h"
 
 /* These are called from assembly alone. */
-HIDDEN _Unwind_Reason_Code raise_exception(struct _Unwind_Exception *exception, const struct entry *entry);
+HIDDEN _Unwind_Reason_Code raise_exception(struct _Unwind_Exception *exception, struct entry *entry);
 HIDDEN void resume(struct _Unwind_Exception *exception, const struct entry *entry);
-HIDDEN _Unwind_Reason_Code resume_or_rethrow(struct _Unwind_Exception *exception, const struct entry *entry);
+HIDDEN _Unwind_Reason_Code resume_or_rethrow(struct _Unwind_Exception *exception, struct entry *entry);
 HIDDEN _Unwind_Reason_Code forced_unwind(struct _Unwind_Exception *exception, _Unwind_Stop_Fn stop, void *argument,
                                          const struct entry *entry);
 HIDDEN _Unwind_Reason_Code backtrace(_Unwind_Trace_Fn trace, void *argument, const struct entry *entry);
@@ -16,25 +16,25 @@ HIDDEN _Unwind_Reason_Code backtrace(_Unwind_Trace_Fn trace, void *argument, con
 /* What tells a frame from all others of the stack; GCC's unwinder computes the same. The stack pointer alone is that of a
  * signal's trampoline too. */
 static uint64_t identity(const struct walk *walk) {
-    return walk->frame->cfa - walk->frame->is_interrupted;
+    return walk->frame.cfa - walk->frame.is_interrupted;
 }
 
 /* Enters the landing pad that a personality chose, so many calls above the entry. */
 _Noreturn static void install(const struct walk *walk, const struct entry *entry, uint64_t calls) {
     static const uint8_t loaded[LOADED] = LOADED_REGISTERS;
-    const struct _Unwind_Context *frame = walk->frame;
+    const struct _Unwind_Context *frame = &walk->frame;
     struct landing landing = {.pc = frame->pc, .shadow_stack = entry->shadow_stack + 8 * (calls + 1)};
     if (!may_land(walk))
         abort();
     for (int i = 0; i < LOADED; i++)
-        landing.registers[i] = frame->registers[loaded[i]].value + (loaded[i] == STACK_POINTER ? frame->args_size : 0);
+        landing.registers[i] = frame->value[loaded[i]] + (loaded[i] == STACK_POINTER ? frame->args_size : 0);
     land(&landing);
 }
 
 /* Where phase 2 begins: at the first frame that has a personality, so many calls above the entry, since those below have nothing
  * that is to be asked; or at the entry itself. */
 struct start {
-    struct entry frame;
+    struct entry *frame; /* of the entry, and then of that */
     uint64_t calls;
     bool is_decided;
 };
@@ -42,18 +42,13 @@ struct start {
 /* Has phase 2 begin at the frame, if it has no other registers than an entry has. */
 static void begin_at(struct start *start, const struct walk *walk, uint64_t calls) {
     static const uint8_t saved[SAVED] = SAVED_REGISTERS;
-    const struct _Unwind_Context *frame = walk->frame;
-    bool is_saved[REGISTERS] = {[RETURN_ADDRESS] = true}, is_entry = !frame->is_interrupted;
-    for (int i = 0; i < SAVED; i++)
-        is_saved[saved[i]] = true;
-    for (int k = 0; k < REGISTERS; k++)
-        is_entry &= k == RETURN_ADDRESS || frame->registers[k].known == is_saved[k];
+    const struct _Unwind_Context *frame = &walk->frame;
     start->is_decided = true;
-    if (!is_entry)
+    if (!walk->is_plain || frame->is_interrupted)
         return;
     for (int i = 0; i < SAVED; i++)
-        start->frame.registers[i] = frame->registers[saved[i]].value;
-    start->frame.pc = frame->pc;
+        start->frame->registers[i] = frame->value[saved[i]];
+    start->frame->pc = frame->pc;
     start->calls = calls;
 }
 
@@ -102,7 +97,7 @@ static _Unwind_Reason_Code clean_up_forced(struct _Unwind_Exception *exception, 
         if (found == CORRUPT)
             return _URC_FATAL_PHASE2_ERROR;
         _Unwind_Action actions = _UA_FORCE_UNWIND | _UA_CLEANUP_PHASE | (found == AT_END ? _UA_END_OF_STACK : 0);
-        if (stop(1, actions, exception->exception_class, exception, walk->frame, argument) != _URC_NO_REASON)
+        if (stop(1, actions, exception->exception_class, exception, &walk->frame, argument) != _URC_NO_REASON)
             return _URC_FATAL_PHASE2_ERROR;
         if (found == AT_END)
             return _URC_END_OF_STACK;
@@ -115,16 +110,16 @@ static _Unwind_Reason_Code clean_up_forced(struct _Unwind_Exception *exception, 
     }
 }
 
-_Unwind_Reason_Code raise_exception(struct _Unwind_Exception *exception, const struct entry *entry) {
+_Unwind_Reason_Code raise_exception(struct _Unwind_Exception *exception, struct entry *entry) {
     struct walk walk;
-    struct start start = {.frame = *entry, .calls = 0, .is_decided = false};
+    struct start start = {.frame = entry, .calls = 0, .is_decided = false};
     begin_walk(&walk, entry);
     _Unwind_Reason_Code code = search(exception, &walk, &start);
     if (code != _URC_HANDLER_FOUND)
         return code;
     exception->private_1 = 0;
     exception->private_2 = identity(&walk);
-    first_frame(&walk, &start.frame);
+    first_frame(&walk, entry);
     code = clean_up(exception, &walk, &start.calls);
     if (code != _URC_INSTALL_CONTEXT)
         return code;
@@ -143,7 +138,7 @@ void resume(struct _Unwind_Exception *exception, const struct entry *entry) {
     install(&walk, entry, calls);
 }
 
-_Unwind_Reason_Code resume_or_rethrow(struct _Unwind_Exception *exception, const struct entry *entry) {
+_Unwind_Reason_Code resume_or_rethrow(struct _Unwind_Exception *exception, struct entry *entry) {
     if (!exception->private_1)
         return raise_exception(exception, entry);
     resume(exception, entry);
@@ -169,7 +164,7 @@ _Unwind_Reason_Code backtrace(_Unwind_Trace_Fn trace, void *argument, const stru
     begin_walk(&walk, entry);
     for (;;) {
         enum found found = find_caller(&walk);
-        if (found == CORRUPT || trace(walk.frame, argument) != _URC_NO_REASON)
+        if (found == CORRUPT || trace(&walk.frame, argument) != _URC_NO_REASON)
             return _URC_FATAL_PHASE1_ERROR;
         if (found == AT_END)
             return _URC_END_OF_STACK;

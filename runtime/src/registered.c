@@ -93,7 +93,7 @@ bool find_registered_function(uint64_t address, CfiModule *module, CfiFunction *
     atomic_fetch_add(&readers, 1);
     for (struct section *each = atomic_load(&sections); each && !is_found; each = each->next) {
         *module = each->module;
-        is_found = function_in(module, address, function);
+        is_found = function_in(module, each->file, address, function);
     }
     atomic_fetch_sub(&readers, 1);
     return is_found;

@@ -53,11 +53,12 @@ static uint64_t read_interrupted(uint64_t stack_pointer, CfiValue *registers) {
 #endif
 
 bool step_from_trampoline(struct walk *walk) {
-    uint64_t at = walk->frame->pc;
+    uint64_t at = walk->frame.pc;
     if (!may_be_code(at) || memcmp((const void *)at, CODE, sizeof CODE) != 0)
         return false;
-    uint64_t pc = read_interrupted(walk->frame->cfa, walk->up->registers);
+    uint64_t pc = read_interrupted(walk->frame.cfa, walk->registers);
     walk->facts = (CfiFunction){.start = at, .is_signal_trampoline = true};
     walk->caller = (CfiCaller){.pc = pc, .is_interrupted = true};
+    walk->is_caller_plain = false;
     return true;
 }

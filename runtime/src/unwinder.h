@@ -32,24 +32,25 @@ struct _Unwind_Context {
     uint64_t pc, lsda, text_base, data_base, function;
     uint64_t flags, version, args_size;
     uint8_t by_value[GCC_REGISTERS];
-    /* from here on this unwinder's own */
-    bool is_interrupted; /* the pc is looked up as it is */
-    CfiValue registers[REGISTERS];
+    bool is_interrupted; /* this unwinder's own: the pc is looked up as it is */
 };
 
 /* Bits of flags: a signal interrupted the frame, and by_value is there. */
 #define INTERRUPTED ((uint64_t)1 << 63)
 #define EXTENDED ((uint64_t)1 << 62)
 
-/* The way from an entry up the stack: a frame, and its caller once that is found. The two take turns. */
+/* The way from an entry up the stack: a frame, and its caller once that is found. A plain frame has the registers that an entry
+ * saves and no others, beside the return address, so that the values in its context are all of it. */
 struct walk {
-    struct _Unwind_Context frames[2];
-    struct _Unwind_Context *frame, *up;
-    uint64_t call;      /* the number of the entry's call in its thread */
-    bool is_loaded;     /* module is a loaded one, that was found in this call */
-    uint64_t file;      /* the number of its file */
-    CfiModule module;   /* the last that had a pc */
-    CfiFunction facts;  /* what the FDE of the frame's pc says */
+    struct _Unwind_Context frame;
+    CfiValue registers[REGISTERS]; /* the frame's; once its caller is found, the caller's */
+    bool is_plain, is_caller_plain;
+    bool is_loaded;    /* the last module that had a pc is a loaded one, that was found in this call */
+    CfiRange module;   /* where it is; else empty */
+    uint64_t file;     /* the number of its file */
+    uint64_t call;     /* the number of the entry's call in its thread */
+    struct workspace *own; /* the thread's first, once it was taken in this call, else NULL */
+    CfiFunction facts; /* what the FDE of the frame's pc says */
     CfiCaller caller;
 };
 
@@ -65,21 +66,41 @@ HIDDEN void first_frame(struct walk *walk, const struct entry *entry);
  * is 0. CORRUPT where the unwind information or the stack is. */
 HIDDEN enum found find_caller(struct walk *walk);
 
-/* Goes on to the caller that was found. */
-static inline void go_up(struct walk *walk) {
-    struct _Unwind_Context *frame = walk->up;
-    walk->up = walk->frame;
-    walk->frame = frame;
-    frame->pc = walk->caller.pc;
-    frame->is_interrupted = walk->caller.is_interrupted;
-    frame->cfa = frame->registers[STACK_POINTER].value;
-    frame->flags = EXTENDED | (frame->is_interrupted ? INTERRUPTED : 0);
+/* Has the context of a frame that isn't plain show all registers. */
+HIDDEN void show_all(struct walk *walk);
+
+/* Goes on to the caller that was found.
+ *
+ * A call overwrites the return address's register, so a row without a rule for it doesn't give the frame itself once more. On
+ * x86-64 it stands for the pc, which rows of procedure linkage tables read: their frames are interrupted ones. */
+static inline __attribute__((always_inline)) void go_up(struct walk *walk) {
+    static const uint8_t saved[SAVED] = SAVED_REGISTERS;
+    struct _Unwind_Context *frame = &walk->frame;
+    CfiValue *return_address = &walk->registers[RETURN_ADDRESS];
+    bool is_interrupted = walk->caller.is_interrupted;
+    uint64_t pc = walk->caller.pc;
+    frame->pc = pc;
+    frame->is_interrupted = is_interrupted;
+    frame->flags = EXTENDED | (uint64_t)is_interrupted << 63;
+    frame->cfa = walk->registers[STACK_POINTER].value;
+    return_address->known = is_interrupted;
+    if (!IS_AARCH64)
+        frame->value[RETURN_ADDRESS] = return_address->value = pc;
+#pragma GCC unroll 32
+    for (int i = 0; i < SAVED; i++)
+        frame->value[saved[i]] = walk->registers[saved[i]].value;
+    walk->is_plain = walk->is_caller_plain;
+    if (!walk->is_plain)
+        show_all(walk);
 }
 
-/* What the FDE of an address says, and the module with it: whether there is one. */
-HIDDEN bool find_function(uint64_t address, CfiModule *module, CfiFunction *function);
+/* What the FDE of an address says, and the module with it: whether there is one. For the call of that number of the thread. */
+HIDDEN bool find_function(uint64_t call, uint64_t address, CfiModule *module, CfiFunction *function);
 
-/* Steps in a module of that file; by registered.c for its sections too. */
+/* The number of another call. */
+HIDDEN uint64_t begin_call(void);
+
+/* Steps in a section that was registered (registered.c). */
 HIDDEN enum found step_in(struct walk *walk, const CfiModule *module, uint64_t file);
 
 /* ---- where sections lie (module.c, registered.c) */
@@ -109,9 +130,9 @@ HIDDEN bool find_module(uint64_t address, CfiModule *module);
 /* Whether the address is in a segment of code of a loaded module. Takes the loader's lock. */
 HIDDEN bool is_readable_code(uint64_t address);
 
-/* Whether the loaded module has the address. */
-static inline bool is_in(const CfiModule *module, uint64_t address) {
-    return address - module->start < module->end - module->start;
+/* Whether the address is one of these. */
+static inline bool is_in(CfiRange range, uint64_t address) {
+    return address - range.start < range.end - range.start;
 }
 
 /* The caller of a frame by the sections that were registered at run time. */
@@ -120,8 +141,8 @@ HIDDEN enum found step_in_registered(struct walk *walk);
 /* As find_function, in these sections. */
 HIDDEN bool find_registered_function(uint64_t address, CfiModule *module, CfiFunction *function);
 
-/* What the FDE of an address of the module says. */
-HIDDEN bool function_in(const CfiModule *module, uint64_t address, CfiFunction *function);
+/* What the FDE of an address of the module says, whose file has this number. */
+HIDDEN bool function_in(const CfiModule *module, uint64_t file, uint64_t address, CfiFunction *function);
 
 /* A signal's trampoline that has no unwind information (trampoline.c): its caller is what was interrupted. */
 HIDDEN bool step_from_trampoline(struct walk *walk);
@@ -135,6 +156,7 @@ struct known_module {
     struct loaded loaded;
     uint64_t file;
     uint64_t call; /* in which it was last found to be the one that is loaded */
+    bool stays;    /* it is never unloaded */
 };
 
 /* Empty where all is 0. */
@@ -146,7 +168,7 @@ struct known_modules {
     struct known_module all[KNOWN_MODULES];
 };
 
-/* The loaded module of an address. Each is compared once a call with what is loaded. */
+/* The loaded module of an address. Each is compared once a call with what is loaded, but for those that stay. */
 HIDDEN const struct known_module *find_known(struct known_modules *known, uint64_t call, uint64_t address);
 
 /* Forgets all, but which numbers are taken. */
@@ -165,11 +187,15 @@ struct windows {
     unsigned count, next;
 };
 
-/* What a frame may read: the windows, but nothing below its stack pointer in its own stack, which is the first of them. */
+/* What a frame may read: the windows, but nothing below its stack pointer in its own stack, which is the first of them. All 0:
+ * nothing. */
 struct view {
     CfiWindow list[WINDOWS];
-    size_t count;
+    CfiMemory memory; /* they, and what the ABI says */
 };
+
+/* The windows, and what the ABI says. */
+HIDDEN CfiMemory memory_of(const CfiWindow *windows, size_t count);
 
 /* The view of a frame with this stack pointer. */
 HIDDEN void view_from(const struct windows *known, uint64_t stack_pointer, struct view *view);
@@ -177,13 +203,17 @@ HIDDEN void view_from(const struct windows *known, uint64_t stack_pointer, struc
 /* Whether all pages from start to end are mapped. */
 HIDDEN bool is_mapped(uint64_t start, uint64_t end);
 
-/* Whether the memory at the address is known to be mapped. */
-HIDDEN bool is_known(const struct windows *known, uint64_t address);
-
 /* Makes the memory at the address and around it known, if it is mapped and was not known. */
 HIDDEN bool add_window(struct windows *known, uint64_t address);
 
 /* ---- what a thread needs for a step (workspace.c) */
+
+/* Memory, from the first byte that is free to its end. */
+struct room {
+    char *free, *end;
+};
+
+enum { ROOMS = 2 };
 
 struct workspace {
     CfiContext context;
@@ -192,9 +222,8 @@ struct workspace {
     struct view view; /* of the frame that was stepped from last */
     bool is_busy;
     _Unwind_Personality_Fn personality; /* the last that was found to be a function */
-    char *free, *end;                   /* memory for the library */
-    char *rows;                         /* that of the cache */
-    unsigned first_steps;               /* after so many steps the cache is made larger; never if 0 */
+    struct room rooms[ROOMS];           /* memory for the library: the first that has enough of it */
+    unsigned first_rows;                /* once so many rows were looked for the cache is made larger; never if 0 */
     struct known_modules *modules;
 };
 
@@ -203,6 +232,9 @@ enum { NESTED = 4 /* a throw, and handlers of signals that interrupt each other 
 /* Those of this thread, as far as they are made. */
 extern HIDDEN LOCAL struct workspace *own_workspaces[NESTED];
 
+/* Makes the view of a frame with this stack pointer, and its stack known. */
+HIDDEN void look_anew(struct workspace *workspace, uint64_t stack_pointer);
+
 /* Makes the cache as large as it gets, without a row. */
 HIDDEN void enlarge_cache(struct workspace *workspace);
 
@@ -210,19 +242,28 @@ HIDDEN void enlarge_cache(struct workspace *workspace);
 HIDDEN struct workspace *take_other_workspace(void);
 HIDDEN void give_other_back(const struct workspace *workspace);
 
+/* For one of this thread that isn't busy, but not the reserve. */
+static inline void hold_workspace(struct workspace *workspace) {
+    workspace->is_busy = true;
+    atomic_signal_fence(memory_order_seq_cst);
+}
+
+static inline void let_workspace_go(struct workspace *workspace) {
+    atomic_signal_fence(memory_order_seq_cst);
+    workspace->is_busy = false;
+}
+
 /* Takes a workspace of this thread; NULL where there is none. Each is given back before a call of what isn't the library's. */
 static inline struct workspace *take_workspace(void) {
     struct workspace *workspace = own_workspaces[0];
     if (!workspace || workspace->is_busy)
         return take_other_workspace();
-    workspace->is_busy = true;
-    atomic_signal_fence(memory_order_seq_cst);
+    hold_workspace(workspace);
     return workspace;
 }
 
 static inline void give_workspace(struct workspace *workspace) {
-    atomic_signal_fence(memory_order_seq_cst);
-    workspace->is_busy = false;
+    let_workspace_go(workspace);
     if (workspace != own_workspaces[0])
         give_other_back(workspace);
 }

@@ -12,13 +12,23 @@
 
 extern void *__libc_stack_end __attribute__((weak));
 
-enum { PART = 1 << 16, GAP = 1 << 24, WORD = 8 };
+enum {
+    PART = 1 << 16,
+    GAP = 1 << 24,
+    WORD = 8,
+    ITERATIONS = 10000 /* how many operations an expression may do */
+};
 
 /* The most that a stack has. Nothing is mapped so near below the first thread's. */
 static const uint64_t FIRST_STACK = (uint64_t)1 << 27, OTHER_STACK = (uint64_t)1 << 30;
 
 static uint64_t page_of(uint64_t address) {
     return address & -(uint64_t)PAGE;
+}
+
+/* That of the stack that is used here: there is nothing to ask. */
+static uint64_t own_page(void) {
+    return page_of((uint64_t)__builtin_frame_address(0));
 }
 
 static uint64_t end_of(const CfiWindow *window) {
@@ -32,6 +42,8 @@ static CfiWindow window_of(uint64_t start, uint64_t end) {
 /* Of the advices this is the one that changes nothing. */
 bool is_mapped(uint64_t start, uint64_t end) {
     int was = errno;
+    if (start == own_page() && end == start + PAGE)
+        return true;
     bool is = madvise((void *)start, end - start, MADV_NORMAL) == 0;
     errno = was;
     return is;
@@ -52,9 +64,18 @@ static uint64_t mapped_from(uint64_t page) {
     return end;
 }
 
+CfiMemory memory_of(const CfiWindow *windows, size_t count) {
+    return (CfiMemory){.windows = windows,
+                       .windows_len = count,
+                       .signature_mask = SIGNATURE,
+                       .max_iterations = ITERATIONS,
+                       .stack_pointer = STACK_POINTER,
+                       .address_size = 8};
+}
+
 void view_from(const struct windows *known, uint64_t stack_pointer, struct view *view) {
     uint64_t lowest = stack_pointer - BELOW;
-    view->count = known->count;
+    view->memory = memory_of(view->list, known->count);
     for (unsigned i = 0; i < known->count; i++) {
         const CfiWindow *window = &known->list[i];
         view->list[i] = *window;
@@ -82,7 +103,7 @@ static CfiWindow merged(struct windows *known, uint64_t start, uint64_t end) {
 }
 
 /* Where the unknown memory begins that is made known for the address: at the end of the window before it, if all between is
- * mapped, or a page before it, since a frame's registers are saved below its return address. */
+ * mapped, or a page before it, since a frame's registers are saved below its return address, though none below this one. */
 static uint64_t start_before(const struct windows *known, uint64_t address) {
     uint64_t page = page_of(address);
     for (unsigned i = 0; i < known->count; i++) {
@@ -90,10 +111,11 @@ static uint64_t start_before(const struct windows *known, uint64_t address) {
         if (end <= page && page - end < GAP && is_mapped(end, page + PAGE))
             return end;
     }
-    return is_mapped(page - PAGE, page) ? page - PAGE : page;
+    return page != own_page() && is_mapped(page - PAGE, page) ? page - PAGE : page;
 }
 
-bool is_known(const struct windows *known, uint64_t address) {
+/* Whether the memory at the address is known to be mapped. */
+static bool is_known(const struct windows *known, uint64_t address) {
     for (unsigned i = 0; i < known->count; i++)
         if (address - known->list[i].base < known->list[i].len)
             return true;
@@ -114,4 +136,11 @@ bool add_window(struct windows *known, uint64_t address) {
     unsigned at = known->count < WINDOWS ? known->count++ : known->next++ % WINDOWS;
     known->list[at] = window;
     return true;
+}
+
+void look_anew(struct workspace *workspace, uint64_t stack_pointer) {
+    struct windows *known = &workspace->windows;
+    if (!is_known(known, stack_pointer - BELOW) && !add_window(known, stack_pointer - BELOW))
+        add_window(known, stack_pointer);
+    view_from(known, stack_pointer, &workspace->view);
 }

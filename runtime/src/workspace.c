@@ -1,6 +1,6 @@
-/* What a thread needs to step: a context of the library, a cache of rows, and the modules that it knows. It is mapped at the
- * thread's first throw, and given back at its end. A signal handler that interrupts a throw takes another one. If there is no
- * memory, all threads share one that the library holds in reserve. */
+/* What a thread needs to step: a context of the library, a cache of rows, and the modules that it knows. The first thread that
+ * throws has it in the library; for others it is mapped at their first throws. It is given back at the thread's end. A signal
+ * handler that interrupts a throw takes another one. If there is no memory, all threads share one that is held in reserve. */
 #include <errno.h>
 #include <pthread.h>
 #include <sched.h>
@@ -9,24 +9,27 @@
 #include "unwinder.h"
 
 enum {
-    LINE = 64,           /* of the processor's cache: a row takes one */
-    SETS = 325,          /* of four rows: so that 128 kB of all this are touched */
-    ROWS = SETS * 4 * 64,
-    FIRST_SETS = 32, FIRST_STEPS = 64, /* so many sets for so many steps: a thread that throws once touches fewer pages */
-    CONTEXT = 64 * 1024, /* more than a context takes */
-    MEMORY = CONTEXT + ROWS,
-    STACK = 512 * 1024,  /* on which they are made: more than a thread may have */
-    LEFT = 4,            /* so many of ended threads are kept */
-    AWAY = 1 << 21,      /* so far from other stacks that valgrind sees one of its own */
-    LARGE = 16 * 1024,   /* so large are the rows that a context seldom remembers, and nothing else of it */
-    TOUCHED = 13 * 1024 + FIRST_SETS * 4 * 64, TOUCHED_STACK = 48 * 1024 /* as far as they take them now */
+    LINE = 64,            /* of the processor's cache: a row takes one */
+    SETS = 325,           /* of four rows: so that 128 kB of all this are touched */
+    FIRST_SETS = 32,      /* at first, */
+    FIRST_ROWS = 64,      /* for so many rows: a thread that throws once touches fewer pages */
+    CACHE = 2 * LINE,     /* what a cache takes beside its rows */
+    ROWS = CACHE + SETS * 4 * LINE,
+    FIRST = CACHE + FIRST_SETS * 4 * LINE,
+    CONTEXT = 196 * LINE, /* what a context takes, */
+    SELDOM = 128 * 1024,  /* but for the rows that it remembers, which few have; more is taken here too */
+    STACK = 44 * 1024,    /* as much as is taken to make a context now */
+    LEFT = 4              /* so many of ended threads are kept */
 };
 
-/* Pages are touched only when they are needed: the first modules are in two, and what follows the modules in a few. */
+/* Pages are touched only when they are needed. What a first throw touches lies together: the rows' last bytes, on which the
+ * context is made, as on a stack, and then the first rows; the context; and the first modules. */
 struct region {
-    struct known_modules modules;
+    _Alignas(PAGE) char seldom[SELDOM];
+    _Alignas(LINE) char rows[ROWS];
+    _Alignas(LINE) char context[CONTEXT];
     struct workspace workspace;
-    _Alignas(LINE) char memory[MEMORY];
+    struct known_modules modules;
 };
 
 LOCAL struct workspace *own_workspaces[NESTED];
@@ -35,14 +38,12 @@ static LOCAL struct workspace *made; /* while its context or cache is made: whos
 static pthread_key_t key;
 static bool has_key;
 
-static struct region reserve;
-static _Alignas(LINE) char reserve_stack[STACK];
-static _Alignas(LINE) char process_stack[STACK]; /* on which one thread at a time makes a context */
-static bool is_touched;                          /* that stack: its pages stay */
+/* That of the first thread that throws, and the one that all share where there is no memory. */
+static struct region first, reserve;
 
 /* What one thread has at a time: the address of its own, or NULL. */
 typedef _Atomic(void *) Taken;
-static Taken reserve_thread, stack_thread;
+static Taken first_thread, reserve_thread;
 
 static bool take(Taken *thread) {
     void *none = NULL;
@@ -74,19 +75,20 @@ HIDDEN Tried rattle_alloc(size_t length, size_t alignment);
 HIDDEN Tried rattle_realloc(void *block, size_t kept, size_t length, size_t alignment);
 HIDDEN void rattle_dealloc(void *block);
 
-/* Alignments are divisors of 16. What is made is made once and given back whole, so nothing is freed alone. The rows that a
- * context remembers lie at the end, so that what is touched lies together. */
+/* Alignments are divisors of 16. What is made is made once and given back whole, so nothing is freed alone. */
 Tried rattle_alloc(size_t length, size_t alignment) {
     static char nothing;
     size_t size = (length + LINE) & -(size_t)LINE;
     (void)alignment;
-    if (!made || size < length || (size_t)(made->end - made->free) < size)
-        return (Tried){false, &nothing};
-    if (size >= LARGE && !made->rows)
-        return (Tried){true, made->end -= size};
-    void *at = made->free;
-    made->free += size;
-    return (Tried){true, at};
+    for (int i = 0; made && size > length && i < ROOMS; i++) {
+        struct room *room = &made->rooms[i];
+        char *at = room->free;
+        if ((size_t)(room->end - at) < size)
+            continue;
+        room->free = at + size;
+        return (Tried){true, at};
+    }
+    return (Tried){false, &nothing};
 }
 
 Tried rattle_realloc(void *block, size_t kept, size_t length, size_t alignment) {
@@ -114,74 +116,88 @@ static void touch(void *start, size_t size) {
 #endif
 }
 
+static struct region *region_of(struct workspace *workspace) {
+    return (struct region *)((char *)workspace - offsetof(struct region, workspace));
+}
+
+static struct room room_of(char *start, size_t size) {
+    return (struct room){start, start + size};
+}
+
 /* Without memory for the cache there is none: then each row is found anew. */
-static int32_t fill(struct workspace *workspace) {
-    int32_t status = cfi_context_new(&workspace->context);
-    if (status == CFI_Ok) {
-        workspace->rows = workspace->free;
-        workspace->first_steps = FIRST_STEPS;
-        cfi_cache_new(FIRST_SETS, &workspace->cache);
-    }
-    return status;
+static void make_cache(struct workspace *workspace, size_t sets, size_t size) {
+    struct workspace *was = made;
+    struct region *region = region_of(workspace);
+    workspace->rooms[0] = room_of(region->rows + ROWS - size, size);
+    made = workspace;
+    cfi_cache_new(sets, &workspace->cache);
+    made = was;
 }
 
 void enlarge_cache(struct workspace *workspace) {
-    struct workspace *was = made;
+    struct region *region = region_of(workspace);
     cfi_cache_free(&workspace->cache);
-    workspace->free = workspace->rows;
-    touch(workspace->rows, ROWS);
-    made = workspace;
-    cfi_cache_new(SETS, &workspace->cache);
-    made = was;
+    touch(region->rows, ROWS - STACK);
+    make_cache(workspace, SETS, ROWS);
 }
 
-/* Makes the workspace of a region of zeros, on a stack of STACK bytes. */
-static bool make(struct region *region, char *stack) {
+static int32_t make_context(struct workspace *workspace) {
+    return cfi_context_new(&workspace->context);
+}
+
+/* Makes the context on a stack in the place of the rows. Valgrind is told of it, since it takes what lies below a stack pointer
+ * for lost. */
+static int32_t make_on_rows(struct workspace *workspace, struct region *region) {
+    enum { STACK_REGISTER = 0x1501, STACK_DEREGISTER = 0x1502, MAKE_MEM_UNDEFINED = 0x4d430001 };
+    uint64_t top = (uint64_t)(region->rows + ROWS) & -(uint64_t)LINE;
+    uint64_t stack = ask_valgrind(STACK_REGISTER, (uint64_t)region->seldom, top);
+    int32_t status = call_on_stack(make_context, workspace, (void *)top);
+    ask_valgrind(STACK_DEREGISTER, stack, 0);
+    ask_valgrind(MAKE_MEM_UNDEFINED, (uint64_t)region->rows, ROWS);
+    return status;
+}
+
+/* Makes the workspace of a region of zeros. A larger stack has room too: what is seldom needed is not written then. */
+static bool make(struct region *region) {
     struct workspace *was = made, *workspace = &region->workspace;
+    char *top = region->rows + ROWS;
     workspace->modules = &region->modules;
-    workspace->free = region->memory;
-    workspace->end = region->memory + MEMORY;
-    touch(&region->modules, 2 * PAGE);
-    touch(workspace, sizeof *workspace + TOUCHED);
-    if (stack != process_stack || !is_touched)
-        touch(stack + STACK - TOUCHED_STACK, TOUCHED_STACK);
-    if (stack == process_stack)
-        is_touched = true;
+    workspace->rooms[0] = room_of(region->context, CONTEXT);
+    workspace->rooms[1] = room_of(region->seldom, SELDOM);
+    touch(top - STACK, (size_t)((char *)&region->modules.all[1] - (top - STACK)));
     made = workspace;
-    int32_t status = call_on_stack(fill, workspace, stack + STACK);
+    int32_t status = make_on_rows(workspace, region);
     made = was;
-    return status == CFI_Ok;
+    if (status != CFI_Ok)
+        return false;
+    workspace->first_rows = FIRST_ROWS;
+    make_cache(workspace, FIRST_SETS, FIRST);
+    return true;
 }
 
-static void *map(size_t size) {
+static struct region *map_region(void) {
     int was = errno;
-    void *at = mmap(NULL, size, PROT_READ | PROT_WRITE, MAP_PRIVATE | MAP_ANONYMOUS | MAP_NORESERVE, -1, 0);
+    void *at = mmap(NULL, sizeof(struct region), PROT_READ | PROT_WRITE, MAP_PRIVATE | MAP_ANONYMOUS | MAP_NORESERVE, -1, 0);
     errno = was;
     return at == MAP_FAILED ? NULL : at;
 }
 
-/* The same on the process's stack, or on one that is mapped if another thread has that. */
-static bool make_mapped(struct region *region) {
-    if (take(&stack_thread)) {
-        bool is_made = make(region, process_stack);
-        give(&stack_thread);
-        return is_made;
+/* The first is given to another thread as it was at the start. */
+static void unmap(struct region *region) {
+    if (region != &first) {
+        munmap(region, sizeof *region);
+    } else if (madvise(&first, sizeof first, MADV_DONTNEED) == 0) {
+        give(&first_thread);
     }
-    char *stack = map(AWAY + STACK + AWAY);
-    if (!stack)
-        return false;
-    bool is_made = make(region, stack + AWAY);
-    munmap(stack, AWAY + STACK + AWAY);
-    return is_made;
 }
 
-static struct workspace *map_workspace(void) {
-    struct region *region = map(sizeof *region);
+static struct workspace *make_workspace(void) {
+    struct region *region = take(&first_thread) ? &first : map_region();
     if (!region)
         return NULL;
-    if (make_mapped(region))
+    if (make(region))
         return &region->workspace;
-    munmap(region, sizeof *region);
+    unmap(region);
     return NULL;
 }
 
@@ -210,7 +226,7 @@ static void leave(struct workspace *workspace) {
         if (atomic_compare_exchange_strong(&left[i], &none, workspace))
             return;
     }
-    munmap((char *)workspace - offsetof(struct region, workspace), sizeof(struct region));
+    unmap(region_of(workspace));
 }
 
 /* At the end of a thread. What it throws after that takes others, and this is called again. */
@@ -224,11 +240,9 @@ static void give_back(void *all) {
     }
 }
 
-/* In a forked child no other thread has the reserve, or the stack. */
+/* In a forked child no other thread has the reserve. */
 static void give_in_child(void) {
     give(&reserve_thread);
-    if (atomic_load(&stack_thread) != &own_workspaces)
-        give(&stack_thread);
 }
 
 __attribute__((constructor)) static void begin(void) {
@@ -241,7 +255,7 @@ static struct workspace *take_reserve(void) {
     struct workspace *workspace = &reserve.workspace;
     if (!wait_for(&reserve_thread))
         return NULL;
-    if (workspace->context.live || make(&reserve, reserve_stack)) {
+    if (workspace->context.live || make(&reserve)) {
         workspace->windows = (struct windows){0}; /* the other thread's stacks */
         workspace->view = (struct view){0};
         forget_modules(workspace->modules); /* its calls have numbers of their own */
@@ -255,7 +269,7 @@ static struct workspace *take_reserve(void) {
 static struct workspace *keep_new(int i) {
     struct workspace *workspace = take_left();
     if (!workspace)
-        workspace = map_workspace();
+        workspace = make_workspace();
     if (!workspace)
         return NULL;
     if (own_workspaces[i]) {
@@ -277,8 +291,7 @@ struct workspace *take_other_workspace(void) {
             workspace = keep_new(i);
         if (!workspace)
             break;
-        workspace->is_busy = true;
-        atomic_signal_fence(memory_order_seq_cst);
+        hold_workspace(workspace);
         return workspace;
     }
     return take_reserve();

@@ -7,7 +7,8 @@ use Rattle.cfi_compiled.specs.CompiledTables.{TableContents, parts_at}
 use Rattle.cfi_c.specs.declared.CfiBases.{CfiBases}
 use Rattle.cfi_c.specs.declared.CfiRow.{CfiRow}
 use Rattle.cfi_c.specs.declared.CfiRule.{CfiRule}
-use Rattle.cfi_c.specs.Refusals.{number, value}
+use Rattle.cfi_c.specs.Refusals.{number}
+use Rattle.cfi_read_core.specs.RefusalNames.{value_of}
 use Rattle.cfi_c.specs.AddressRows.{IsAnswered}
 use Rattle.cfi_c.specs.TableRows.{IsTableMade, IsTableOf, IsTableRow, unplaced}
 
@@ -18,7 +19,7 @@ by_row table t a found out rules there is answered =
     (subst (λ (f : Result (Parts ℕ) Error). IsAnswered (map_ok unplaced f) out rules 0 (length rules)) is answered)
 
 pub by_refusal : (found : Result (Parts ℕ) Error) (e : Error) (out : CfiRow) (rules : List CfiRule) (first count : ℕ) →
-    found ≡ Err e → out.status ≡ number e → out.refused ≡ value e → IsAnswered (map_ok unplaced found) out rules first count
+    found ≡ Err e → out.status ≡ number e → out.refused ≡ value_of e → IsAnswered (map_ok unplaced found) out rules first count
 by_refusal found e out rules first count is status refused =
     subst (λ (f : Result (Parts ℕ) Error). IsAnswered (map_ok unplaced f) out rules first count) (sym is) (status, refused)
 

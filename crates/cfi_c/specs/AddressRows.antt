@@ -22,14 +22,15 @@ use Rattle.gimli_cfi.specs.RowsByHeader.{FoundByHeader}
 use Rattle.cfi_c.specs.declared.CfiBases.{CfiBases}
 use Rattle.cfi_c.specs.declared.CfiRow.{CfiRow}
 use Rattle.cfi_c.specs.declared.CfiRule.{CfiRule}
-use Rattle.cfi_c.specs.Refusals.{number, value}
+use Rattle.cfi_c.specs.Refusals.{number}
+use Rattle.cfi_read_core.specs.RefusalNames.{value_of}
 use Rattle.cfi_c.specs.PassedSections.{section_of, eh_frame_of, header_of}
 use Rattle.cfi_c.specs.WrittenRows.{IsWritten, IsRules}
 
 abbrev pub IsAnswered : Result (Row ℕ) Error → CfiRow → List CfiRule → ℕ → ℕ → Type 0
 IsAnswered (Ok row) out rules first count =
     (out.status ≡ pos 0) × IsWritten row out × IsRules row rules first count
-IsAnswered (Err e) out rules first count = (out.status ≡ number e) × (out.refused ≡ value e)
+IsAnswered (Err e) out rules first count = (out.status ≡ number e) × (out.refused ≡ value_of e)
 
 -- of the FDE that is found, or the refusal in its place
 abbrev pub IsTableAnswer : Section → headers.HeaderSection → ℕ → Result (Row ℕ) Error → Type 0

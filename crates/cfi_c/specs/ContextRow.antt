@@ -5,10 +5,10 @@ use Rattle.cfi_read_core.specs.contracts.common.RegisterDefault.TheImpl as regis
 use Rattle.cfi_read_core.specs.contracts.common.StoreOnHeap.{the_row as store}
 use Rattle.cfi_read_core.specs.contracts.offset.UsizeReaderOffset.TheImpl as offset
 use Rattle.arrayvec.specs.contracts.array_vec.ArrayVec
-use Rattle.cfi_lists.specs.contracts.array_like.ArrayVecArrayLike.TheImpl as list
-use Rattle.cfi_lists.specs.contracts.array_like.ArrayVecCopyList.TheImpl as copies
-use Rattle.cfi_lists.specs.contracts.reserved.Reserved
-use Rattle.cfi_lists.specs.contracts.reserved.ReservedArrayLike.TheImpl as reserved-list
+use Rattle.cfi_read_core.specs.contracts.array_like.ArrayVecArrayLike.TheImpl as list
+use Rattle.cfi_read_core.specs.contracts.array_like.ArrayVecCopyList.TheImpl as copies
+use Rattle.cfi_read_core.specs.contracts.reserved.Reserved
+use Rattle.cfi_read_core.specs.contracts.reserved.ReservedArrayLike.TheImpl as reserved-list
 use Rattle.cfi_state.specs.contracts.table.rules.RegisterRuleClone.TheImpl as rule-clone
 use Rattle.cfi_state.specs.contracts.table.rules.RegisterRuleDefault.TheImpl as rule-default
 use Rattle.gimli_cfi.specs.contracts.table.RegisterRule

@@ -39,7 +39,8 @@ use Rattle.cfi_c.specs.declared.stack.CfiFrame.{CfiFrame}
 use Rattle.cfi_c.specs.declared.stack.CfiModule.{CfiModule}
 use Rattle.cfi_c.specs.declared.stack.CfiStack.{CfiStack}
 use Rattle.cfi_c.specs.declared.stack.CfiValue.{CfiValue}
-use Rattle.cfi_c.specs.Refusals.{number, value}
+use Rattle.cfi_c.specs.Refusals.{number}
+use Rattle.cfi_read_core.specs.RefusalNames.{value_of}
 use Rattle.cfi_c.specs.PassedSections.{eh_frame_of, header_in, header_of, section_of}
 use Rattle.cfi_c.specs.PassedStacks.{abi_of, known_values, memory_of, module_at, section_in, sized}
 
@@ -114,7 +115,7 @@ plain_end kind refused = record { refused = refused; kind = kind; status = pos 0
 
 -- an error of the sections
 abbrev pub refused_end : ℕ → Error → CfiEnd
-refused_end kind e = record { refused = value e; kind = kind; status = number e }
+refused_end kind e = record { refused = value_of e; kind = kind; status = number e }
 
 abbrev pub failed_end : FrameError → CfiEnd
 failed_end (failed.NoRow e) = refused_end 4 e

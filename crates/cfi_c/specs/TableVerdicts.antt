@@ -14,7 +14,8 @@ use Rattle.gimli_cfi.specs.declared.hdr.verdict.Verdict.TheVariants.{NoTable, Re
 use Rattle.cfi_c.specs.declared.CfiBases.{CfiBases}
 use Rattle.cfi_c.specs.declared.check.CfiVerdict.{CfiVerdict}
 use Rattle.cfi_c.specs.PassedSections.{eh_frame_of, header_of}
-use Rattle.cfi_c.specs.Refusals.{number, value}
+use Rattle.cfi_c.specs.Refusals.{number}
+use Rattle.cfi_read_core.specs.RefusalNames.{value_of}
 
 -- ---- how C sees it
 
@@ -35,7 +36,7 @@ refused_verdict kind first e = record {
   first = first;
   second = 0;
   third = 0;
-  refused = value e;
+  refused = value_of e;
   kind = kind;
   status = number e;
 }

@@ -12,7 +12,6 @@ use Rattle.cfi_state.specs.declared.table.rules.RegisterRule.TheVariants as rule
 use Rattle.cfi_state.specs.Row.{Row}
 use Rattle.cfi_c.specs.declared.CfiRow.{CfiRow}
 use Rattle.cfi_c.specs.declared.CfiRule.{CfiRule}
-use Rattle.cfi_c.specs.Refusals.{value}
 
 -- ---- a row
 

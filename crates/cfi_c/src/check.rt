@@ -5,7 +5,7 @@ ghost use Rattle.cfi_c.specs.TableVerdicts.{IsCheckedForC, plain_verdict, refuse
 ghost use Rattle.cfi_c.specs.TableVerdicts.{written_if, written_reason, written_verdict};
 
 use crate::find::{is_sized, source_of};
-use crate::refusal::{number_of, value_of};
+use crate::refusal::number_of;
 use crate::{CfiBases, header_in};
 use gimli_cfi::{Error, Unfaithful, Verdict};
 
@@ -117,7 +117,7 @@ fn refused_verdict(kind: u32, first: u64, error: Error) -> CfiVerdict
         first,
         second: 0,
         third: 0,
-        refused: value_of(error),
+        refused: error.value(),
         kind,
         status: number_of(error),
     }

@@ -10,7 +10,7 @@ ghost use Rattle.cfi_c.specs.WrittenRows.{IsRules, rule_at};
 ghost use Rattle.cfi_c.specs.TableRows.{IsTableMade, IsTableOf, IsTableRow, table_in, unplaced};
 
 use crate::find::{is_sized, source_of};
-use crate::refusal::{NO_TABLE, number_of, value_of};
+use crate::refusal::{NO_TABLE, number_of};
 use crate::table::CfiTable;
 use crate::written::{cfa_row, rule_of};
 use crate::{CfiBases, CfiRow, CfiRule};
@@ -126,7 +126,7 @@ fn write_row(found: Result<CompiledRow<'_>, Error>, row: &mut CfiRow, rules: &mu
             write_rules(found, rules);
         }
         Err(error) => {
-            row.refused = value_of(error);
+            row.refused = error.value();
             row.status = number_of(error);
         }
     }

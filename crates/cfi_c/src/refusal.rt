@@ -1,6 +1,6 @@
 //! Errors as numbers and names.
 ghost use Rattle.std.specs.Prelude.{◌≡◌, ◌<◌, pos};
-ghost use Rattle.cfi_c.specs.Refusals.{number, status_name, value};
+ghost use Rattle.cfi_c.specs.Refusals.{number, status_name};
 
 use gimli_cfi::{DwCfa, DwEhPe, Error, ReaderOffsetId};
 
@@ -22,66 +22,11 @@ pub const NO_SECTION: i32 = 36;
 /// The status where no window has the bytes of a header or a section.
 pub const NOT_IN_MEMORY: i32 = 37;
 
-/// Returns the number of an error: its status, from 1 to 31.
+/// Returns the status of an error: its number, from 1 to 31.
 pub fn number_of(error: Error) -> i32
     ensures { result ≡ number error }
 {
-    match error {
-        Error::UnexpectedEof(_) => 1,
-        Error::BadUnsignedLeb128 => 2,
-        Error::BadSignedLeb128 => 3,
-        Error::UnknownReservedLength(_) => 4,
-        Error::UnsupportedAddressSize(_) => 5,
-        Error::UnsupportedOffset => 6,
-        Error::UnsupportedRegister(_) => 7,
-        Error::AddressOverflow => 8,
-        Error::UnknownVersion(_) => 9,
-        Error::UnsupportedSegmentSize(_) => 10,
-        Error::UnknownAugmentation => 11,
-        Error::UnknownPointerEncoding(_) => 12,
-        Error::CannotParseOmitPointerEncoding => 13,
-        Error::UnsupportedPointerEncoding(_) => 14,
-        Error::PcRelativePointerButSectionBaseIsUndefined => 15,
-        Error::TextRelativePointerButTextBaseIsUndefined => 16,
-        Error::DataRelativePointerButDataBaseIsUndefined => 17,
-        Error::FuncRelativePointerInBadContext => 18,
-        Error::UnsupportedIndirectPointer => 19,
-        Error::NotCieId(_) => 20,
-        Error::NotCiePointer(_) => 21,
-        Error::NoEntryAtGivenOffset(_) => 22,
-        Error::OffsetOutOfBounds(_) => 23,
-        Error::UnknownCallFrameInstruction(_) => 24,
-        Error::CfiInstructionInInvalidContext => 25,
-        Error::InvalidCfiSetLoc(_) => 26,
-        Error::StackFull => 27,
-        Error::PopWithEmptyStack => 28,
-        Error::TooManyRegisterRules => 29,
-        Error::NoUnwindInfoForAddress => 30,
-        Error::OutOfMemory => 31,
-    }
-}
-
-/// Returns the place, byte or number that an error carries, else 0.
-pub fn value_of(error: Error) -> u64
-    ensures { result ≡ value error }
-{
-    match error {
-        Error::UnexpectedEof(place) => place.0,
-        Error::UnknownReservedLength(n) => u64::from(n),
-        Error::UnsupportedAddressSize(n) => u64::from(n),
-        Error::UnsupportedRegister(n) => n,
-        Error::UnknownVersion(n) => n,
-        Error::UnsupportedSegmentSize(n) => u64::from(n),
-        Error::UnknownPointerEncoding(n) => u64::from(n.0),
-        Error::UnsupportedPointerEncoding(n) => u64::from(n.0),
-        Error::NotCieId(n) => n,
-        Error::NotCiePointer(n) => n,
-        Error::NoEntryAtGivenOffset(n) => n,
-        Error::OffsetOutOfBounds(n) => n,
-        Error::UnknownCallFrameInstruction(n) => u64::from(n.0),
-        Error::InvalidCfiSetLoc(n) => n,
-        _ => 0,
-    }
+    i32::from(error.number())
 }
 
 /// The errors in the order of their numbers, from 1 on. A name does not show what an error carries,

@@ -5,7 +5,7 @@ ghost use Rattle.cfi_c.specs.StackFrames.{failed_end, plain_end, refused_end};
 ghost use Rattle.cfi_c.specs.StackFrames.{written_end, written_frame};
 
 use crate::CfiBases;
-use crate::refusal::{number_of, value_of};
+use crate::refusal::number_of;
 use cfi_step::walk::Start;
 use cfi_step::{Abi, Caller, End, FrameError, HasCode, StackFrame, WalkFrame};
 use gimli_cfi::{Error, Register};
@@ -214,7 +214,7 @@ pub fn refused_end(kind: u32, error: Error) -> CfiEnd
     ensures { result ≡ refused_end kind error }
 {
     CfiEnd {
-        refused: value_of(error),
+        refused: error.value(),
         kind,
         status: number_of(error),
     }

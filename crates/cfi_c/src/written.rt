@@ -4,7 +4,7 @@ ghost use Rattle.cfi_read_core.specs.ReaderCalls.{map_ok};
 ghost use Rattle.cfi_c.specs.AddressRows.{IsAnswered};
 ghost use Rattle.cfi_c.specs.WrittenRows.{IsCfa, IsRules, IsWritten, SameAround, written_rule};
 
-use crate::refusal::{number_of, value_of};
+use crate::refusal::number_of;
 use crate::{CfiRow, CfiRule};
 use gimli_cfi::{ArrayLike, CfaRule, Error, Register, RegisterRule, UnwindTableRow};
 
@@ -28,7 +28,7 @@ pub fn write_answer<A: ArrayLike<Item = (Register, RegisterRule<usize>)>>(
             write_rules(found, rules, first, count);
         }
         Err(error) => {
-            row.refused = value_of(error);
+            row.refused = error.value();
             row.status = number_of(error);
         }
     }

@@ -77,7 +77,7 @@ impl<'a> Answers<'a> {
 
     pub fn put_error(&mut self, error: Error) {
         self.put(ERROR);
-        self.put_two(number_of(error), value_of(error));
+        self.put_two(u64::from(error.number()), error.value());
     }
 
     pub fn put_pointer(&mut self, pointer: Pointer) {
@@ -203,63 +203,5 @@ impl<'a> Answers<'a> {
         self.put_two(UNFAITHFUL, kind);
         self.put(first);
         self.put_two(second, third);
-    }
-}
-
-/// The number of an error, as in `cfi_c.h`.
-fn number_of(error: Error) -> u64 {
-    match error {
-        Error::UnexpectedEof(_) => 1,
-        Error::BadUnsignedLeb128 => 2,
-        Error::BadSignedLeb128 => 3,
-        Error::UnknownReservedLength(_) => 4,
-        Error::UnsupportedAddressSize(_) => 5,
-        Error::UnsupportedOffset => 6,
-        Error::UnsupportedRegister(_) => 7,
-        Error::AddressOverflow => 8,
-        Error::UnknownVersion(_) => 9,
-        Error::UnsupportedSegmentSize(_) => 10,
-        Error::UnknownAugmentation => 11,
-        Error::UnknownPointerEncoding(_) => 12,
-        Error::CannotParseOmitPointerEncoding => 13,
-        Error::UnsupportedPointerEncoding(_) => 14,
-        Error::PcRelativePointerButSectionBaseIsUndefined => 15,
-        Error::TextRelativePointerButTextBaseIsUndefined => 16,
-        Error::DataRelativePointerButDataBaseIsUndefined => 17,
-        Error::FuncRelativePointerInBadContext => 18,
-        Error::UnsupportedIndirectPointer => 19,
-        Error::NotCieId(_) => 20,
-        Error::NotCiePointer(_) => 21,
-        Error::NoEntryAtGivenOffset(_) => 22,
-        Error::OffsetOutOfBounds(_) => 23,
-        Error::UnknownCallFrameInstruction(_) => 24,
-        Error::CfiInstructionInInvalidContext => 25,
-        Error::InvalidCfiSetLoc(_) => 26,
-        Error::StackFull => 27,
-        Error::PopWithEmptyStack => 28,
-        Error::TooManyRegisterRules => 29,
-        Error::NoUnwindInfoForAddress => 30,
-        Error::OutOfMemory => 31,
-    }
-}
-
-/// The value that an error carries, or 0.
-fn value_of(error: Error) -> u64 {
-    match error {
-        Error::UnexpectedEof(place) => place.0,
-        Error::UnknownReservedLength(n) => u64::from(n),
-        Error::UnsupportedAddressSize(n) => u64::from(n),
-        Error::UnsupportedRegister(n) => n,
-        Error::UnknownVersion(n) => n,
-        Error::UnsupportedSegmentSize(n) => u64::from(n),
-        Error::UnknownPointerEncoding(n) => u64::from(n.0),
-        Error::UnsupportedPointerEncoding(n) => u64::from(n.0),
-        Error::NotCieId(n) => n,
-        Error::NotCiePointer(n) => n,
-        Error::NoEntryAtGivenOffset(n) => n,
-        Error::OffsetOutOfBounds(n) => n,
-        Error::UnknownCallFrameInstruction(n) => u64::from(n.0),
-        Error::InvalidCfiSetLoc(n) => n,
-        _ => 0,
     }
 }

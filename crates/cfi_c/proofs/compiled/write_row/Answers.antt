@@ -7,4 +7,4 @@ use Rattle.cfi_c.proofs.compiled.write_row.Goals as goal
 pub returns-in-Err : goal.returns-in-Err
 returns-in-Err c =
     let fits : FitsSigned w32 c.number_of-row.result = search rules in
-    by_refusal (parts_lent c.args.found) c.in-Err.error _ _ _ _ (ap parts_lent c.in-Err.is) (to_z-of_z fits ∙ c.number_of-row.ensures) c.value_of-row.ensures
+    by_refusal (parts_lent c.args.found) c.in-Err.error _ _ _ _ (ap parts_lent c.in-Err.is) (to_z-of_z fits ∙ c.number_of-row.ensures) c.value-row.ensures
