@@ -218,7 +218,7 @@ verylongprogram 17261/17261 [002]  2384.958948:     250000 cpu-clock:
 \t    7f6ee8f04b1d [unknown] ([unknown])
 # no file with call frames is mapped here (NoModule)
 
-refused DataOutOfBounds
+refused DataOutOfBounds: the file ends before the records do
 ";
 
 /// Opens one file, by its name.
@@ -309,7 +309,7 @@ fn two_samples(rt: HostRuntime) -> Result<(), Fail> {
         false,
         b"PERFILE1",
         b"/usr/pushes",
-        "refused NotPerf\n",
+        "refused NotPerf: not a profile of perf record\n",
         1,
     )
 }
@@ -372,7 +372,7 @@ fn objects(rt: HostRuntime) -> Result<(), Fail> {
     let events = bytes_of(rt.alloc(), TWO_EVENTS)?;
     let of_two = OBJECTS_OF_TWO_EVENTS;
     lists(&rt, Listing::Json(true), &two, events.as_slice(), of_two, 0)?;
-    let refusal = "{\"error\":\"NotPerf\"}\n";
+    let refusal = "{\"error\":\"NotPerf\",\"reason\":\"not a profile of perf record\"}\n";
     lists(&rt, Listing::Json(false), &all, b"PERFILE1", refusal, 1)
 }
 
