@@ -1,5 +1,5 @@
 -- Entries of procedure linkage tables of real programs, by computation: what objdump prints of them.
-use Rattle.std.proofs.Common.{◌≡◌, ℕ, ◌+◌, ◌-◌, ◌*◌, ◌++◌, List, [], ◌∷◌, codes, Option, Some, None, refl}
+use Rattle.std.proofs.Common.{◌≡◌, ℕ, ◌+◌, ◌-◌, ◌*◌, List, [], ◌∷◌, codes, Option, Some, None, refl}
 use Rattle.std.specs.Prelude.{nat_lt, if◌then◌else◌}
 use Rattle.cfi_read_core.specs.declared.endianity.RunTimeEndian.TheVariants.{Little}
 use Rattle.cfi_elf.specs.declared.file_header.Class.TheVariants.{Elf64}

@@ -5,7 +5,7 @@
 --     link_in big bytes      the link that these bytes are
 --     debug_link file      the link of a file
 use Rattle.std.specs.Prelude.{ℕ, ◌*◌, ◌/◌, ◌==◌, Bool, not, ◌&&◌, List, drop, length, Option, Some}
-use Rattle.std.specs.Prelude.{None, Result, Ok, codes, option_map, if◌then◌else◌}
+use Rattle.std.specs.Prelude.{None, Result, Ok, codes, if◌then◌else◌}
 use Rattle.std.specs.Int.{w32}
 use Rattle.std.specs.List.{list_all}
 use Rattle.std.specs.Option.{option_and_then}

@@ -11,6 +11,7 @@ use Rattle.cfi_elf.specs.declared.symbol.Symbol.{Symbol}
 use Rattle.cfi_elf.specs.ElfFiles.{File, is_big_file}
 use Rattle.cfi_elf.specs.Fields.{number_at}
 use Rattle.cfi_elf.specs.Sections.{Section, section_named}
+use Rattle.cfi_elf.specs.Symbols.{has_type_of_function}
 
 -- EM_ARM is 40, EM_PPC64 21
 abbrev pub is_arm : File → Bool
@@ -42,10 +43,9 @@ abbrev pub function_entry : File → Option Section → ℕ → ℕ
 function_entry file descriptors value =
     if is_arm file then value - value % 2 else described (is_big_file file) descriptors value
 
--- STT_FUNC is 2
 abbrev pub entry_of : File → Option Section → Symbol → ℕ
 entry_of file descriptors s =
-    if s.st_info % 16 == 2 then function_entry file descriptors s.st_value else s.st_value
+    if has_type_of_function s then function_entry file descriptors s.st_value else s.st_value
 
 abbrev pub located : File → Option Section → Symbol → Symbol
 located file descriptors s = record {

@@ -73,6 +73,9 @@ pub const SHT_DYNSYM: u32 = 11;
 /// A symbol that is a function (the type in `st_info`).
 pub const STT_FUNC: u8 = 2;
 
+/// A symbol of a function that says which one is called for it (the type in `st_info`; `elf.h`).
+pub const STT_GNU_IFUNC: u8 = 10;
+
 /// A section that is in memory when the program runs (`sh_flags`).
 pub const SHF_ALLOC: u64 = 2;
 

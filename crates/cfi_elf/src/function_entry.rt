@@ -8,10 +8,11 @@ ghost use Rattle.cfi_elf.specs.FunctionEntries.{function_entry, has_descriptors,
 ghost use Rattle.cfi_elf.specs.Sections.{section_view};
 
 use crate::bytes::{Record, part};
-use crate::constants::{EM_ARM, EM_PPC64, ET_REL, STT_FUNC};
+use crate::constants::{EM_ARM, EM_PPC64, ET_REL};
 use crate::elf_file::{ElfFile, Section};
 use crate::error::ElfError;
 use crate::symbol::Symbol;
+use crate::symbols::has_type_of_function;
 use cfi_read_core::Endianity;
 
 /// The bytes of a doubleword.
@@ -54,7 +55,7 @@ impl<'input> ElfFile<'input> {
         ensures { result ≡ entry_of (file_view self.now) (option_map section_view descriptors.entry)
             symbol.now }
     {
-        if symbol.st_info % 16 == STT_FUNC {
+        if has_type_of_function(symbol) {
             self.function_entry(descriptors, symbol.st_value)
         } else {
             symbol.st_value

@@ -13,7 +13,7 @@ use std::alloc::{AllocError, Global};
 
 impl<'input> ElfFile<'input> {
     /// The defined functions that have names, in the order of their symbols: those of `.symtab`,
-    /// or of `.dynsym` where there is none.
+    /// or of `.dynsym` where there is none. Their types are `STT_FUNC` and `STT_GNU_IFUNC`.
     ///
     /// A function whose name is empty or can't be read is left out. There is none where the
     /// symbols can't be read. Fails where memory is refused; allocates the list.

@@ -5,14 +5,14 @@ ghost use Rattle.cfi_elf.specs.ElfFiles.{file_view};
 ghost use Rattle.cfi_elf.specs.Images.{IsNotRead, IsRead};
 ghost use Rattle.cfi_elf.specs.Searches.{first_by};
 ghost use Rattle.cfi_elf.specs.Sections.{section_headers};
-ghost use Rattle.cfi_elf.specs.Symbols.{is_function, is_function_at};
+ghost use Rattle.cfi_elf.specs.Symbols.{has_type_of_function, is_function, is_function_at};
 ghost use Rattle.cfi_elf.specs.SymbolTables.{function_at, function_view, is_of_type};
 ghost use Rattle.cfi_elf.specs.SymbolTables.{is_symbol_named, symbol_address, symbol_section};
 ghost use Rattle.cfi_elf.specs.SymbolTables.{symbol_table, symbol_table_view, symbols};
 ghost use Rattle.cfi_elf.specs.SymbolTables.{symbols_in, symbols_of_bytes};
 
 use crate::bytes::entry;
-use crate::constants::{SHT_DYNSYM, SHT_SYMTAB, STT_FUNC};
+use crate::constants::{SHT_DYNSYM, SHT_SYMTAB, STT_FUNC, STT_GNU_IFUNC};
 use crate::elf_file::{ElfFile, Section};
 use crate::error::ElfError;
 use crate::section_header::SectionHeader;
@@ -245,5 +245,13 @@ fn is_function_at(symbol: &Symbol, address: u64) -> bool
 pub(crate) fn is_function(symbol: &Symbol) -> bool
     ensures { result ≡ is_function symbol.now }
 {
-    symbol.st_info % 16 == STT_FUNC && symbol.st_shndx != SHN_UNDEF
+    has_type_of_function(symbol) && symbol.st_shndx != SHN_UNDEF
+}
+
+/// Whether the symbol is of a function by its type, defined or not.
+pub(crate) fn has_type_of_function(symbol: &Symbol) -> bool
+    ensures { result ≡ has_type_of_function symbol.now }
+{
+    let symbol_type = symbol.st_info % 16;
+    symbol_type == STT_FUNC || symbol_type == STT_GNU_IFUNC
 }
