@@ -26,7 +26,7 @@ use Rattle.cfi_perf.specs.Pipes.{is_pipe, is_size}
 use Rattle.cfi_perf.specs.Profiles.{Profile, file_profile, pipe_profile, profile, profile_by}
 use Rattle.cfi_perf.specs.ProfilesAround.{IsAround, IsProfileAround, IsReadAs, has_all, has_feature, has_place, head_if, lies_between, profile_around, profile_of, sections_around}
 use Rattle.cfi_perf.specs.Sections.{EventSection, ProfileHead, Sections, architecture_in, behind_records, build_ids, descriptions, event_table, events_by, feature_place, feature_section, head_of, machine_by, or_nothing, records_at, text_in}
-use Rattle.cfi_perf.specs.FileHeaders.{byte_order, file_header, header_fields}
+use Rattle.cfi_perf.specs.FileHeaders.{byte_order, file_header, header_fields, of_one_file}
 use Rattle.cfi_perf.specs.FileParts.{Parts, or_other, part_behind, parts_around, parts_of}
 use Rattle.cfi_perf.proofs.FixedReads.{fixed_header, fixed_size, same_from}
 use Rattle.cfi_perf.proofs.RecordSteps.{part_fits}
@@ -65,7 +65,7 @@ module _ (front others : List ℕ) (some : 104 ≤ length front) where
       ∙ same_from header_fields 88 fixed_header big (drop 16 front) others (omega (arith, length-drop 16 front))
 
   abbrev by_size : Result FileHeader Error → ℕ → Result FileHeader PerfError
-  by_size fields size = if not (size == 104) then Err (HeaderSize size) else or_error HeaderCut fields
+  by_size fields size = if not (size == 104) then Err (HeaderSize size) else and_then (or_error HeaderCut fields) of_one_file
 
   same_header : (endian : RunTimeEndian) → file_header endian (front ++ others) ≡ file_header endian front
   unfolding file_header

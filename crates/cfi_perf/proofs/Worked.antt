@@ -3,7 +3,7 @@ use Rattle.std.proofs.Common.{◌≡◌, ℕ, ◌+◌, ◌-◌, ◌*◌, List, [
 use Rattle.std.specs.Prelude.{Bool, nat_lt, if◌then◌else◌, drop, map, take, replicate}
 use Rattle.cfi_read_core.specs.declared.endianity.RunTimeEndian.TheVariants.{Little, Big}
 use Rattle.cfi_read_core.specs.Numbers.{unsigned}
-use Rattle.cfi_perf.specs.declared.error.PerfError.TheVariants.{NotPerf, PipeMode, HeaderCut, HeaderSize, AttributesOutOfBounds, DataOutOfBounds, NoEvents, MixedEvents, FeatureOutOfBounds, RecordSize, RecordCut, Compressed}
+use Rattle.cfi_perf.specs.declared.error.PerfError.TheVariants.{NotPerf, PipeMode, HeaderCut, HeaderSize, AttributesOutOfBounds, DataOutOfBounds, NoEvents, MixedEvents, FeatureOutOfBounds, RecordSize, RecordCut, Compressed, Directory}
 use Rattle.cfi_perf.specs.declared.attribute.EventEntry.{EventEntry}
 use Rattle.cfi_perf.specs.declared.attribute.EventLayout.{EventLayout}
 use Rattle.cfi_perf.specs.Results.{items, entries, header_text}
@@ -73,6 +73,10 @@ a_header_less_a_byte = refl
 of_another_size : file_header Little (hex (codes "50455246494c45324800000000000000")) ≡ Err (HeaderSize 72)
 unfolding computing
 of_another_size = refl
+
+of_a_folder : file_header Little (hex (codes "50455246494c45326800000000000000700000000000000068000000000000007000000000000000d8000000000000000001000000000000000000000000000000000000000000004800000100000000000000000000000000000000000000000000000000000000")) ≡ Err Directory
+unfolding computing
+of_a_folder = refl
 
 nothing_behind_the_header : profile little_header ≡ Err AttributesOutOfBounds
 unfolding computing

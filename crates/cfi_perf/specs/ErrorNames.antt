@@ -6,13 +6,14 @@ use Rattle.cfi_perf.specs.declared.error.PerfError.TheVariants.{HeaderSize, Attr
 use Rattle.cfi_perf.specs.declared.error.PerfError.TheVariants.{AttributesOutOfBounds, NoEvents}
 use Rattle.cfi_perf.specs.declared.error.PerfError.TheVariants.{MixedEvents, DataOutOfBounds}
 use Rattle.cfi_perf.specs.declared.error.PerfError.TheVariants.{FeatureOutOfBounds, RecordSize}
-use Rattle.cfi_perf.specs.declared.error.PerfError.TheVariants.{RecordCut, Compressed}
+use Rattle.cfi_perf.specs.declared.error.PerfError.TheVariants.{RecordCut, Compressed, Directory}
 
 abbrev pub name_of_perf : PerfError → List ℕ
 name_of_perf NotPerf = codes "NotPerf"
 name_of_perf PipeMode = codes "PipeMode"
 name_of_perf HeaderCut = codes "HeaderCut"
 name_of_perf (HeaderSize size) = codes "HeaderSize"
+name_of_perf Directory = codes "Directory"
 name_of_perf (AttributeSize size) = codes "AttributeSize"
 name_of_perf AttributesOutOfBounds = codes "AttributesOutOfBounds"
 name_of_perf NoEvents = codes "NoEvents"

@@ -8,7 +8,7 @@ use Rattle.cfi_perf.specs.declared.error.PerfError.TheVariants.{HeaderSize, Attr
 use Rattle.cfi_perf.specs.declared.error.PerfError.TheVariants.{AttributesOutOfBounds, NoEvents}
 use Rattle.cfi_perf.specs.declared.error.PerfError.TheVariants.{MixedEvents, DataOutOfBounds}
 use Rattle.cfi_perf.specs.declared.error.PerfError.TheVariants.{FeatureOutOfBounds, RecordSize}
-use Rattle.cfi_perf.specs.declared.error.PerfError.TheVariants.{RecordCut, Compressed}
+use Rattle.cfi_perf.specs.declared.error.PerfError.TheVariants.{RecordCut, Compressed, Directory}
 
 -- up to the number
 abbrev pub sentence_of_perf : PerfError → List ℕ
@@ -16,6 +16,7 @@ sentence_of_perf NotPerf = codes "not a profile of perf record"
 sentence_of_perf PipeMode = codes "a pipe whose events don't stand first"
 sentence_of_perf HeaderCut = codes "the profile ends in its header"
 sentence_of_perf (HeaderSize size) = codes "a header of size "
+sentence_of_perf Directory = codes "the samples are in other files of the folder"
 sentence_of_perf (AttributeSize size) = codes "events of size "
 sentence_of_perf AttributesOutOfBounds = codes "the events go past the file's end"
 sentence_of_perf NoEvents = codes "the profile has no events"

@@ -1,7 +1,7 @@
 -- The header of a profile (perf.data-file-format.txt).
 --     records_section bytes      where the records begin and end, by the header
 use Rattle.std.specs.Prelude.{ℕ, ◌+◌, ◌-◌, ◌^◌, not, List, codes, drop, min, Option, Result, Ok}
-use Rattle.std.specs.Prelude.{Err, nat_eq, ◌==◌, if◌then◌else◌}
+use Rattle.std.specs.Prelude.{Err, bit_and, nat_eq, ◌==◌, if◌then◌else◌}
 use Rattle.std.specs.List.{starts_with}
 use Rattle.std.specs.Result.{result_ok}
 use Rattle.std.specs.Int.{w64}
@@ -13,7 +13,7 @@ use Rattle.cfi_read_core.specs.Numbers.{unsigned}
 use Rattle.cfi_read_core.specs.ReaderCalls.{map_ok}
 use Rattle.cfi_perf.specs.declared.error.PerfError.{PerfError}
 use Rattle.cfi_perf.specs.declared.error.PerfError.TheVariants.{NotPerf, HeaderCut}
-use Rattle.cfi_perf.specs.declared.error.PerfError.TheVariants.{HeaderSize}
+use Rattle.cfi_perf.specs.declared.error.PerfError.TheVariants.{HeaderSize, Directory}
 use Rattle.cfi_perf.specs.declared.file_header.FileSection.{FileSection}
 use Rattle.cfi_perf.specs.declared.file_header.FileHeader.{FileHeader}
 use Rattle.cfi_perf.specs.Results.{and_then, or_error, read_from}
@@ -51,12 +51,18 @@ header_fields = do
   features ← feature_bits
   give (record { attr_size = attr_size; attrs = attrs; records = records; features = features })
 
+-- HEADER_DIR_FORMAT, bit 24, says that the samples are in other files, beside this one
+abbrev pub of_one_file : FileHeader → Result FileHeader PerfError
+of_one_file header = if bit_and header.features 0x1000000 == 0 then Ok header else Err Directory
+
 -- the header, of a file of this byte order
 unfoldable pub file_header : RunTimeEndian → List ℕ → Result FileHeader PerfError
 file_header endian bytes =
     and_then (or_error HeaderCut (read_from (is_big endian) (drop 8 bytes) (unsigned w64))) (λ size.
     if not (size == 104) then Err (HeaderSize size)
-    else or_error HeaderCut (read_from (is_big endian) (drop 16 bytes) header_fields))
+    else
+    and_then (or_error HeaderCut (read_from (is_big endian) (drop 16 bytes) header_fields))
+    of_one_file)
 
 -- where a part begins and where it ends, at the last offset of 64 bits at most
 abbrev pub bounds : FileSection → ℕ × ℕ

@@ -18,6 +18,9 @@ pub enum PerfError {
     HeaderCut,
     /// The header is neither that of a file nor that of a pipe. Carries its size.
     HeaderSize(u64),
+    /// The samples are in other files of the folder (`HEADER_DIR_FORMAT`), as
+    /// `perf record --threads` writes them.
+    Directory,
     /// An event's attributes have too few bytes to say which registers its samples have, as before
     /// Linux 3.7. Carries `attr_size`.
     AttributeSize(u64),
@@ -63,6 +66,7 @@ impl PerfError {
             PerfError::PipeMode => "PipeMode",
             PerfError::HeaderCut => "HeaderCut",
             PerfError::HeaderSize(_) => "HeaderSize",
+            PerfError::Directory => "Directory",
             PerfError::AttributeSize(_) => "AttributeSize",
             PerfError::AttributesOutOfBounds => "AttributesOutOfBounds",
             PerfError::NoEvents => "NoEvents",
@@ -95,6 +99,7 @@ impl PerfError {
             PerfError::PipeMode => "a pipe whose events don't stand first",
             PerfError::HeaderCut => "the profile ends in its header",
             PerfError::HeaderSize(_) => "a header of size ",
+            PerfError::Directory => "the samples are in other files of the folder",
             PerfError::AttributeSize(_) => "events of size ",
             PerfError::AttributesOutOfBounds => "the events go past the file's end",
             PerfError::NoEvents => "the profile has no events",

@@ -2,7 +2,7 @@
 ghost use Rattle.std.specs.Prelude.{◌≡◌};
 ghost use Rattle.cfi_read_core.specs.ReaderCalls.{ReadsValue};
 ghost use Rattle.cfi_perf.specs.FileHeaders.{byte_order, feature_bits, file_header, file_section};
-ghost use Rattle.cfi_perf.specs.FileHeaders.{header_fields};
+ghost use Rattle.cfi_perf.specs.FileHeaders.{header_fields, of_one_file};
 
 use crate::bytes::bytes_from;
 use crate::error::PerfError;
@@ -13,6 +13,9 @@ pub(crate) const FILE_HEADER_SIZE: u64 = 104;
 
 /// The size of the header of a pipe.
 pub(crate) const PIPE_HEADER_SIZE: u64 = 16;
+
+/// The feature bit of a profile in several files of a folder.
+const HEADER_DIR_FORMAT: u64 = 1 << 24;
 
 /// A part of the file.
 #[derive(Clone, Copy, Debug, PartialEq, Eq)]
@@ -47,7 +50,7 @@ pub(crate) fn byte_order(bytes: &[u8]) -> std::result::Result<RunTimeEndian, Per
     }
 }
 
-/// Returns what the header says. Fails with `HeaderCut` or `HeaderSize`.
+/// Returns what the header says. Fails with `HeaderCut`, `HeaderSize` or `Directory`.
 #[tactic(auto, unfolding(crate::specs::FileHeaders::file_header))]
 pub(crate) fn file_header(
     endian: RunTimeEndian,
@@ -64,8 +67,19 @@ pub(crate) fn file_header(
     }
     let mut fields = EndianSlice::new(bytes_from(bytes, 16), endian);
     match read_header_fields(&mut fields) {
-        Ok(header) => Ok(header),
+        Ok(header) => of_one_file(header),
         Err(_) => Err(PerfError::HeaderCut),
+    }
+}
+
+/// Returns the header, if the samples are in its file. Fails with `Directory`.
+fn of_one_file(header: FileHeader) -> std::result::Result<FileHeader, PerfError>
+    ensures { result ≡ of_one_file header }
+{
+    if header.features & HEADER_DIR_FORMAT == 0 {
+        Ok(header)
+    } else {
+        Err(PerfError::Directory)
     }
 }
 

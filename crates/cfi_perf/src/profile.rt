@@ -128,9 +128,10 @@ impl<'input> Profile<'input> {
     /// written to a pipe, the records that say what these do. The records are read one by one, by
     /// the iterator that `records` returns.
     ///
-    /// Fails with `NotPerf`, `HeaderCut` or `HeaderSize` for the header, with `AttributeSize`,
-    /// `AttributesOutOfBounds`, `NoEvents`, `MixedEvents` or, of a pipe, `PipeMode` for the events.
-    /// Does not allocate (`perf.data-file-format.txt`).
+    /// Fails with `NotPerf`, `HeaderCut` or `HeaderSize` for the header, with `Directory` where the
+    /// samples are in other files, with `AttributeSize`, `AttributesOutOfBounds`, `NoEvents`,
+    /// `MixedEvents` or, of a pipe, `PipeMode` for the events. Does not allocate
+    /// (`perf.data-file-format.txt`).
     #[tactic(auto, unfolding(crate::specs::Profiles::profile))]
     pub fn parse(bytes: &'input [u8]) -> Result<Profile<'input>, PerfError>
         ensures { map_ok profile_view result ≡ profile bytes.now }
