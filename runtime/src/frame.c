@@ -278,7 +278,7 @@ static inline enum found step_up(struct walk *walk) {
     return FOUND;
 }
 
-enum found find_caller(struct walk *walk) {
+static inline __attribute__((always_inline)) enum found look_for_caller(struct walk *walk) {
     struct _Unwind_Context *frame = &walk->frame;
     enum found found = step_up(walk);
     if (found == FOUND && is_out_of_order(walk))
@@ -289,4 +289,22 @@ enum found find_caller(struct walk *walk) {
     frame->lsda = walk->facts.lsda_is_indirect ? 0 : walk->facts.lsda;
     frame->args_size = walk->caller.args_size;
     return found;
+}
+
+enum found find_caller(struct walk *walk) {
+    return look_for_caller(walk);
+}
+
+/* ---- backtraces: so little is done with a frame that a call for each would take a good part of it */
+
+/* The last call of trace is for the frame that has no caller. */
+_Unwind_Reason_Code trace_frames(struct walk *walk, _Unwind_Trace_Fn trace, void *argument) {
+    for (;;) {
+        enum found found = look_for_caller(walk);
+        if (found == CORRUPT || trace(&walk->frame, argument) != _URC_NO_REASON)
+            return _URC_FATAL_PHASE1_ERROR;
+        if (found == AT_END)
+            return _URC_END_OF_STACK;
+        go_up(walk);
+    }
 }

@@ -158,18 +158,10 @@ _Unwind_Reason_Code forced_unwind(struct _Unwind_Exception *exception, _Unwind_S
     install(&walk, entry, calls);
 }
 
-/* The last call of trace is for the frame that has no caller. */
 _Unwind_Reason_Code backtrace(_Unwind_Trace_Fn trace, void *argument, const struct entry *entry) {
     struct walk walk;
     begin_walk(&walk, entry);
-    for (;;) {
-        enum found found = find_caller(&walk);
-        if (found == CORRUPT || trace(&walk.frame, argument) != _URC_NO_REASON)
-            return _URC_FATAL_PHASE1_ERROR;
-        if (found == AT_END)
-            return _URC_END_OF_STACK;
-        go_up(&walk);
-    }
+    return trace_frames(&walk, trace, argument);
 }
 
 void _Unwind_DeleteException(struct _Unwind_Exception *exception) {

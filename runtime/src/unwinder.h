@@ -66,6 +66,9 @@ HIDDEN void first_frame(struct walk *walk, const struct entry *entry);
  * is 0. CORRUPT where the unwind information or the stack is. */
 HIDDEN enum found find_caller(struct walk *walk);
 
+/* Calls trace for the frame and those above it, up to the one that has no caller, unless trace stops before. */
+HIDDEN _Unwind_Reason_Code trace_frames(struct walk *walk, _Unwind_Trace_Fn trace, void *argument);
+
 /* Has the context of a frame that isn't plain show all registers. */
 HIDDEN void show_all(struct walk *walk);
 

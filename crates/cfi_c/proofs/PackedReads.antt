@@ -9,8 +9,9 @@ use Rattle.cfi_read_core.specs.ReadFunctions.{Position}
 use Rattle.cfi_state.specs.RulePairs.{rules_of}
 use Rattle.cfi_state.specs.declared.table.rules.RegisterRule.{RegisterRule}
 use Rattle.cfi_expression.specs.declared.error.FrameError.{FrameError}
-use Rattle.cfi_expression.specs.declared.error.FrameError.TheVariants.{UnreadableMemory, UnsupportedSize}
+use Rattle.cfi_expression.specs.declared.error.FrameError.TheVariants.{UnknownRegister, UnreadableMemory, UnsupportedSize}
 use Rattle.cfi_expression.specs.Arithmetic.{displaced}
+use Rattle.cfi_expression.specs.Frames.{known}
 use Rattle.cfi_expression.specs.Stacks.{map_value}
 use Rattle.cfi_step.specs.declared.packed_rows.PackedRow.{PackedRow}
 use Rattle.cfi_step.specs.declared.packed_rules.PackedRule.{PackedRule}
@@ -24,7 +25,7 @@ use Rattle.cfi_step.specs.PackedRules.{eightfold, numbered, pair_of, rule_by}
 use Rattle.cfi_step.proofs.Signatures.{no_bits}
 use Rattle.cfi_c.specs.declared.memory.CfiMemory.{CfiMemory}
 use Rattle.cfi_c.specs.declared.stack.CfiValue.{CfiValue}
-use Rattle.cfi_c.specs.PackedSteps.{Clears, IsCallerBy, IsCallerFrom, IsPcBy, IsPcOf, IsSavedPc, IsValueBy, frame_of}
+use Rattle.cfi_c.specs.PackedSteps.{Clears, IsCallerBy, IsCallerFrom, IsPcBy, IsPcOf, IsSavedPc, IsValueBy, frame_of, values_of}
 use Rattle.cfi_c.specs.PassedMemories.{abi_in, number_in_memory}
 
 -- ---- memory
@@ -158,7 +159,7 @@ module _ (memory : CfiMemory) (cfa : ℕ) (rule : SmallRule) (words : ℤ) (is :
 -- ---- the caller
 
 module _ (memory : CfiMemory) (registers : List CfiValue) (row : PackedRow) where
-  abbrev found_pc : Position → ℕ → Result (Option ℕ) FrameError
+  abbrev pub found_pc : Position → ℕ → Result (Option ℕ) FrameError
   found_pc bytes cfa = return_address (frame_of memory registers) bytes (abi_in memory) (λ (n : ℕ). n) (parts_packed row) cfa (numbered row.numbers.return_address)
 
   abbrev of_pc : ℕ → Option ℕ → Caller
@@ -186,3 +187,23 @@ module _ (memory : CfiMemory) (registers : List CfiValue) (row : PackedRow) wher
   pub without_cfa : (error : FrameError) → ((bytes : Position) → Err error ≡ cfa_of (frame_of memory registers) bytes (abi_in memory) (λ (n : ℕ). n) (parts_packed row).cfa)
       → IsCallerBy memory registers row (Err error)
   without_cfa error of bytes = ap (on_ok (from_cfa bytes)) (of bytes)
+
+  abbrev ok_at : ℕ → Result ℕ FrameError
+  ok_at a = Ok a
+
+  abbrev cfa_from : Result ℕ FrameError → Result ℕ FrameError
+  cfa_from = on_ok (λ (v : ℕ). ok_at (displaced memory.address_size v (eightfold row.numbers.cfa_words)))
+
+  pub quick_cfa : (value k : ℕ) (offset : ℤ) (cfa : ℕ) → memory.address_size ≡ 8 → known (values_of registers) k ≡ Some value → k ≡ row.numbers.cfa_register
+      → offset ≡ eightfold row.numbers.cfa_words → cfa ≡ displaced 8 value offset → (bytes : Position)
+      → Ok cfa ≡ cfa_of (frame_of memory registers) bytes (abi_in memory) (λ (n : ℕ). n) (parts_packed row).cfa
+  quick_cfa value k offset cfa size is same_k same_offset at bytes =
+      let there : known (values_of registers) row.numbers.cfa_register ≡ Some value = subst (λ (j : ℕ). known (values_of registers) j ≡ Some value) same_k is in
+      ap ok_at (at ∙ (ap (λ (z : ℤ). displaced 8 value z) same_offset ∙ ap (λ (s : ℕ). displaced s value (eightfold row.numbers.cfa_words)) (sym size)))
+      ∙ ap (λ (o : Option ℕ). cfa_from (ok_or o (UnknownRegister (numbered row.numbers.cfa_register)))) (sym there)
+
+  pub quick_with_cfa : (cfa : ℕ) (caller : Option Caller)
+      → ((bytes : Position) → Ok cfa ≡ cfa_of (frame_of memory registers) bytes (abi_in memory) (λ (n : ℕ). n) (parts_packed row).cfa)
+      → IfSome caller (λ c. IsCallerFrom memory registers row cfa (Ok c)) → IfSome caller (λ c. IsCallerBy memory registers row (Ok c))
+  quick_with_cfa cfa None of is = tt
+  quick_with_cfa cfa (Some c) of is = with_cfa cfa (Ok c) of is

@@ -4,6 +4,7 @@
 --     plain_of registers      registers, of which none that isn't known has a value
 --     AreOfCaller memory registers row cfa new      the registers of the caller
 --     IsPackedStep memory registers row old new step      a step by a row, which writes registers
+--     IsPlacedBy memory registers row old new old_caller caller end      what C gets of the caller
 --     IsSteppedBy memory registers row old new function old_caller caller end      what C gets
 --     IsSteppedByHeld .. file a rows ..      the same by one of these rows, that of an address of a
 --         file
@@ -104,6 +105,13 @@ module _ (memory : CfiMemory) (registers : List CfiValue) where
         List CfiValue → List CfiValue → Result Caller FrameError → Type 0
     IsPackedStep old new step =
         IsCallerBy step × IfOk step (λ c. AreOfCaller c.cfa new) × OnErr step (new ≡ old)
+
+    abbrev pub IsPlacedBy :
+        List CfiValue → List CfiValue → CfiCaller → CfiCaller → CfiEnd → Type 0
+    IsPlacedBy old new old_caller caller end =
+        (step : Result Caller FrameError) × IsPackedStep old new step
+        × (caller ≡ caller_or old_caller step)
+        × (end ≡ end_by step)
 
     abbrev pub IsSteppedBy :
         List CfiValue → List CfiValue → CfiFunction → CfiCaller → CfiCaller → CfiEnd → Type 0

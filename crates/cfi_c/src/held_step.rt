@@ -1,7 +1,6 @@
 //! The caller of one frame, by a row that a cache holds, in the place of the frame.
 ghost use Rattle.std.specs.Prelude.{◌≡◌, ◌*◌, ◌≤◌, length, false, true};
 ghost use Rattle.std.specs.Option.{option_map};
-ghost use Rattle.cfi_read_core.specs.Addresses.{IsAddressSize};
 ghost use Rattle.cfi_step.specs.PackedRows.{rows_in};
 ghost use Rattle.cfi_step.specs.Steps.{row_address};
 ghost use Rattle.cfi_c.specs.CachedSteps.{IsCachedFor, held_rows, rows_of};
@@ -49,7 +48,7 @@ pub extern "C" fn cfi_step_held(
         (registers.new ≡ registers.old) × (caller.new ≡ caller.old) }
     ensures kept { rows_of cache.new ≡ rows_of cache.old }
 {
-    if registers.len() > 256 || memory.address_size != 8 {
+    if registers.len() > 256 || memory.address_size != 8 || !cache.live {
         return false;
     }
     let held = mem::replace(cache, CfiCache::of(alloc, None)).into_box();
@@ -73,7 +72,7 @@ fn step_by_held(
     caller: &mut CfiCaller,
     end: &mut CfiEnd,
 ) -> bool
-    requires size { IsAddressSize memory.now.address_size }
+    requires size { memory.now.address_size ≡ 8 }
     requires room { length registers.old ≤ 256 }
     ensures stepped { result ≡ true → IsSteppedByHeld memory.now file address
         (held_rows (option_map (λ cache. cache.value) held.now)) registers.old
@@ -109,7 +108,7 @@ fn step_by_rows(
     caller: &mut CfiCaller,
     end: &mut CfiEnd,
 ) -> bool
-    requires size { IsAddressSize memory.now.address_size }
+    requires size { memory.now.address_size ≡ 8 }
     requires room { length registers.old ≤ 256 }
     ensures stepped { result ≡ true →
         IsSteppedByHeld memory.now file address (rows_in rows.now) registers.old

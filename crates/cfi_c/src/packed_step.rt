@@ -1,5 +1,6 @@
 //! The caller of one frame, by a packed row, from C's values to C's values.
-ghost use Rattle.std.specs.Prelude.{◌≡◌, ◌≤◌, ℕ, Bool, List, Ok, length, slice_set};
+ghost use Rattle.std.specs.Prelude.{◌≡◌, ◌≤◌, ℕ, Bool, IfSome, List, None, Ok, Some, length};
+ghost use Rattle.std.specs.Prelude.{slice_set};
 ghost use Rattle.std.specs.FinMap.{get};
 ghost use Rattle.std.specs.Option.{option_map};
 ghost use Rattle.cfi_read_core.specs.Addresses.{IsAddressSize};
@@ -9,17 +10,17 @@ ghost use Rattle.cfi_expression.specs.Frames.{known};
 ghost use Rattle.cfi_expression.specs.declared.error.FrameError.TheVariants.{UnknownRegister};
 ghost use Rattle.cfi_step.specs.Callers.{by_rule, cfa_of, given, is_signed, return_address};
 ghost use Rattle.cfi_step.specs.Callers.{without_rule};
-ghost use Rattle.cfi_step.specs.PackedRows.{parts_packed};
+ghost use Rattle.cfi_step.specs.PackedRows.{function_packed, listed, parts_packed};
 ghost use Rattle.cfi_step.specs.PackedRules.{eightfold, numbered, pair_of, rule_by};
 ghost use Rattle.cfi_c.specs.FirstWindows.{IsFirst};
 ghost use Rattle.cfi_c.specs.declared.stack.CfiValue.{CfiValue};
 ghost use Rattle.cfi_c.specs.PackedSteps.{AreOfCaller, Clears, IsCallerBy, IsCallerFrom, IsPcBy};
-ghost use Rattle.cfi_c.specs.PackedSteps.{IsPcOf, IsSavedPc, IsValueBy};
+ghost use Rattle.cfi_c.specs.PackedSteps.{IsPcOf, IsPlacedBy, IsSavedPc, IsValueBy};
 ghost use Rattle.cfi_c.specs.PackedSteps.{IsSteppedBy, frame_of, plain_of, values_of};
 ghost use Rattle.cfi_c.specs.PassedMemories.{abi_in, number_in_memory};
 ghost use Rattle.cfi_c.specs.PassedStacks.{known_value};
 ghost use Rattle.cfi_c.specs.SteppedFrames.{AreValues, caller_or, end_at};
-ghost use Rattle.cfi_c.specs.SteppedFrames.{written_value};
+ghost use Rattle.cfi_c.specs.SteppedFrames.{written_function, written_value};
 
 use crate::first_window::FirstWindow;
 use crate::function::{CfiFunction, written_function};
@@ -27,7 +28,7 @@ use crate::memory::CfiMemory;
 use crate::stack::{CfiEnd, CfiValue, failed_end, known_value};
 use crate::step::{CfiCaller, NONE};
 use cfi_step::packed_rules::{eightfold, rule_of};
-use cfi_step::{Caller, FrameError, Memory, PackedRow, PackedRule, SmallRule};
+use cfi_step::{Caller, FrameError, Function, Memory, PackedRow, PackedRule, SmallRule};
 use gimli_cfi::{ReaderAddress, Register};
 
 /// The number of `RA_SIGN_STATE`.
@@ -73,21 +74,186 @@ pub fn step_in_place(
     caller: &mut CfiCaller,
     end: &mut CfiEnd,
 )
-    requires size { IsAddressSize memory.now.address_size }
+    requires size { memory.now.address_size ≡ 8 }
     requires room { length registers.old ≤ 256 }
     ensures { IsSteppedBy memory.now registers.old row.now (plain_of registers.old)
         (plain_of registers.new) function.new caller.old caller.new end.new }
 {
-    *function = written_function(Some(row.function()));
+    let first = FirstWindow::of(memory);
+    let rules = row.rules();
+    write_function(row, function);
+    match quick_caller(row, rules, memory, &first, registers) {
+        Some(found) => {
+            write_caller(caller, found);
+            write_end(end, found.pc);
+            write_ruled(row, rules, memory, &first, found.cfa, registers);
+        }
+        None => step_by_any(row, memory, registers, caller, end),
+    }
+}
+
+/// The same without the function, whatever the row and the memory are.
+#[inline(never)]
+fn step_by_any(
+    row: &PackedRow,
+    memory: &CfiMemory<'_>,
+    registers: &mut [CfiValue],
+    caller: &mut CfiCaller,
+    end: &mut CfiEnd,
+)
+    requires size { IsAddressSize memory.now.address_size }
+    requires room { length registers.old ≤ 256 }
+    ensures { IsPlacedBy memory.now registers.old row.now (plain_of registers.old)
+        (plain_of registers.new) caller.old caller.new end.new }
+{
     let first = FirstWindow::of(memory);
     match caller_by(row, memory, &first, registers) {
         Ok(found) => {
-            write_ruled(row, memory, &first, found.cfa, registers);
+            write_ruled(row, row.rules(), memory, &first, found.cfa, registers);
             write_caller(caller, found);
             write_end(end, found.pc);
         }
         Err(error) => *end = failed_end(error),
     }
+}
+
+/// Writes what the row says of the function.
+#[inline(always)]
+fn write_function(row: &PackedRow, function: &mut CfiFunction)
+    ensures { function.new ≡ written_function (Some (function_packed row.now)) }
+{
+    match row.plain_function() {
+        Some(plain) => write_plain(plain, function),
+        None => write_any_function(row, function),
+    }
+}
+
+/// Writes a function that has no pointers.
+#[inline(always)]
+fn write_plain(plain: Function, function: &mut CfiFunction)
+    requires lsda { plain.lsda ≡ None }
+    requires personality { plain.personality ≡ None }
+    ensures { function.new ≡ written_function (Some plain) }
+{
+    // a field at a time, as in `write_into`
+    function.start = plain.start;
+    function.end = plain.end;
+    function.lsda = 0;
+    function.personality = 0;
+    function.fde = plain.offset;
+    function.return_address = plain.return_address.0;
+    function.is_known = true;
+    function.has_lsda = false;
+    function.has_personality = false;
+    function.lsda_is_indirect = false;
+    function.personality_is_indirect = false;
+    function.is_signal_trampoline = plain.is_signal_trampoline;
+}
+
+/// Writes any function.
+#[inline(never)]
+fn write_any_function(row: &PackedRow, function: &mut CfiFunction)
+    ensures { function.new ≡ written_function (Some (function_packed row.now)) }
+{
+    *function = written_function(Some(row.function()));
+}
+
+/// The caller, if its pc is saved in the first window, as most are.
+#[inline(always)]
+fn quick_caller(
+    row: &PackedRow,
+    rules: &[PackedRule],
+    memory: &CfiMemory<'_>,
+    first: &FirstWindow<'_>,
+    registers: &[CfiValue],
+) -> Option<Caller>
+    requires size { memory.now.address_size ≡ 8 }
+    requires first { IsFirst memory.now first.now }
+    requires rules { rules.now ≡ listed row.now.numbers }
+    ensures { IfSome result (λ caller. IsCallerBy memory.now registers.now row.now (Ok caller)) }
+{
+    match quick_frame_address(row, memory, registers) {
+        Some(cfa) => quick_caller_from(row, rules, memory, first, registers, cfa),
+        None => None,
+    }
+}
+
+/// The canonical frame address, if it is known.
+#[inline(always)]
+fn quick_frame_address(
+    row: &PackedRow,
+    memory: &CfiMemory<'_>,
+    registers: &[CfiValue],
+) -> Option<u64>
+    requires size { memory.now.address_size ≡ 8 }
+    ensures { IfSome result (λ cfa. (bytes : Position) → Ok cfa
+        ≡ cfa_of (frame_of memory.now registers.now) bytes (abi_in memory.now) (λ (n : ℕ). n)
+        (parts_packed row.now).cfa) }
+{
+    match known(registers, row.cfa_register()) {
+        // addresses have eight bytes, as `size` says
+        Some(value) => Some(displaced(value, row.cfa_offset(), 8)),
+        None => None,
+    }
+}
+
+/// The caller of a frame with this CFA, if its pc is saved in the first window.
+#[inline(always)]
+fn quick_caller_from(
+    row: &PackedRow,
+    rules: &[PackedRule],
+    memory: &CfiMemory<'_>,
+    first: &FirstWindow<'_>,
+    registers: &[CfiValue],
+    cfa: u64,
+) -> Option<Caller>
+    requires size { memory.now.address_size ≡ 8 }
+    requires first { IsFirst memory.now first.now }
+    requires rules { rules.now ≡ listed row.now.numbers }
+    ensures { IfSome result (λ caller.
+        IsCallerFrom memory.now registers.now row.now cfa (Ok caller)) }
+{
+    match quick_pc(row, rules, memory, first, registers, cfa) {
+        Some(pc) => {
+            let is_interrupted = row.is_signal_trampoline();
+            let args_size = row.args_size();
+            Some(Caller {
+                cfa,
+                pc: Some(pc),
+                is_interrupted,
+                args_size,
+            })
+        }
+        None => None,
+    }
+}
+
+/// The pc of the caller, if it is saved in the first window.
+#[inline(always)]
+fn quick_pc(
+    row: &PackedRow,
+    rules: &[PackedRule],
+    memory: &CfiMemory<'_>,
+    first: &FirstWindow<'_>,
+    registers: &[CfiValue],
+    cfa: u64,
+) -> Option<u64>
+    requires size { memory.now.address_size ≡ 8 }
+    requires first { IsFirst memory.now first.now }
+    requires rules { rules.now ≡ listed row.now.numbers }
+    ensures { IfSome result (λ pc. (bytes : Position) → Ok (Some pc)
+        ≡ return_address (frame_of memory.now registers.now) bytes (abi_in memory.now)
+        (λ (n : ℕ). n) (parts_packed row.now) cfa (numbered row.now.numbers.return_address)) }
+{
+    let signature = signature_of(row, memory);
+    let register = row.return_address();
+    let rule = rule_of(rules, register);
+    if let Some(SmallRule::Offset(words)) = rule {
+        if let Some(pc) = first.number_at(cfa, words) {
+            return Some(pc & !signature);
+        }
+    }
+    None
 }
 
 /// Writes where the caller goes on.
@@ -314,13 +480,14 @@ fn write_registers(
     ensures { AreOfCaller memory.now registers.now row.now cfa caller.new }
 {
     copy_values(registers, caller);
-    write_ruled(row, memory, first, cfa, caller);
+    write_ruled(row, row.rules(), memory, first, cfa, caller);
 }
 
 /// Writes those registers that aren't what they are in the frame.
 #[inline(always)]
 fn write_ruled(
     row: &PackedRow,
+    rules: &[PackedRule],
     memory: &CfiMemory<'_>,
     first: &FirstWindow<'_>,
     cfa: u64,
@@ -328,13 +495,13 @@ fn write_ruled(
 )
     requires size { IsAddressSize memory.now.address_size }
     requires first { IsFirst memory.now first.now }
+    requires rules { rules.now ≡ listed row.now.numbers }
     ensures copied { (registers : List CfiValue) → AreValues (values_of registers) caller.old →
         AreOfCaller memory.now registers row.now cfa caller.new }
     ensures in_place { AreOfCaller memory.now caller.old row.now cfa (plain_of caller.new) }
 {
     write_at(caller, usize::from(memory.stack_pointer), Some(cfa));
     // from the last rule to the first, which is the one that holds if a register has two
-    let rules = row.rules();
     for index in (0..rules.len()).rev() {
         write_by_rule(rules[index], memory, first, cfa, caller);
     }

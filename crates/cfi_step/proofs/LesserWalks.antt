@@ -45,7 +45,7 @@ use Rattle.cfi_step.specs.Callers.{AreRecovered, by_rule, cfa_of, expression_val
 use Rattle.cfi_step.specs.Modules.{IsStepByDebug, IsStepByFde, IsStepIn, IsStepOr, IsStepVia, address_in_file, first_module, module_section, no_fde}
 use Rattle.cfi_step.specs.Steps.{IsCallerBy, IsStepBy, caller_by}
 use Rattle.cfi_step.specs.StepsByTable.{IsStepByFrame}
-use Rattle.cfi_step.specs.Walks.{IsStepAmong, IsStepOf, IsStepOver, IsWalkAmong, State, checked, resumed, resumed_at, address_of}
+use Rattle.cfi_step.specs.Walks.{IsStepAmong, IsStepOf, IsStepOver, IsWalkAmong, IsWalkBy, State, checked, resumed, resumed_at, written, address_of}
 
 -- ---- one result after the other
 
@@ -266,12 +266,16 @@ abbrev pub lacks_end : End → Bool
 lacks_end (Failed e) = is_lacking e
 lacks_end end = false
 
-abbrev lacks_step : Result Caller End → Bool
-lacks_step (Ok c) = false
-lacks_step (Err end) = lacks_end end
+-- the same of a step, by which ends lack something
+abbrev pub lacks_by : (End → Bool) → Result Caller End → Bool
+lacks_by lacking (Ok c) = false
+lacks_by lacking (Err end) = lacking end
+
+abbrev pub lacks_step : Result Caller End → Bool
+lacks_step = lacks_by lacks_end
 
 -- what a step writes where more is known
-abbrev Goes : Result Caller End → List (Option ℕ) → List (Option ℕ) → Type 0
+abbrev pub Goes : Result Caller End → List (Option ℕ) → List (Option ℕ) → Type 0
 Goes (Ok c) found found' = (length found ≡ length found') × AreKnown found found'
 Goes (Err end) found found' = Unit {0}
 
@@ -292,33 +296,34 @@ left_after : (raw : Result Caller FrameError) (room found found' : List (Option 
 left_after (Ok c) room found found' follows = tt
 left_after (Err e) room found found' is = is
 
-last_whole : (step : Result Caller End) (end : End) → resumed step ≡ Err end → lacks_end end ≡ false → lacks_step step ≡ false
-last_whole (Ok c) end is whole = refl
-last_whole (Err e) end is whole = let same : e ≡ end = cc in ap lacks_end same ∙ whole
+last_whole : (lacking : End → Bool) (step : Result Caller End) (end : End) → resumed step ≡ Err end → lacking end ≡ false → lacks_by lacking step ≡ false
+last_whole lacking (Ok c) end is whole = refl
+last_whole lacking (Err e) end is whole = let same : e ≡ end = cc in ap lacking same ∙ whole
 
-next_whole : (step : Result Caller End) (next : Start) → resumed step ≡ Ok next → lacks_step step ≡ false
-next_whole (Ok c) next is = refl
-next_whole (Err e) next is = absurd (cc)
+next_whole : (lacking : End → Bool) (step : Result Caller End) (next : Start) → resumed step ≡ Ok next → lacks_by lacking step ≡ false
+next_whole lacking (Ok c) next is = refl
+next_whole lacking (Err e) next is = absurd (cc)
 
 next_goes : (step : Result Caller End) (next : Start) (found found' : List (Option ℕ)) → resumed step ≡ Ok next → Goes step found found' → (length found ≡ length found') × AreKnown found found'
 next_goes (Ok c) next found found' is goes = goes
 next_goes (Err e) next found found' is goes = absurd (cc)
 
-module _ {R T : Type 0} (position : R → Position) (number : T → ℕ) {m m' : ℕ → ℕ → Option ℕ} (more : Extends m m') (size : ℕ) (abi : Abi) (rule_limit stack_limit : Option ℕ) (copies_free : Bool) (modules : List (LoadedModule R)) where
-  abbrev IsLess : State → Result Caller End → List (Option ℕ) → Type 0
-  IsLess = IsStepAmong position number m size abi rule_limit stack_limit copies_free modules
+abbrev pub state : Start → List (Option ℕ) → List (Option ℕ) → State
+state at rs room = record { at = at; registers = rs; caller = room }
 
-  abbrev IsAll : State → Result Caller End → List (Option ℕ) → Type 0
-  IsAll = IsStepAmong position number m' size abi rule_limit stack_limit copies_free modules
+-- the same step where more is known
+pub record Stepped (IsStep : List (Option ℕ) → Type 0) (step : Result Caller End) (found : List (Option ℕ)) : Type 0 where
+  pub written : List (Option ℕ)
+  pub is_step : IsStep written
+  pub goes : Goes step found written
 
-  abbrev state : Start → List (Option ℕ) → List (Option ℕ) → State
-  state at rs room = record { at = at; registers = rs; caller = room }
+-- each step that ends for nothing that is lacking is also one where more is known
+abbrev pub AreMore : (End → Bool) → (State → Result Caller End → List (Option ℕ) → Type 0) → (State → Result Caller End → List (Option ℕ) → Type 0) → Type 0
+AreMore lacking IsLess IsAll =
+    (at : Start) (rs rs' room room' : List (Option ℕ)) → AreKnown rs rs' → length room ≡ length room' → (step : Result Caller End) (found : List (Option ℕ)) → lacks_by lacking step ≡ false
+    → IsLess (state at rs room) step found → Stepped (IsAll (state at rs' room') step) step found
 
-  record Stepped (IsStep : List (Option ℕ) → Type 0) (step : Result Caller End) (found : List (Option ℕ)) : Type 0 where
-    written : List (Option ℕ)
-    is_step : IsStep written
-    goes : Goes step found written
-
+module _ {R T : Type 0} (position : R → Position) (number : T → ℕ) {m m' : ℕ → ℕ → Option ℕ} (more : Extends m m') (size : ℕ) (abi : Abi) (rule_limit stack_limit : Option ℕ) (copies_free : Bool) where
   by_module : (at : Start) (rs rs' room room' : List (Option ℕ)) → AreKnown rs rs' → length room ≡ length room' → (loaded : Option (LoadedModule R)) (step : Result Caller End) (found : List (Option ℕ)) → lacks_step step ≡ false
       → IsStepOf (IsStepOver position number m size abi rule_limit stack_limit copies_free) loaded (state at rs room) step found
       → Stepped (IsStepOf (IsStepOver position number m' size abi rule_limit stack_limit copies_free) loaded (state at rs' room') step) step found
@@ -335,30 +340,49 @@ module _ {R T : Type 0} (position : R → Position) (number : T → ℕ) {m m' :
         goes = goes_on raw at step room room' found m.written checks long same m.follows;
       }
 
-  step_more : (at : Start) (rs rs' room room' : List (Option ℕ)) → AreKnown rs rs' → length room ≡ length room' → (step : Result Caller End) (found : List (Option ℕ)) → lacks_step step ≡ false → IsLess (state at rs room) step found
-      → Stepped (IsAll (state at rs' room') step) step found
-  step_more at rs rs' room room' are same step found whole is = by_module at rs rs' room room' are same (first_module modules (address_of (state at rs room))) step found whole is
+  module _ (modules : List (LoadedModule R)) where
+    abbrev pub IsLess : State → Result Caller End → List (Option ℕ) → Type 0
+    IsLess = IsStepAmong position number m size abi rule_limit stack_limit copies_free modules
 
+    abbrev pub IsAll : State → Result Caller End → List (Option ℕ) → Type 0
+    IsAll = IsStepAmong position number m' size abi rule_limit stack_limit copies_free modules
+
+    pub steps_more : AreMore lacks_end IsLess IsAll
+    steps_more at rs rs' room room' are same step found whole is = by_module at rs rs' room room' are same (first_module modules (address_of (state at rs room))) step found whole is
+
+-- ---- by any steps
+
+module _ (lacking : End → Bool) (IsLess IsAll : State → Result Caller End → List (Option ℕ) → Type 0) (more : AreMore lacking IsLess IsAll) where
   -- the same frames, and the same end; more registers may be known in the last one
   pub record Walked (s : State) (frames : List StackFrame) (end : End) : Type 0 where
     pub registers : List (Option ℕ)
     pub caller : List (Option ℕ)
-    pub walked : IsWalkAmong position number m' size abi rule_limit stack_limit copies_free modules s frames end registers caller
+    pub walked : IsWalkBy written IsAll s frames end registers caller
 
-  walk_more : (frames : List StackFrame) (at : Start) (rs rs' room room' registers caller : List (Option ℕ)) (end : End) → AreKnown rs rs' → length room ≡ length room' → lacks_end end ≡ false
-      → IsWalkAmong position number m size abi rule_limit stack_limit copies_free modules (state at rs room) frames end registers caller → Walked (state at rs' room') frames end
+  walk_more : (frames : List StackFrame) (at : Start) (rs rs' room room' registers caller : List (Option ℕ)) (end : End) → AreKnown rs rs' → length room ≡ length room' → lacking end ≡ false
+      → IsWalkBy written IsLess (state at rs room) frames end registers caller → Walked (state at rs' room') frames end
   walk_more [] at rs rs' room room' registers caller end are same whole (full, left, left_too) = record { registers = rs'; caller = room'; walked = (full, refl, refl) }
   walk_more (frame ∷ frames) at rs rs' room room' registers caller end are same whole (step, found, is, shown, inl (none, ends, left, left_too)) =
-      let s = step_more at rs rs' room room' are same step found (last_whole step end ends whole) is in
+      let s = more at rs rs' room room' are same step found (last_whole lacking step end ends whole) is in
       record { registers = rs'; caller = s.written; walked = (step, s.written, s.is_step, shown, inl (none, ends, refl, refl)) }
   walk_more (frame ∷ frames) at rs rs' room room' registers caller end are same whole (step, found, is, shown, inr (next, goes, rest)) =
-      let s = step_more at rs rs' room room' are same step found (next_whole step next goes) is in
+      let s = more at rs rs' room room' are same step found (next_whole lacking step next goes) is in
       let (long, known) = next_goes step next found s.written goes s.goes in
       let w = walk_more frames next found s.written found s.written registers caller end known long whole rest in
       record { registers = w.registers; caller = w.caller; walked = (step, s.written, s.is_step, shown, inr (next, goes, w.walked)) }
 
   -- a walk over less memory that ends for nothing that is lacking is one over more
-  pub walk_over_more : (s : State) (frames : List StackFrame) (end : End) (registers caller : List (Option ℕ)) → lacks_end end ≡ false
-      → IsWalkAmong position number m size abi rule_limit stack_limit copies_free modules s frames end registers caller → Walked s frames end
-  walk_over_more s frames end registers caller whole is =
+  pub walk_by_more : (s : State) (frames : List StackFrame) (end : End) (registers caller : List (Option ℕ)) → lacking end ≡ false → IsWalkBy written IsLess s frames end registers caller → Walked s frames end
+  walk_by_more s frames end registers caller whole is =
       walk_more frames s.at s.registers s.registers s.caller s.caller registers caller end (record { each = λ k n there. there }) refl whole is
+
+-- ---- in modules
+
+module _ {R T : Type 0} (position : R → Position) (number : T → ℕ) {m m' : ℕ → ℕ → Option ℕ} (more : Extends m m') (size : ℕ) (abi : Abi) (rule_limit stack_limit : Option ℕ) (copies_free : Bool) (modules : List (LoadedModule R)) where
+  pub walk_over_more : (s : State) (frames : List StackFrame) (end : End) (registers caller : List (Option ℕ)) → lacks_end end ≡ false
+      → IsWalkAmong position number m size abi rule_limit stack_limit copies_free modules s frames end registers caller
+      → Walked lacks_end (IsLess position number more size abi rule_limit stack_limit copies_free modules) (IsAll position number more size abi rule_limit stack_limit copies_free modules)
+      (steps_more position number more size abi rule_limit stack_limit copies_free modules) s frames end
+  walk_over_more =
+      walk_by_more lacks_end (IsLess position number more size abi rule_limit stack_limit copies_free modules) (IsAll position number more size abi rule_limit stack_limit copies_free modules)
+      (steps_more position number more size abi rule_limit stack_limit copies_free modules)

@@ -8,4 +8,5 @@ pub mod KeptRows
 pub mod OrSteps
 pub mod Walking
 pub mod PackedKeeps
+mod PlainFunctions
 pub mod LesserWalks

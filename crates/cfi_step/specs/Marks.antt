@@ -3,8 +3,9 @@
 -- pushed arguments in words of eight bytes.
 --     rule_count, lsda_kind, personality_kind, is_trampoline, has_row, args_size marks      each of
 --         them
+--     is_plain marks      neither pointer is there
 --     HasCounts rules pushed marks      the two numbers are these
-use Rattle.std.specs.Prelude.{◌≡◌, ℕ, ◌*◌, ◌/◌, ◌%◌, ◌==◌, Bool, if◌then◌else◌}
+use Rattle.std.specs.Prelude.{◌≡◌, ℕ, ◌*◌, ◌/◌, ◌%◌, ◌==◌, Bool, ◌&&◌, if◌then◌else◌}
 use Rattle.cfi_step.specs.declared.marks.Marks.{Marks}
 use Rattle.cfi_step.specs.declared.marks.PointerKind.{PointerKind}
 use Rattle.cfi_step.specs.declared.marks.PointerKind.TheVariants as pointer
@@ -21,6 +22,9 @@ module _ (marks : Marks) where
 
   abbrev pub personality_kind : PointerKind
   personality_kind = kind_by (marks.bits / 64 % 4)
+
+  abbrev pub is_plain : Bool
+  is_plain = (marks.bits / 16 % 4 == 0) && (marks.bits / 64 % 4 == 0)
 
   abbrev pub is_trampoline : Bool
   is_trampoline = marks.bits / 256 % 2 == 1

@@ -2,6 +2,8 @@
 -- in the file (DWARF 5 section 6.4.1; LSB Core, "The Frame Description Entry Format").
 --     parts_packed row, function_packed row      what a packed row says of the caller, and of the
 --         function
+--     without_pointers row      the function, but for its pointers
+--     plain_packed row      the function, if it has no pointers
 --     HoldsRow file a row      it is the row of an address of a file
 --     HoldsAtMost file a parts function row      it is the row that says this, or none
 --     KeepsRow file a parts function old new      a row that says this may have been kept
@@ -12,7 +14,7 @@
 --         file has may have been kept
 --     AreEmpty rows      none is a row
 use Rattle.std.specs.Prelude.{◌≡◌, ◌⊎◌, ℕ, ℤ, Bool, false, true, List, map, Option, Some, None}
-use Rattle.std.specs.Prelude.{Result, Ok, Err, IfOk, slice_set, take}
+use Rattle.std.specs.Prelude.{Result, Ok, Err, IfOk, slice_set, take, if◌then◌else◌}
 use Rattle.std.specs.List.{All}
 use Rattle.cfi_read_core.specs.declared.error.Error.{Error}
 use Rattle.cfi_read_core.specs.ReadFunctions.{Position}
@@ -38,7 +40,7 @@ use Rattle.cfi_step.specs.declared.row_cache.RowCache.{RowCache}
 use Rattle.cfi_step.specs.Functions.{function_of}
 use Rattle.cfi_step.specs.Modules.{IsFoundIn, module_section}
 use Rattle.cfi_step.specs.Marks.{args_size, has_row, is_trampoline, lsda_kind, personality_kind}
-use Rattle.cfi_step.specs.Marks.{rule_count}
+use Rattle.cfi_step.specs.Marks.{is_plain, rule_count}
 use Rattle.cfi_step.specs.PackedRules.{eightfold, numbered, pair_of}
 
 -- ---- a packed row
@@ -81,6 +83,20 @@ function_packed row = record {
   is_signal_trampoline = is_trampoline row.numbers.marks;
   offset = row.numbers.fde;
 }
+
+abbrev pub without_pointers : PackedRow → Function
+without_pointers row = record {
+  start = near row row.distances.start;
+  end = near row row.distances.end;
+  lsda = None;
+  personality = None;
+  return_address = numbered row.numbers.return_address;
+  is_signal_trampoline = is_trampoline row.numbers.marks;
+  offset = row.numbers.fde;
+}
+
+abbrev pub plain_packed : PackedRow → Option Function
+plain_packed row = if is_plain row.numbers.marks then Some (function_packed row) else None
 
 abbrev pub is_kept : PackedRow → Bool
 is_kept row = has_row row.numbers.marks

@@ -25,7 +25,7 @@ pub struct Marks {
 
 impl Marks {
     ghost use Rattle.std.specs.Prelude.{◌≡◌, false};
-    ghost use Rattle.cfi_step.specs.Marks.{args_size, has_row, is_trampoline, lsda_kind};
+    ghost use Rattle.cfi_step.specs.Marks.{args_size, has_row, is_plain, is_trampoline, lsda_kind};
     ghost use Rattle.cfi_step.specs.Marks.{personality_kind, rule_count};
 
     /// Those of no row.
@@ -75,6 +75,14 @@ impl Marks {
         ensures { result ≡ personality_kind self }
     {
         kind_by(self.bits / 64 % 4)
+    }
+
+    /// Whether neither pointer is there.
+    #[inline(always)]
+    pub fn is_plain(self) -> bool
+        ensures { result ≡ is_plain self }
+    {
+        self.bits / 16 % 4 == 0 && self.bits / 64 % 4 == 0
     }
 
     /// Whether the function is a signal trampoline.

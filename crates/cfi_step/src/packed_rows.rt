@@ -56,10 +56,11 @@ pub struct PackedRow {
 }
 
 impl PackedRow {
-    ghost use Rattle.std.specs.Prelude.{◌≡◌, ◌↔◌, IsTrue, false};
+    ghost use Rattle.std.specs.Prelude.{◌≡◌, ◌↔◌, IfSome, IsTrue, None, false};
     ghost use Rattle.cfi_step.specs.Marks.{has_row, is_trampoline};
     ghost use Rattle.cfi_step.specs.PackedRows.{HoldsAtMost, HoldsRow, function_packed};
-    ghost use Rattle.cfi_step.specs.PackedRows.{is_kept, listed, parts_packed};
+    ghost use Rattle.cfi_step.specs.PackedRows.{is_kept, listed, parts_packed, plain_packed};
+    ghost use Rattle.cfi_step.specs.PackedRows.{without_pointers};
     ghost use Rattle.cfi_step.specs.PackedRules.{eightfold};
 
     /// No row. Does not allocate.
@@ -187,6 +188,37 @@ impl PackedRow {
             ),
             return_address: Register(u16::from(self.numbers.return_address)),
             is_signal_trampoline: marks.is_signal_trampoline(),
+            offset: u64::from(self.numbers.fde),
+        }
+    }
+
+    /// The same, if the FDE has neither a language-specific data area nor a personality routine.
+    #[inline(always)]
+    pub fn plain_function(&self) -> Option<Function>
+        ensures function { result ≡ plain_packed self.now }
+        ensures plain { IfSome result (λ plain. (plain ≡ function_packed self.now)
+            × (plain.lsda ≡ None) × (plain.personality ≡ None)) }
+    {
+        if self.numbers.marks.is_plain() {
+            return Some(self.without_pointers());
+        }
+        None
+    }
+
+    /// What the FDE says of the function but for its pointers.
+    #[inline(always)]
+    fn without_pointers(&self) -> Function
+        ensures { result ≡ without_pointers self.now }
+    {
+        let address = self.address;
+        let distances = self.distances;
+        Function {
+            start: displaced(address, distances.start),
+            end: displaced(address, distances.end),
+            lsda: None,
+            personality: None,
+            return_address: Register(u16::from(self.numbers.return_address)),
+            is_signal_trampoline: self.numbers.marks.is_signal_trampoline(),
             offset: u64::from(self.numbers.fde),
         }
     }

@@ -188,9 +188,7 @@ fn is_free(rows: &[PackedRow], index: usize) -> bool {
 /// The file and the address, mixed.
 #[inline(always)]
 fn spread_of(file: u64, address: u64) -> u64 {
-    address
-        .wrapping_add(file.wrapping_mul(SPREAD))
-        .wrapping_mul(SPREAD)
+    address.wrapping_add(file).wrapping_mul(SPREAD)
 }
 
 /// Where the first of the two sets begins among so many rows. Each row holds its file and address,

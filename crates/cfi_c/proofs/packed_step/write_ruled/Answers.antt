@@ -15,7 +15,7 @@ nothing = record { register = 0; words = pos 0 }
 
 pub loop-index-init : goal.loop-index-init
 loop-index-init c =
-    let rules = c.rules-rules.result.now in
+    let rules = c.args.rules.now in
     let memory = c.args.memory.now in
     let old = c.args.caller.now in
     let written : c.write_at.new.caller ≡ slice_set old memory.stack_pointer (written_value (Some c.args.cfa)) =
@@ -29,7 +29,7 @@ loop-index-init c =
 pub loop-index-preserved : goal.loop-index-preserved
 loop-index-preserved c =
     let memory = c.args.memory.now in
-    let rules = c.rules-rules.result.now in
+    let rules = c.args.rules.now in
     let index = c.loop-index.index - 1 in
     let rule = get_or rules index nothing in
     let next : c.loop-index.index ≡ index + 1 = omega (arith, c.loop-index-test.true) in
@@ -49,10 +49,10 @@ loop-index-preserved c =
 
 pub returns-clause-copied : goal.returns-clause-copied
 returns-clause-copied c = λ registers are.
-    by_all c.args.memory.now registers c.args.row.now c.args.cfa c.loop-index.index c.rules-rules.result.now c.loop-index.caller (omega (arith, c.loop-index-test.false))
-    c.rules-rules.ensures (c.loop-index.invariant.0 registers are)
+    by_all c.args.memory.now registers c.args.row.now c.args.cfa c.loop-index.index c.args.rules.now c.loop-index.caller (omega (arith, c.loop-index-test.false))
+    c.requires.rules (c.loop-index.invariant.0 registers are)
 
 pub returns-clause-in_place : goal.returns-clause-in_place
 returns-clause-in_place c =
-    by_all c.args.memory.now c.args.caller.now c.args.row.now c.args.cfa c.loop-index.index c.rules-rules.result.now (plain_of c.loop-index.caller) (omega (arith, c.loop-index-test.false))
-    c.rules-rules.ensures c.loop-index.invariant.1
+    by_all c.args.memory.now c.args.caller.now c.args.row.now c.args.cfa c.loop-index.index c.args.rules.now (plain_of c.loop-index.caller) (omega (arith, c.loop-index-test.false))
+    c.requires.rules c.loop-index.invariant.1
