@@ -1,11 +1,12 @@
 -- The files of a profile, gathered one after the other.
-use Rattle.std.proofs.Common.{◌≡◌, ◌∙◌, ℕ, ◌+◌, ◌<◌, ◌≤◌, ◌||◌, Bool, List, [], ◌∷◌, ◌++◌, Option, length, get_or, drop, map, not, cond, refl, sym, ap, subst, add-one, append-nil, append_assoc}
+use Rattle.std.proofs.Common.{◌≡◌, ◌∙◌, ℕ, ◌+◌, ◌<◌, ◌≤◌, ◌||◌, ◌&&◌, Bool, true, false, List, [], ◌∷◌, ◌++◌, Option, length, get_or, drop, map, not, cond, refl, sym, ap, subst, add-one, append-nil, append_assoc}
 use Rattle.std.proofs.Math.Seq.{drop-cons}
 use Rattle.std.proofs.lemmas.List.{drop_all}
 use Rattle.std.specs.List.{list_any, position_or_len, prefix_len}
-use Rattle.cfi_processes.specs.declared.profile_files.OpenedFile.{OpenedFile}
+use Rattle.cfi_processes.specs.declared.opened_file.OpenedFile.{OpenedFile}
+use Rattle.cfi_processes.specs.CodeParts.{is_whole}
 use Rattle.cfi_processes.specs.KnownFiles.{KnownFile}
-use Rattle.cfi_processes.specs.OpenedFiles.{AreFilesOf, AreOpened, IsContents, IsDebugOf, IsFileOf, Opened, opened_as, opened_view}
+use Rattle.cfi_processes.specs.OpenedFiles.{AreFilesOf, AreOpened, AreOpenedAs, IsContents, IsDebugOf, IsFileOf, IsOpenedAs, Opened, are_whole, opened_as}
 use Rattle.cfi_processes.specs.declared.wanted.WantedFile.{WantedFile}
 use Rattle.cfi_processes.specs.Wanted.{FilePlace, Wanted, wanted_view}
 
@@ -50,28 +51,59 @@ module _ {Handle : Type 0} (may_open : FilePlace → Option Handle → Type 0) (
       subst (λ (all : List Opened). AreOpened may_open remaining (map wanted_view files) all) (append-nil opened)
       (so.opens_on [] (subst (λ (left : List Wanted). AreOpened may_open remaining left []) (sym none) refl))
 
--- ---- as files of the profile
+-- ---- what the code has of them
+
+pub opened_pushed : (opened : List OpenedFile) (first : List Opened) (one : OpenedFile) (file : Opened) → AreOpenedAs opened first → IsOpenedAs one file → AreOpenedAs (opened ++ one ∷ []) (first ++ file ∷ [])
+opened_pushed [] first one file is hold = (file, [], hold, refl, ap (λ (files : List Opened). files ++ file ∷ []) is)
+opened_pushed (o ∷ opened) first one file (f, others, is, are, same) hold =
+    (f, others ++ file ∷ [], is, opened_pushed opened others one file are hold, ap (λ (files : List Opened). files ++ file ∷ []) same)
+
+both : (a b : Bool) → (a && b) ≡ true → (a ≡ true) × (b ≡ true)
+both true b is = (refl, is)
+both false b is = absurd (cc)
+
+pub whole_pushed : (opened : List OpenedFile) (one : OpenedFile) → are_whole opened ≡ true → is_whole one.code ≡ true → are_whole (opened ++ one ∷ []) ≡ true
+whole_pushed [] one are is = ap (λ (b : Bool). b && true) is
+whole_pushed (o ∷ opened) one are is =
+    let (first, others) = both (is_whole o.code) (are_whole opened) are in
+    ap (λ (b : Bool). b && are_whole (opened ++ one ∷ [])) first ∙ whole_pushed opened one others is
+
+-- ---- hold files of the profile
+
+abbrev pub IsFileFor : Bool → OpenedFile → KnownFile → Type 0
+IsFileFor named one file = (all : Opened) → IsOpenedAs one all → IsFileOf named all file
+
+abbrev pub AreFilesFor : Bool → List OpenedFile → List KnownFile → Type 0
+AreFilesFor named [] files = files ≡ []
+AreFilesFor named (one ∷ opened) files =
+    (first : KnownFile) × (others : List KnownFile) × IsFileFor named one first × AreFilesFor named opened others × (files ≡ first ∷ others)
 
 -- with the files of the others, the first are those of all
-pub record IsFilesOn (named : Bool) (all left : List Opened) (first : List KnownFile) : Type 0 where
-  pub files_on : (others : List KnownFile) → AreFilesOf named left others → AreFilesOf named all (first ++ others)
+pub record IsFilesOn (named : Bool) (all left : List OpenedFile) (first : List KnownFile) : Type 0 where
+  pub files_on : (others : List KnownFile) → AreFilesFor named left others → AreFilesFor named all (first ++ others)
 
-pub no_files : (named : Bool) (all : List Opened) → IsFilesOn named all all []
+pub no_files : (named : Bool) (all : List OpenedFile) → IsFilesOn named all all []
 no_files named all = record { files_on = λ others are. are }
 
-pub one_file : (named : Bool) (all : List Opened) (opened : List OpenedFile) (i : ℕ) (d : OpenedFile) (first next : List KnownFile) (file : KnownFile) → i < length opened
-    → next ≡ first ++ file ∷ [] → IsFilesOn named all (map opened_view (drop i opened)) first → IsFileOf named (opened_view (get_or opened i d)) file
-    → IsFilesOn named all (map opened_view (drop (i + 1) opened)) next
+pub one_file : (named : Bool) (all opened : List OpenedFile) (i : ℕ) (d : OpenedFile) (first next : List KnownFile) (file : KnownFile) → i < length opened
+    → next ≡ first ++ file ∷ [] → IsFilesOn named all (drop i opened) first → IsFileFor named (get_or opened i d) file
+    → IsFilesOn named all (drop (i + 1) opened) next
 one_file named all opened i d first next file inside is so one = record {
   files_on = λ others are.
-      let left : map opened_view (drop i opened) ≡ opened_view (get_or opened i d) ∷ map opened_view (drop (i + 1) opened) = rw (drop-cons opened i d, add-one) refl in
-      let whole = so.files_on (file ∷ others) (subst (λ (left : List Opened). AreFilesOf named left (file ∷ others)) (sym left) (file, others, one, are, refl)) in
-      subst (λ (files : List KnownFile). AreFilesOf named all files) (sym (ap (λ (front : List KnownFile). front ++ others) is ∙ append_assoc first (file ∷ []) others)) whole;
+      let left : drop i opened ≡ get_or opened i d ∷ drop (i + 1) opened = rw (drop-cons opened i d, add-one) refl in
+      let whole = so.files_on (file ∷ others) (subst (λ (left : List OpenedFile). AreFilesFor named left (file ∷ others)) (sym left) (file, others, one, are, refl)) in
+      subst (λ (files : List KnownFile). AreFilesFor named all files) (sym (ap (λ (front : List KnownFile). front ++ others) is ∙ append_assoc first (file ∷ []) others)) whole;
 }
 
-pub all_files : (named : Bool) (opened : List OpenedFile) (i : ℕ) (files : List KnownFile) → length opened ≤ i → IsFilesOn named (map opened_view opened) (map opened_view (drop i opened)) files
-    → AreFilesOf named (map opened_view opened) files
-all_files named opened i files behind so =
-    let none : map opened_view (drop i opened) ≡ [] = rw drop_all refl in
-    subst (λ (all : List KnownFile). AreFilesOf named (map opened_view opened) all) (append-nil files)
-    (so.files_on [] (subst (λ (left : List Opened). AreFilesOf named left []) (sym none) refl))
+files_for : (named : Bool) (opened : List OpenedFile) (files : List KnownFile) (all : List Opened) → AreOpenedAs opened all → AreFilesFor named opened files → AreFilesOf named all files
+files_for named [] files all are is = subst (λ (all : List Opened). AreFilesOf named all files) (sym are) is
+files_for named (one ∷ opened) files all (w, ws, hold, others_as, same) (first, others, is, are, files_are) =
+    subst (λ (all : List Opened). AreFilesOf named all files) (sym same) (first, others, is w hold, files_for named opened others ws others_as are, files_are)
+
+pub all_files : (named : Bool) (opened : List OpenedFile) (i : ℕ) (files : List KnownFile) → length opened ≤ i → IsFilesOn named opened (drop i opened) files
+    → (all : List Opened) → AreOpenedAs opened all → AreFilesOf named all files
+all_files named opened i files behind so all are =
+    let none : drop i opened ≡ [] = rw drop_all refl in
+    files_for named opened files all are
+    (subst (λ (known : List KnownFile). AreFilesFor named opened known) (append-nil files)
+    (so.files_on [] (subst (λ (left : List OpenedFile). AreFilesFor named left []) (sym none) refl)))

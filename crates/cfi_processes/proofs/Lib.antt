@@ -9,5 +9,7 @@ mod WorkedSamples
 mod WorkedSymbols
 pub mod CodeLemmas
 pub mod ModuleLemmas
+pub mod CodeImages
+mod ReadFiles
 pub mod FileLemmas
 mod SymbolLemmas

@@ -18,5 +18,8 @@ pub mod FileFunctions
 pub mod KnownFiles
 pub mod FileModules
 pub mod Wanted
+pub mod Enough
+pub mod ReadParts
+pub mod CodeParts
 pub mod OpenedFiles
 pub mod Replays

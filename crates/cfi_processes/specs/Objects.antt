@@ -1,8 +1,9 @@
 -- A file of a profile, and the module that it is where a process has mapped it.
 --     Object, object_view      its segments and its call frames, and that of the code
+--     addresses_in file offset      the address of the byte of code at an offset
 --     debug_for file debug      .debug_frame of a file, or else of its debug file
---     object_of bytes debug      the file of these bytes, if it has call frames; its debug file has
---         those of debug
+--     object_in image debug      the file of which these parts were read, if it has call frames;
+--         of its debug file those of debug were
 --     bias_in file mapped, bias_of object mapped      how far its code is moved
 --     has_table object      whether a compiled table is made
 --     IsDebugTable section table      a compiled table of .debug_frame, if there is one
@@ -10,8 +11,8 @@
 --         compiled tables
 --     HasFramesOf number object loaded      a module of the code has the file's number and its call
 --         frames
-use Rattle.std.specs.Prelude.{◌≡◌, ℕ, ◌==◌, Bool, not, List, [], Option, Some, None, Result, Ok}
-use Rattle.std.specs.Prelude.{Err, length, option_map, unwrap_or, if◌then◌else◌}
+use Rattle.std.specs.Prelude.{◌≡◌, ℕ, ◌==◌, Bool, not, [], Option, Some, None, Result, Ok}
+use Rattle.std.specs.Prelude.{Err, length, option_map, if◌then◌else◌}
 use Rattle.std.specs.Option.{is_some, option_and_then}
 use Rattle.std.specs.Result.{result_ok}
 use Rattle.cfi_read_core.specs.ByteOrder.{is_big}
@@ -24,7 +25,8 @@ use Rattle.cfi_entry.specs.SectionViews.{debug_frame_view}
 use Rattle.gimli_cfi.specs.SectionSources.{GivenSection, given_as, given_header}
 use Rattle.gimli_cfi.specs.declared.source.SectionKind.TheVariants as given
 use Rattle.cfi_elf.specs.declared.error.ElfError.{ElfError}
-use Rattle.cfi_elf.specs.ElfFiles.{File, elf_file, file_view}
+use Rattle.cfi_elf.specs.ElfFiles.{File, elf_file_of, file_view}
+use Rattle.cfi_elf.specs.Images.{Image}
 use Rattle.cfi_elf.specs.Options.{or_else}
 use Rattle.cfi_compiled.specs.CompiledTables.{TableContents, IsCompiled}
 use Rattle.cfi_elf.specs.Segments.{address_of_offset, minus}
@@ -36,7 +38,7 @@ use Rattle.cfi_processes.specs.declared.objects.Object.{Object as ObjectOfCode}
 use Rattle.cfi_processes.specs.Modules.{DebugModule, Module, header_beside, loaded_module}
 
 pub record Object : Type 0 where
-  pub file : File
+  pub addresses : ℕ → Option ℕ  -- of the byte of code at an offset
   pub section : Section  -- .eh_frame
   pub header : Option HeaderSection  -- .eh_frame_hdr, if there is one
   pub debug : Option Section  -- .debug_frame, if there is one
@@ -44,19 +46,23 @@ pub record Object : Type 0 where
 abbrev pub debug_section : DebugSection → Section
 debug_section debug = section_of (debug_frame_view (slice_position is_big) debug.frame) debug.bases
 
--- what an `Object` of the code is
-abbrev pub object_view : ObjectOfCode → Object
-object_view object = record {
-  file = file_view object.file;
-  section = section_view (slice_position is_big) object.frame object.bases;
-  header = header_beside object.frame object.bases object.header;
-  debug = option_map debug_section object.debug;
-}
-
 -- the value, if it is there and no error is in its place
 abbrev pub there : {A : Type 0} → Result (Option A) ElfError → Option A
 there (Ok found) = found
 there (Err e) = None
+
+-- where the segment of code that has the byte at an offset places it
+abbrev pub addresses_in : File → ℕ → Option ℕ
+addresses_in file offset = there (address_of_offset file offset)
+
+-- what an `Object` of the code is
+abbrev pub object_view : ObjectOfCode → Object
+object_view object = record {
+  addresses = addresses_in (file_view object.file);
+  section = section_view (slice_position is_big) object.frame object.bases;
+  header = header_beside object.frame object.bases object.header;
+  debug = option_map debug_section object.debug;
+}
 
 -- .debug_frame of a file, if the file can be read and has bytes of it
 abbrev pub if_bytes : GivenSection → Option GivenSection
@@ -66,15 +72,15 @@ abbrev pub debug_in : File → Option GivenSection
 debug_in file = option_and_then if_bytes (there (debug_frame_of file))
 
 -- that of the file, or else that of its debug file, which has the same addresses
-abbrev pub debug_for : File → Option (List ℕ) → Option GivenSection
+abbrev pub debug_for : File → Option Image → Option GivenSection
 debug_for file debug =
     or_else (debug_in file)
-    (option_and_then (λ bytes. option_and_then debug_in (result_ok (elf_file bytes))) debug)
+    (option_and_then (λ image. option_and_then debug_in (result_ok (elf_file_of image))) debug)
 
 -- the file with these sections
 abbrev pub object_with : File → GivenSection → Option GivenSection → Object
 object_with file frames debug = record {
-  file = file;
+  addresses = addresses_in file;
   section = given_as EhFrame frames;
   header = given_header frames;
   debug = option_map (given_as DebugFrame) debug;
@@ -86,20 +92,20 @@ with_either file (Some frames) debug = Some (object_with file frames debug)
 with_either file None debug =
     option_map (λ frames. object_with file (section_in file given.EhFrame []) (Some frames)) debug
 
-abbrev pub with_frames : Option (List ℕ) → File → Option Object
+abbrev pub with_frames : Option Image → File → Option Object
 with_frames debug file = with_either file (there (eh_frame_of file)) (debug_for file debug)
 
--- the file of these bytes, if it can be read and has call frames
-abbrev pub object_of : List ℕ → Option (List ℕ) → Option Object
-object_of bytes debug = option_and_then (with_frames debug) (result_ok (elf_file bytes))
+-- the file of which these parts were read, if it can be read and has call frames
+abbrev pub object_in : Image → Option Image → Option Object
+object_in image debug = option_and_then (with_frames debug) (result_ok (elf_file_of image))
 
 -- the byte at the first mapped address is that at the offset in the file, which has an address of
 -- the file's own
 abbrev pub bias_in : File → MappedCode → Option ℕ
-bias_in file mapped = option_map (minus mapped.start) (there (address_of_offset file mapped.offset))
+bias_in file mapped = option_map (minus mapped.start) (addresses_in file mapped.offset)
 
 abbrev pub bias_of : Object → MappedCode → Option ℕ
-bias_of object mapped = bias_in object.file mapped
+bias_of object mapped = option_map (minus mapped.start) (object.addresses mapped.offset)
 
 -- where each row is else found by a scan
 abbrev pub has_table : Object → Bool

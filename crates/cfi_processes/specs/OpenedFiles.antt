@@ -1,7 +1,9 @@
 -- The files of a profile, as they are opened.
 --     is_file_name name      whether a mapping with the name is of a file
---     Opened, opened_view      a file by its name, its build, its bytes and its debug file's, none
---         where these can't be had, and that of the code
+--     Opened      a file by its name, its build, its bytes and its debug file's, none where these
+--         can't be had
+--     IsOpenedAs opened file, AreOpenedAs opened files      what the code has of a file, or of
+--         files: their parts
 --     IsContents may_open remaining file bytes      what was read of a file that is wanted
 --     IsDebugOf may_open remaining name bytes debug      what was read of the debug file of a file
 --         of this name and these bytes
@@ -9,25 +11,27 @@
 --     AreFilesOf named opened files      what they are as files of a profile, with their functions
 --         or without
 use Rattle.std.specs.Prelude.{◌≡◌, ◌⊎◌, ℕ, Bool, true, false, not, ◌&&◌, List, [], ◌∷◌, Option}
-use Rattle.std.specs.Prelude.{Some, None, IfSome, Vec, codes, drop, length, nat_eq, option_map}
+use Rattle.std.specs.Prelude.{Some, None, IfSome, codes, drop, length, nat_eq, option_map}
 use Rattle.std.specs.Prelude.{string_bytes}
 use Rattle.std.specs.Prelude.{if◌then◌else◌}
-use Rattle.std.specs.List.{starts_with}
+use Rattle.std.specs.List.{list_all, starts_with}
 use Rattle.std.specs.Option.{option_and_then}
 use Rattle.cfi_compiled.specs.CompiledTables.{TableContents, IsCompiled}
 use Rattle.cfi_entry.specs.Sections.{Section}
-use Rattle.cfi_processes.specs.declared.profile_files.OpenedFile.{OpenedFile}
+use Rattle.cfi_processes.specs.declared.opened_file.OpenedFile.{OpenedFile}
 use Rattle.cfi_processes.specs.CodeMaps.{CodeMapText, map_name}
+use Rattle.cfi_processes.specs.CodeParts.{IsOf, is_whole}
 use Rattle.cfi_processes.specs.FileFunctions.{Functions, functions_of}
 use Rattle.cfi_processes.specs.KernelNames.{KernelText}
 use Rattle.cfi_processes.specs.KernelSymbols.{is_kernel_name, kernel_image}
 use Rattle.cfi_processes.specs.KnownFiles.{KnownCode, KnownFile}
-use Rattle.cfi_processes.specs.Objects.{Object, IsDebugTable, has_table, object_of}
+use Rattle.cfi_processes.specs.Objects.{Object, IsDebugTable, has_table, object_in}
 use Rattle.cfi_processes.specs.Wanted.{FilePlace, Wanted, at_path, copy_of, debug_of, has_build}
 use Rattle.cfi_processes.specs.Wanted.{code_map, id_of, is_linked, kernel_symbols, link_of, linked}
 use Rattle.cfi_processes.specs.declared.wanted.LinkFolder.{LinkFolder}
 use Rattle.cfi_processes.specs.declared.wanted.LinkFolder.TheVariants.{Below, Beside, Central}
 use Rattle.cfi_elf.specs.DebugLinks.{Link}
+use Rattle.cfi_elf.specs.Images.{Image, whole}
 
 pub record Opened : Type 0 where
   pub name : List ℕ
@@ -37,18 +41,24 @@ pub record Opened : Type 0 where
   pub process : Option ℕ
   pub map_name : Option (List ℕ)  -- where its process tells functions
 
-abbrev pub bytes_view : {A : Type 0} → Option (Vec ℕ A) → Option (List ℕ)
-bytes_view bytes = option_map (λ read. read.items) bytes
+-- a file of which the code has the parts that are needed, and those of its debug file
+pub record IsOpenedAs (opened : OpenedFile) (file : Opened) : Type 0 where
+  pub name_is : file.name ≡ opened.name.now
+  pub build_id_is : file.build_id ≡ option_map (λ id. id.now) opened.build_id
+  pub bytes_are : IsOf opened.code file.bytes
+  pub debug_is : IsOf opened.debug file.debug
+  pub process_is : file.process ≡ opened.process
+  pub map_name_is : file.map_name ≡ option_map string_bytes opened.map_name
 
-abbrev pub opened_view : OpenedFile → Opened
-opened_view opened = record {
-  name = opened.name.now;
-  build_id = option_map (λ id. id.now) opened.build_id;
-  bytes = bytes_view opened.bytes;
-  debug = bytes_view opened.debug;
-  process = opened.process;
-  map_name = option_map string_bytes opened.map_name;
-}
+abbrev pub AreOpenedAs : List OpenedFile → List Opened → Type 0
+AreOpenedAs [] files = files ≡ []
+AreOpenedAs (one ∷ opened) files =
+    (first : Opened) × (others : List Opened) × IsOpenedAs one first × AreOpenedAs opened others
+    × (files ≡ first ∷ others)
+
+-- whether all was read of each
+abbrev pub are_whole : List OpenedFile → Bool
+are_whole opened = list_all (λ one. is_whole one.code) opened
 
 abbrev pub opened_as : Wanted → Option (List ℕ) → Option (List ℕ) → Opened
 opened_as file bytes debug = record {
@@ -89,6 +99,12 @@ if_linked link build (Some bytes) = if is_linked link build bytes then Some byte
 abbrev pub IsOr : Option (List ℕ) → (Option (List ℕ) → Type 0) → Option (List ℕ) → Type 0
 IsOr (Some found) Other bytes = bytes ≡ Some found
 IsOr None Other bytes = Other bytes
+
+-- what was read, if the link of a file of this build leads to it
+abbrev pub IsLinkedReading :
+    Option (List ℕ) → Link → Option (List ℕ) → Option (List ℕ) → Type 0
+IsLinkedReading left link build debug =
+    (read : Option (List ℕ)) × IsReading left read × (debug ≡ if_linked link build read)
 
 module _ {Handle : Type 0} (remaining : Handle → Option (List ℕ)) where
   abbrev pub IsReadOf : Option Handle → Option (List ℕ) → Type 0
@@ -191,34 +207,38 @@ IsCodeOf (Some object) code =
     × (code
     ≡ Some (record { object = object; tables = record { table = table; debug = debug } }))
 
-abbrev pub functions_in : Opened → Option Functions
-functions_in opened = option_and_then (λ bytes. functions_of bytes opened.debug) opened.bytes
+-- a file and its debug file, of which these parts were read
+abbrev pub object_if : Option Image → Option Image → Option Object
+object_if image debug = option_and_then (λ image. object_in image debug) image
+
+-- the functions that are asked for
+abbrev pub functions_if : Bool → Option Image → Option Image → Option Functions
+functions_if named image debug =
+    if named then option_and_then (λ image. functions_of image debug) image else None
 
 -- those of the kernel itself, with the symbol after which its mapping is named
 abbrev pub kernel_text : List ℕ → List ℕ → KernelText
 kernel_text name text = record { text = text; symbol = drop (length kernel_image) name }
 
-abbrev pub kernel_of : Opened → Option KernelText
-kernel_of opened =
-    if is_kernel_name opened.name then option_map (kernel_text opened.name) opened.bytes else None
+abbrev pub kernel_of : List ℕ → Option (List ℕ) → Option KernelText
+kernel_of name text = if is_kernel_name name then option_map (kernel_text name) text else None
 
 -- of memory the functions that its process tells
 abbrev pub map_by : Option (List ℕ) → List ℕ → Option CodeMapText
 map_by text name = option_map (λ text. record { name = name; text = text }) text
 
-abbrev pub map_of : Opened → Option CodeMapText
-map_of opened = option_and_then (map_by opened.bytes) opened.map_name
-
--- those that are asked for
-abbrev pub functions_if : Bool → Opened → Option Functions
-functions_if named opened = if named then functions_in opened else None
+abbrev pub map_of : Option (List ℕ) → Option (List ℕ) → Option CodeMapText
+map_of text name = option_and_then (map_by text) name
 
 abbrev pub IsFileOf : Bool → Opened → KnownFile → Type 0
 IsFileOf named opened file =
+    let all = option_map whole opened.bytes in
+    let debug = option_map whole opened.debug in
     (file.name ≡ opened.name) × (file.build_id ≡ opened.build_id)
-    × (file.functions ≡ functions_if named opened) × (file.kernel ≡ kernel_of opened)
-    × (file.process ≡ opened.process) × (file.code_map ≡ map_of opened)
-    × IsCodeOf (option_and_then (λ bytes. object_of bytes opened.debug) opened.bytes) file.code
+    × (file.functions ≡ functions_if named all debug)
+    × (file.kernel ≡ kernel_of opened.name opened.bytes) × (file.process ≡ opened.process)
+    × (file.code_map ≡ map_of opened.bytes opened.map_name)
+    × IsCodeOf (object_if all debug) file.code
 
 abbrev pub AreFilesOf : Bool → List Opened → List KnownFile → Type 0
 AreFilesOf named [] files = files ≡ []

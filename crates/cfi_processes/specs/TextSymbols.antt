@@ -60,13 +60,13 @@ digit_of c =
 abbrev pub with_value : ℕ → ℕ → Option ℕ
 with_value number value = if nat_lt number (2 ^ 60) then Some (number * 16 + value) else None
 
-abbrev pub with_digit : ℕ → ℕ → Option ℕ
-with_digit number digit = option_and_then (with_value number) (digit_of digit)
+abbrev pub with_hexadecimal_digit : ℕ → ℕ → Option ℕ
+with_hexadecimal_digit number digit = option_and_then (with_value number) (digit_of digit)
 
 abbrev pub number_from : ℕ → List ℕ → Option ℕ
 number_from number [] = Some number
 number_from number (digit ∷ digits) =
-    option_and_then (λ more. number_from more digits) (with_digit number digit)
+    option_and_then (λ more. number_from more digits) (with_hexadecimal_digit number digit)
 
 -- of one digit or more
 abbrev pub number_of : List ℕ → Option ℕ

@@ -2,8 +2,9 @@
 --     Wanted, wanted_view      a file by its name, and by its build if that is known; or memory
 --         that is no file's by its name and its process; that of the code
 --     FilePlace      where a file is opened
+--     id_in image, id_of bytes      the build that the file says which it is of
 --     has_build build bytes      whether the file of these bytes is of the build
---     link_of bytes      the link of the file of these bytes to its debug file
+--     link_in image, link_of bytes      the link of the file to its debug file
 --     is_linked link build bytes      whether it is the one to which the link of a file of this
 --         build leads
 use Rattle.std.specs.Prelude.{ℕ, Bool, true, false, ◌&&◌, List, drop, length, Option, Some, None}
@@ -14,7 +15,8 @@ use Rattle.std.specs.Result.{result_ok}
 use Rattle.std.specs.Str.{bytes_eq}
 use Rattle.cfi_elf.specs.Checksums.{crc32}
 use Rattle.cfi_elf.specs.DebugLinks.{Link, debug_link}
-use Rattle.cfi_elf.specs.ElfFiles.{elf_file}
+use Rattle.cfi_elf.specs.ElfFiles.{elf_file_of}
+use Rattle.cfi_elf.specs.Images.{Image, whole}
 use Rattle.cfi_elf.specs.Notes.{build_id}
 use Rattle.cfi_processes.specs.declared.wanted.LinkFolder.{LinkFolder}
 use Rattle.cfi_processes.specs.declared.wanted.WantedFile.{WantedFile}
@@ -71,8 +73,11 @@ is_known_build build None = false
 is_known_build build (Some id) = is_build build id
 
 -- none where it is no ELF file, or has none that can be read
+abbrev pub id_in : Image → Option (List ℕ)
+id_in image = option_and_then (λ file. there (build_id file)) (result_ok (elf_file_of image))
+
 abbrev pub id_of : List ℕ → Option (List ℕ)
-id_of bytes = option_and_then (λ file. there (build_id file)) (result_ok (elf_file bytes))
+id_of bytes = id_in (whole bytes)
 
 abbrev pub has_build : List ℕ → List ℕ → Bool
 has_build build bytes = is_known_build build (id_of bytes)
@@ -80,8 +85,11 @@ has_build build bytes = is_known_build build (id_of bytes)
 -- ---- the debug file to which a link leads
 
 -- none where it is no ELF file, or has none that can be read
+abbrev pub link_in : Image → Option Link
+link_in image = option_and_then (λ file. there (debug_link file)) (result_ok (elf_file_of image))
+
 abbrev pub link_of : List ℕ → Option Link
-link_of bytes = option_and_then (λ file. there (debug_link file)) (result_ok (elf_file bytes))
+link_of bytes = link_in (whole bytes)
 
 -- where both are known they are the same
 abbrev pub may_be_of : Option (List ℕ) → Option (List ℕ) → Bool

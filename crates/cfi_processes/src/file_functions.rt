@@ -1,11 +1,7 @@
 //! The functions of a file of a profile.
-ghost use Rattle.std.specs.Prelude.{◌≡◌, ℕ};
-ghost use Rattle.cfi_elf.specs.ElfFiles.{file_view};
-ghost use Rattle.cfi_elf.specs.FunctionNames.{function_place, place_in};
-
 use crate::mappings::MappedCode;
 use crate::objects::bias_in;
-use cfi_elf::{ElfFile, FunctionNames, FunctionPlace};
+use cfi_elf::{ElfFile, FunctionNames, FunctionPlace, Image};
 use std::alloc::{AllocError, Global};
 
 /// The functions of a file of a profile: by the symbols of its debug file where there is one, which
@@ -13,39 +9,35 @@ use std::alloc::{AllocError, Global};
 #[derive(Drop)]
 pub struct FileFunctions<'run> {
     file: ElfFile<'run>,
-    symbols: ElfFile<'run>,
     functions: FunctionNames<'run>,
-    ghost named: { (address : ℕ)
-        → place_in functions address ≡ function_place (file_view symbols) address },
 }
 
 impl<'run> FileFunctions<'run> {
     ghost use Rattle.std.specs.Prelude.{◌≡◌, IfOk, option_map};
+    ghost use Rattle.cfi_elf.specs.ElfFiles.{file_view};
     ghost use Rattle.cfi_elf.specs.FunctionPlaces.{place_view};
+    ghost use Rattle.cfi_elf.specs.Images.{image_view};
     ghost use Rattle.cfi_processes.specs.FileFunctions.{function_in, functions_of};
     ghost use Rattle.cfi_processes.specs.FileFunctions.{functions_view, symbols_of};
 
-    /// The functions of the file of these bytes, whose debug file has those of `debug`. Returns
-    /// `None` where the file is no ELF file (`cfi_elf::ElfFile::parse`); a debug file that is none
-    /// has no symbols, so the file's own count. Fails where memory is refused.
+    /// The functions of the file of which these parts were read, and of its debug file those of
+    /// `debug`. Returns `None` where the file is no ELF file (`cfi_elf::ElfFile::of_image`); a
+    /// debug file that is none has no symbols, so the file's own count. Fails where memory is
+    /// refused.
     pub fn of(
         alloc: Global,
-        bytes: &'run [u8],
-        debug: Option<&'run [u8]>,
+        image: Image<'run>,
+        debug: Option<Image<'run>>,
     ) -> Result<Option<FileFunctions<'run>>, AllocError>
         ensures { IfOk result (λ functions. option_map functions_view functions
-            ≡ functions_of bytes.entry.now (option_map (λ debug. debug.now) debug.entry)) }
+            ≡ functions_of (image_view image.entry) (option_map image_view debug.entry)) }
     {
-        let Ok(file) = ElfFile::parse(bytes) else {
+        let Ok(file) = ElfFile::of_image(image) else {
             return Ok(None);
         };
         let symbols = Self::symbols_of(file, debug);
         let functions = FunctionNames::new(alloc, &symbols)?;
-        Ok(Some(FileFunctions {
-            file,
-            symbols,
-            functions,
-        }))
+        Ok(Some(FileFunctions { file, functions }))
     }
 
     /// The function that has an address of a process, where the file is mapped. Does not allocate.
@@ -58,12 +50,12 @@ impl<'run> FileFunctions<'run> {
     }
 
     /// The file whose symbols name the functions.
-    fn symbols_of(file: ElfFile<'run>, debug: Option<&'run [u8]>) -> ElfFile<'run>
+    fn symbols_of(file: ElfFile<'run>, debug: Option<Image<'run>>) -> ElfFile<'run>
         ensures { file_view result ≡ symbols_of (file_view file.entry)
-            (option_map (λ debug. debug.now) debug.entry) }
+            (option_map image_view debug.entry) }
     {
         match debug {
-            Some(bytes) => ElfFile::parse(bytes).unwrap_or(file),
+            Some(image) => ElfFile::of_image(image).unwrap_or(file),
             None => file,
         }
     }

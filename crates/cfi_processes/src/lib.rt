@@ -10,13 +10,17 @@
 #![tactic(auto)]
 
 pub mod code_map;
+pub mod code_parts;
 pub mod file_code;
 pub mod file_functions;
+pub mod file_parts;
 pub mod kernel_names;
 pub mod kernel_symbols;
 pub mod mappings;
 pub mod names;
+pub mod needed;
 pub mod objects;
+pub mod opened_file;
 pub mod process_code;
 pub mod processes;
 pub mod profile_files;

@@ -3,6 +3,7 @@ ghost use Rattle.std.specs.Prelude.{◌≡◌, ⊤, option_map};
 ghost use Rattle.cfi_entry.specs.Sections.{DebugFrame as debug_frame_kind};
 ghost use Rattle.gimli_cfi.specs.SectionSources.{given_as, source_view};
 ghost use Rattle.cfi_elf.specs.ElfFiles.{file_view};
+ghost use Rattle.cfi_elf.specs.Images.{image_view};
 ghost use Rattle.cfi_object.specs.CallFrames.{eh_frame_of};
 ghost use Rattle.cfi_processes.specs.Modules.{debug_view};
 ghost use Rattle.cfi_processes.specs.Objects.{bias_in, debug_by, debug_for, debug_in};
@@ -10,7 +11,7 @@ ghost use Rattle.cfi_processes.specs.Objects.{debug_section, there};
 
 use crate::mappings::MappedCode;
 use cfi_compiled::CompiledTable;
-use cfi_elf::ElfFile;
+use cfi_elf::{ElfFile, Image};
 use cfi_object::{debug_frame, eh_frame, section_in};
 use cfi_step::{DebugTable, LoadedModule};
 use gimli_cfi::{
@@ -66,23 +67,24 @@ impl<'file> Object<'file> {
     ghost use Rattle.std.specs.Prelude.{Some, IfErr, IfOk, IfSome, option_map};
     ghost use Rattle.cfi_compiled.specs.CompiledTables.{IsCompiled};
     ghost use Rattle.cfi_elf.specs.ElfFiles.{file_view};
+    ghost use Rattle.cfi_elf.specs.Images.{image_view};
     ghost use Rattle.cfi_processes.specs.Modules.{loaded_module, module_view};
     ghost use Rattle.cfi_processes.specs.Objects.{HasFramesOf, IsDebugTable, bias_of, has_table};
-    ghost use Rattle.cfi_processes.specs.Objects.{module_of, object_of, object_view, object_with};
+    ghost use Rattle.cfi_processes.specs.Objects.{module_of, object_in, object_view, object_with};
     ghost use Rattle.cfi_processes.specs.Objects.{with_either};
     ghost use Rattle.gimli_cfi.specs.SectionSources.{source_view};
     ghost use Rattle.gimli_cfi.specs.Words.{OutOfMemory};
 
-    /// The file that these bytes are, whose debug file has those of `debug`. `.eh_frame` is the
-    /// file's; `.debug_frame` is the file's, or where it has no bytes of one the debug file's.
-    /// Returns `None` where they are no ELF file, and where it has neither section or its headers
-    /// can't be read (`cfi_elf::ElfFile::parse`, `cfi_object::{eh_frame, debug_frame}`). A
-    /// compressed `.debug_frame` isn't read. Does not allocate.
-    pub fn of(bytes: &'file [u8], debug: Option<&'file [u8]>) -> Option<Object<'file>>
-        ensures { option_map object_view result ≡ object_of bytes.entry.now
-            (option_map (λ debug. debug.now) debug.entry) }
+    /// The file of which these parts were read, and of its debug file those of `debug`. `.eh_frame`
+    /// is the file's; `.debug_frame` is the file's, or where it has no bytes of one the debug
+    /// file's. Returns `None` where it is no ELF file, and where it has neither section or its
+    /// headers can't be read (`cfi_elf::ElfFile::of_image`, `cfi_object::{eh_frame, debug_frame}`).
+    /// A compressed `.debug_frame` isn't read. Does not allocate.
+    pub fn of(image: Image<'file>, debug: Option<Image<'file>>) -> Option<Object<'file>>
+        ensures { option_map object_view result ≡ object_in (image_view image.entry)
+            (option_map image_view debug.entry) }
     {
-        let Ok(file) = ElfFile::parse(bytes) else {
+        let Ok(file) = ElfFile::of_image(image) else {
             return None;
         };
         Self::with_either(file, eh_frame_in(&file), debug_for(&file, debug))
@@ -125,13 +127,6 @@ impl<'file> Object<'file> {
             bases: frames.bases,
             debug: debug_made(debug),
         }
-    }
-
-    /// The file's segments, symbols and sections.
-    pub fn file(&self) -> ElfFile<'file>
-        ensures { file_view result ≡ (object_view self.now).file }
-    {
-        self.file
     }
 
     /// How far the file's code is moved where it is mapped: an address of the file plus the bias,
@@ -257,15 +252,15 @@ fn debug_in<'file>(file: &ElfFile<'file>) -> Option<SectionSource<'file>>
 /// `.debug_frame` of a file, or else of its debug file.
 fn debug_for<'file>(
     file: &ElfFile<'file>,
-    debug: Option<&'file [u8]>,
+    debug: Option<Image<'file>>,
 ) -> Option<SectionSource<'file>>
     ensures { option_map source_view result ≡ debug_for (file_view file.now)
-        (option_map (λ debug. debug.now) debug.entry) }
+        (option_map image_view debug.entry) }
 {
     if let Some(frames) = debug_in(file) {
         return Some(frames);
     }
-    let debug_file = ElfFile::parse(debug?).ok()?;
+    let debug_file = ElfFile::of_image(debug?).ok()?;
     debug_in(&debug_file)
 }
 

@@ -1,39 +1,46 @@
 //! The files that a profile's mappings name.
-ghost use Rattle.std.specs.Prelude.{◌≡◌, Option, Some, IfOk, OnOk, map, option_map};
-ghost use Rattle.std.specs.Prelude.{string_bytes};
+ghost use Rattle.std.specs.Prelude.{◌≡◌, ℕ, List, Option, Some, IfOk, OnOk, map, option_map};
+ghost use Rattle.std.specs.Prelude.{◌||◌, string_bytes, true};
+ghost use Rattle.std.specs.Option.{is_some};
 ghost use Rattle.cfi_perf.specs.Events.{mapping_view, record_view};
 ghost use Rattle.cfi_processes.specs.FileFunctions.{functions_view};
 ghost use Rattle.cfi_perf.specs.CallChains.{addresses_left};
 ghost use Rattle.cfi_processes.specs.CodeMapViews.{map_view};
 ghost use Rattle.cfi_processes.specs.CodeMaps.{map_name};
+ghost use Rattle.cfi_processes.specs.CodeParts.{AreOf, IsOf, first_of, is_whole};
 ghost use Rattle.cfi_processes.specs.KernelNames.{kernel_view};
+ghost use Rattle.cfi_processes.specs.KernelSymbols.{is_kernel_name};
 ghost use Rattle.cfi_processes.specs.KnownFiles.{code_view, known_view};
-ghost use Rattle.cfi_processes.specs.Objects.{object_of};
-ghost use Rattle.cfi_processes.specs.OpenedFiles.{AreFilesOf, AreOpened, IsBuild, IsBuildOf};
-ghost use Rattle.cfi_processes.specs.OpenedFiles.{IsByLink, IsCodeOf, IsContents, IsDebug};
-ghost use Rattle.cfi_processes.specs.OpenedFiles.{IsDebugOf, IsElsewhere, IsFileOf, IsFound};
-ghost use Rattle.cfi_processes.specs.OpenedFiles.{IsLinkedIn, IsReadOf, IsReading, IsTold};
-ghost use Rattle.cfi_processes.specs.OpenedFiles.{bytes_view, functions_if, functions_in};
-ghost use Rattle.cfi_processes.specs.OpenedFiles.{if_built, if_linked, is_file_name, kernel_of};
-ghost use Rattle.cfi_processes.specs.OpenedFiles.{kernel_text, map_by, map_of, opened_view};
+ghost use Rattle.cfi_processes.specs.Objects.{object_in};
+ghost use Rattle.cfi_processes.specs.OpenedFiles.{AreFilesOf, AreOpened, AreOpenedAs, IsBuild};
+ghost use Rattle.cfi_processes.specs.OpenedFiles.{IsBuildOf, IsByLink, IsCodeOf, IsContents};
+ghost use Rattle.cfi_processes.specs.OpenedFiles.{IsDebug, IsDebugOf, IsElsewhere, IsFileOf};
+ghost use Rattle.cfi_processes.specs.OpenedFiles.{IsFound, IsLinkedIn, IsLinkedReading};
+ghost use Rattle.cfi_processes.specs.OpenedFiles.{IsOpenedAs, IsReadOf, IsReading, IsTold, Opened};
+ghost use Rattle.cfi_processes.specs.OpenedFiles.{are_whole, functions_if, if_built, is_file_name};
+ghost use Rattle.cfi_processes.specs.OpenedFiles.{kernel_of, kernel_text, map_by, map_of};
+ghost use Rattle.cfi_processes.specs.OpenedFiles.{object_if, opened_as};
 ghost use Rattle.cfi_processes.specs.Replays.{code_file, has_kernel_frames, has_some, is_among};
 ghost use Rattle.cfi_processes.specs.Replays.{is_code_file, is_of, process_of, with_file};
 ghost use Rattle.cfi_processes.specs.Wanted.{FilePlace, at_path, code_map, copy_of, debug_of};
 ghost use Rattle.cfi_processes.specs.Wanted.{kernel_symbols, linked, wanted_view};
 ghost use Rattle.cfi_elf.specs.DebugLinks.{link_view};
+ghost use Rattle.cfi_elf.specs.Images.{image_view};
 
 use crate::code_map::{CodeMap, is_memory_name, map_name};
+use crate::code_parts::CodeParts;
 use crate::file_code::FileCode;
 use crate::file_functions::FileFunctions;
 use crate::kernel_names::KernelNames;
 use crate::kernel_symbols::{KERNEL_IMAGE, is_kernel_name};
 use crate::names::Name;
 use crate::objects::Object;
+pub use crate::opened_file::OpenedFile;
 use crate::wanted::{
-    LinkFolder, WantedFile, has_build, id_of, is_linked, link_of, same_id, same_process,
+    LinkFolder, WantedFile, has_build, id_in, is_linked, link_in, same_id, same_process,
 };
-use cfi_elf::DebugLink;
 use cfi_elf::bytes::bytes_from;
+use cfi_elf::{DebugLink, Image};
 use cfi_object::input::{FileInput, InputError, read_all};
 use cfi_object::parts::read_whole;
 use cfi_perf::{Addresses, Event, Mapping, Record};
@@ -94,26 +101,6 @@ pub trait Opener {
 
     /// Of each file the bytes that it has left as a reader are those that it has by parts.
     ghost same_bytes: { (file : Self.File) → Self.File.remaining file ≡ Self.File.bytes file };
-}
-
-/// A file of a profile, as it was opened.
-#[derive(Drop)]
-pub struct OpenedFile<'run> {
-    /// The name, as the mappings have it.
-    pub name: &'run [u8],
-    /// The identification of its build, if it is known.
-    pub build_id: Option<&'run [u8]>,
-    /// Its bytes; `None` where it can't be opened or read, or the name is none of a file; where the
-    /// build is known, also where no file of it was found. Of the kernel, what it tells of its
-    /// symbols; of memory of a process, what that tells of its code.
-    pub bytes: Option<Vec<u8>>,
-    /// The bytes of its debug file; `None` where it can't be opened or read, is of another build,
-    /// or hasn't the checksum of the link that leads to it.
-    pub debug: Option<Vec<u8>>,
-    /// The process whose memory it is, where it is no file's.
-    pub process: Option<u32>,
-    /// The path of the file in which that process tells the functions of code that it made.
-    pub map_name: Option<String>,
 }
 
 /// A file of a profile: its name, and its functions and its code if it could be read.
@@ -224,33 +211,61 @@ fn is_among(files: &[WantedFile<'_>], file: &WantedFile<'_>) -> bool
     files.iter().any(|known| known.is_same(file))
 }
 
-/// Opens and reads the files. Of a build that is known only a file of it is taken: the one at the
-/// path, or else the copy that the recorder kept. Also reads the debug file of each file that says
-/// of which build it is, or else that to which the file's link leads. Fails where memory is
-/// refused.
+/// Opens the files, and reads the parts of them that are needed, or all of them if asked for. Of a
+/// build that is known only a file of it is taken: the one at the path, or else the copy that the
+/// recorder kept. Also reads the debug file of each file that says of which build it is, or else
+/// that to which the file's link leads. Fails where memory is refused.
 pub fn read_files<'run, O: Opener>(
     alloc: Global,
+    whole: bool,
     opener: &O,
     files: &[WantedFile<'run>],
 ) -> Result<Vec<OpenedFile<'run>>, AllocError>
-    ensures { IfOk result (λ opened. AreOpened (O.may_open opener.now) O.File.remaining
-        (map wanted_view files.now) (map opened_view opened.items)) }
+    ensures opened { IfOk result (λ opened. (all : List Opened)
+        × AreOpened (O.may_open opener.now) O.File.remaining (map wanted_view files.now) all
+        × AreOpenedAs opened.items all) }
+    ensures whole { IfOk result (λ opened. whole ≡ true → are_whole opened.items ≡ true) }
 {
     let mut opened = Vec::new(alloc);
     for file in files {
-        let bytes = read_file(alloc, opener, file)?;
-        let debug = read_debug(alloc, opener, file.name, &bytes)?;
-        let map_name = map_name_of(alloc, file.process)?;
-        opened.push(OpenedFile {
-            name: file.name,
-            build_id: file.build_id,
-            bytes,
-            debug,
-            process: file.process,
-            map_name,
-        })?;
+        opened.push(read_file(alloc, whole, opener, file)?)?;
     }
     Ok(opened)
+}
+
+/// Opens and reads a file.
+fn read_file<'run, O: Opener>(
+    alloc: Global,
+    whole: bool,
+    opener: &O,
+    file: &WantedFile<'run>,
+) -> Result<OpenedFile<'run>, AllocError>
+    ensures opened { IfOk result (λ one. (bytes debug : Option (List ℕ))
+        × IsContents (O.may_open opener.now) O.File.remaining (wanted_view file.now) bytes
+        × IsDebugOf (O.may_open opener.now) O.File.remaining file.now.name.now bytes debug
+        × IsOpenedAs one (opened_as (wanted_view file.now) bytes debug)) }
+    ensures whole { IfOk result (λ one. whole ≡ true → is_whole one.code ≡ true) }
+{
+    let code = read_contents(alloc, reads_all(whole, file), opener, file)?;
+    let debug = read_debug(alloc, opener, file.name, &code)?;
+    let map_name = map_name_of(alloc, file.process)?;
+    Ok(OpenedFile {
+        name: file.name,
+        build_id: file.build_id,
+        code,
+        debug,
+        process: file.process,
+        map_name,
+    })
+}
+
+/// Whether all of a file is read: where that is asked for, and of a text that the kernel or a
+/// process tells.
+fn reads_all(whole: bool, file: &WantedFile<'_>) -> bool
+    ensures { result ≡ (whole
+        || (is_kernel_name file.now.name.now || is_some file.now.process)) }
+{
+    whole || (is_kernel_name(file.name) || file.process.is_some())
 }
 
 /// The path of the file in which a process tells the functions of code that it made.
@@ -263,23 +278,23 @@ fn map_name_of(alloc: Global, process: Option<u32>) -> Result<Option<String>, Al
     }
 }
 
-/// Reads the debug file of a file of this name and these bytes.
+/// Reads the debug file of a file of this name, of which these parts were read.
 fn read_debug<O: Opener>(
     alloc: Global,
     opener: &O,
     name: &[u8],
-    bytes: &Option<Vec<u8>>,
-) -> Result<Option<Vec<u8>>, AllocError>
-    ensures { IfOk result (λ debug. IsDebugOf (O.may_open opener.now) O.File.remaining
-        name.now (bytes_view bytes.now) (bytes_view debug)) }
+    code: &Option<CodeParts>,
+) -> Result<Option<CodeParts>, AllocError>
+    ensures { (bytes : Option (List ℕ)) → IsOf code.now bytes → IfOk result (AreOf (IsDebugOf
+        (O.may_open opener.now) O.File.remaining name.now bytes)) }
 {
-    let Some(bytes) = bytes else {
+    let Some(code) = code else {
         return Ok(None);
     };
-    let build = id_of(bytes.as_slice());
+    let build = id_in(code.image());
     match read_debug_of(alloc, opener, build)? {
         Some(debug) => Ok(Some(debug)),
-        None => read_by_link(alloc, opener, name, build, link_of(bytes.as_slice())),
+        None => read_by_link(alloc, opener, name, build, link_in(code.image())),
     }
 }
 
@@ -290,10 +305,9 @@ fn read_by_link<O: Opener>(
     name: &[u8],
     build: Option<&[u8]>,
     link: Option<DebugLink<'_>>,
-) -> Result<Option<Vec<u8>>, AllocError>
-    ensures { IfOk result (λ debug. IsByLink (O.may_open opener.now) O.File.remaining name.now
-        (option_map (λ build. build.now) build.entry) (option_map link_view link.entry)
-        (bytes_view debug)) }
+) -> Result<Option<CodeParts>, AllocError>
+    ensures { IfOk result (AreOf (IsByLink (O.may_open opener.now) O.File.remaining name.now
+        (option_map (λ build. build.now) build.entry) (option_map link_view link.entry))) }
 {
     let Some(link) = link else {
         return Ok(None);
@@ -311,10 +325,9 @@ fn read_elsewhere<O: Opener>(
     name: &[u8],
     build: Option<&[u8]>,
     link: &DebugLink<'_>,
-) -> Result<Option<Vec<u8>>, AllocError>
-    ensures { IfOk result (λ debug. IsElsewhere (O.may_open opener.now) O.File.remaining name.now
-        (link_view link.now) (option_map (λ build. build.now) build.entry)
-        (bytes_view debug)) }
+) -> Result<Option<CodeParts>, AllocError>
+    ensures { IfOk result (AreOf (IsElsewhere (O.may_open opener.now) O.File.remaining name.now
+        (link_view link.now) (option_map (λ build. build.now) build.entry))) }
 {
     match read_linked(alloc, opener, name, build, link, LinkFolder::Below)? {
         Some(debug) => Ok(Some(debug)),
@@ -330,29 +343,37 @@ fn read_linked<O: Opener>(
     build: Option<&[u8]>,
     link: &DebugLink<'_>,
     folder: LinkFolder,
-) -> Result<Option<Vec<u8>>, AllocError>
-    ensures { IfOk result (λ debug. IsLinkedIn (O.may_open opener.now) O.File.remaining name.now
-        (link_view link.now) (option_map (λ build. build.now) build.entry) folder
-        (bytes_view debug)) }
+) -> Result<Option<CodeParts>, AllocError>
+    ensures { IfOk result (AreOf (IsLinkedIn (O.may_open opener.now) O.File.remaining name.now
+        (link_view link.now) (option_map (λ build. build.now) build.entry) folder)) }
 {
-    let bytes = read_opened::<O>(alloc, opener.open_linked(folder, name, link.name))?;
-    Ok(if_linked(link, build, bytes))
+    match opener.open_linked(folder, name, link.name) {
+        Some(mut file) => read_if_linked(alloc, link, build, &mut file),
+        None => Ok(None),
+    }
 }
 
-/// The bytes, if the link of a file of this build leads to them.
-fn if_linked(link: &DebugLink<'_>, build: Option<&[u8]>, bytes: Option<Vec<u8>>) -> Option<Vec<u8>>
-    ensures { bytes_view result ≡ if_linked (link_view link.now)
-        (option_map (λ build. build.now) build.entry) (bytes_view bytes) }
+/// Reads all bytes of a file, if the link of a file of this build leads to them: its checksum is
+/// that of all. `None` where it can't be read, or it doesn't.
+fn read_if_linked<I: FileInput>(
+    alloc: Global,
+    link: &DebugLink<'_>,
+    build: Option<&[u8]>,
+    file: &mut I,
+) -> Result<Option<CodeParts>, AllocError>
+    ensures { IfOk result (AreOf (IsLinkedReading (I.bytes file.old) (link_view link.now)
+        (option_map (λ build. build.now) build.entry))) }
 {
-    match bytes {
-        Some(bytes) => {
+    match read_whole(alloc, file) {
+        Ok(bytes) => {
             if is_linked(link, build, bytes.as_slice()) {
-                Some(bytes)
+                Ok(Some(CodeParts::whole(alloc, bytes)))
             } else {
-                None
+                Ok(None)
             }
         }
-        None => None,
+        Err(InputError::OutOfMemory) => Err(AllocError),
+        Err(_) => Ok(None),
     }
 }
 
@@ -361,31 +382,33 @@ fn read_debug_of<O: Opener>(
     alloc: Global,
     opener: &O,
     build: Option<&[u8]>,
-) -> Result<Option<Vec<u8>>, AllocError>
-    ensures { IfOk result (λ debug. IsDebug (O.may_open opener.now) O.File.remaining
-        (option_map (λ build. build.now) build.entry) (bytes_view debug)) }
+) -> Result<Option<CodeParts>, AllocError>
+    ensures { IfOk result (AreOf (IsDebug (O.may_open opener.now) O.File.remaining
+        (option_map (λ build. build.now) build.entry))) }
 {
     match build {
-        Some(build) => read_build::<O>(alloc, build, opener.open_debug(build)),
+        Some(build) => read_build::<O>(alloc, false, build, opener.open_debug(build)),
         None => Ok(None),
     }
 }
 
-/// Opens and reads a file.
-fn read_file<O: Opener>(
+/// Opens and reads what is needed of a file, or all of it.
+fn read_contents<O: Opener>(
     alloc: Global,
+    whole: bool,
     opener: &O,
     file: &WantedFile<'_>,
-) -> Result<Option<Vec<u8>>, AllocError>
-    ensures { IfOk result (λ bytes. IsContents (O.may_open opener.now) O.File.remaining
-        (wanted_view file.now) (bytes_view bytes)) }
+) -> Result<Option<CodeParts>, AllocError>
+    ensures contents { IfOk result (AreOf (IsContents (O.may_open opener.now) O.File.remaining
+        (wanted_view file.now))) }
+    ensures whole { IfOk result (λ code. whole ≡ true → is_whole code ≡ true) }
 {
     if !is_file_name(file.name) {
         return read_told(alloc, opener, is_kernel_name(file.name), file.process);
     }
     match file.build_id {
-        Some(build) => read_found(alloc, opener, file.name, build),
-        None => read_opened::<O>(alloc, opener.open(file.name)),
+        Some(build) => read_found(alloc, whole, opener, file.name, build),
+        None => read_opened::<O>(alloc, whole, opener.open(file.name)),
     }
 }
 
@@ -395,9 +418,10 @@ fn read_told<O: Opener>(
     opener: &O,
     is_kernel: bool,
     process: Option<u32>,
-) -> Result<Option<Vec<u8>>, AllocError>
-    ensures { IfOk result (λ bytes. IsTold (O.may_open opener.now) O.File.remaining
-        is_kernel process (bytes_view bytes)) }
+) -> Result<Option<CodeParts>, AllocError>
+    ensures contents { IfOk result (AreOf (IsTold (O.may_open opener.now) O.File.remaining
+        is_kernel process)) }
+    ensures whole { IfOk result (λ code. is_whole code ≡ true) }
 {
     if is_kernel {
         return read_text(alloc, opener.open_kernel_symbols());
@@ -411,58 +435,65 @@ fn read_told<O: Opener>(
 /// Reads the file at the path, or else the copy of the build, if it is of the build.
 fn read_found<O: Opener>(
     alloc: Global,
+    whole: bool,
     opener: &O,
     name: &[u8],
     build: &[u8],
-) -> Result<Option<Vec<u8>>, AllocError>
-    ensures { IfOk result (λ bytes. IsFound (O.may_open opener.now) O.File.remaining name.now
-        (Some build.now) (bytes_view bytes)) }
+) -> Result<Option<CodeParts>, AllocError>
+    ensures contents { IfOk result (AreOf (IsFound (O.may_open opener.now) O.File.remaining
+        name.now (Some build.now))) }
+    ensures whole { IfOk result (λ code. whole ≡ true → is_whole code ≡ true) }
 {
-    let found = read_build::<O>(alloc, build, opener.find(name))?;
+    let found = read_build::<O>(alloc, whole, build, opener.find(name))?;
     match found {
-        Some(bytes) => Ok(Some(bytes)),
-        None => read_copy(alloc, opener, name, build),
+        Some(code) => Ok(Some(code)),
+        None => read_copy(alloc, whole, opener, name, build),
     }
 }
 
 /// Reads the copy of the build, and says so where there is none.
 fn read_copy<O: Opener>(
     alloc: Global,
+    whole: bool,
     opener: &O,
     name: &[u8],
     build: &[u8],
-) -> Result<Option<Vec<u8>>, AllocError>
-    ensures { IfOk result (λ bytes. IsBuild (O.may_open opener.now) O.File.remaining build.now
-        (copy_of build.now) (bytes_view bytes)) }
+) -> Result<Option<CodeParts>, AllocError>
+    ensures contents { IfOk result (AreOf (IsBuild (O.may_open opener.now) O.File.remaining
+        build.now (copy_of build.now))) }
+    ensures whole { IfOk result (λ code. whole ≡ true → is_whole code ≡ true) }
 {
-    let bytes = read_build::<O>(alloc, build, opener.open_copy(build))?;
-    if bytes.is_none() {
+    let code = read_build::<O>(alloc, whole, build, opener.open_copy(build))?;
+    if code.is_none() {
         opener.tell_missing(name);
     }
-    Ok(bytes)
+    Ok(code)
 }
 
 /// Reads a file that was opened, if it is of the build.
 fn read_build<O: Opener>(
     alloc: Global,
+    whole: bool,
     build: &[u8],
     opened: Option<O::File>,
-) -> Result<Option<Vec<u8>>, AllocError>
-    ensures { IfOk result (λ bytes. IsBuildOf O.File.remaining build.now opened
-        (bytes_view bytes)) }
+) -> Result<Option<CodeParts>, AllocError>
+    ensures contents { IfOk result (AreOf (IsBuildOf O.File.remaining build.now opened)) }
+    ensures whole { IfOk result (λ code. whole ≡ true → is_whole code ≡ true) }
 {
-    let bytes = read_opened::<O>(alloc, opened)?;
-    Ok(if_built(build, bytes))
+    let code = read_opened::<O>(alloc, whole, opened)?;
+    Ok(if_built(build, code))
 }
 
-/// The bytes, if the file is of the build.
-fn if_built(build: &[u8], bytes: Option<Vec<u8>>) -> Option<Vec<u8>>
-    ensures { bytes_view result ≡ if_built build.now (bytes_view bytes) }
+/// The file, if it is of the build.
+fn if_built(build: &[u8], code: Option<CodeParts>) -> Option<CodeParts>
+    ensures built { (bytes : Option (List ℕ)) → IsOf code bytes
+        → IsOf result (if_built build.now bytes) }
+    ensures whole { is_whole code ≡ true → is_whole result ≡ true }
 {
-    match bytes {
-        Some(bytes) => {
-            if has_build(build, bytes.as_slice()) {
-                Some(bytes)
+    match code {
+        Some(code) => {
+            if has_build(build, code.image()) {
+                Some(code)
             } else {
                 None
             }
@@ -474,12 +505,14 @@ fn if_built(build: &[u8], bytes: Option<Vec<u8>>) -> Option<Vec<u8>>
 /// Reads a file that was opened, if it was.
 fn read_opened<O: Opener>(
     alloc: Global,
+    whole: bool,
     opened: Option<O::File>,
-) -> Result<Option<Vec<u8>>, AllocError>
-    ensures { IfOk result (λ bytes. IsReadOf O.File.remaining opened (bytes_view bytes)) }
+) -> Result<Option<CodeParts>, AllocError>
+    ensures contents { IfOk result (AreOf (IsReadOf O.File.remaining opened)) }
+    ensures whole { IfOk result (λ code. whole ≡ true → is_whole code ≡ true) }
 {
     match opened {
-        Some(mut file) => read_input(alloc, &mut file),
+        Some(mut file) => read_input(alloc, whole, &mut file),
         None => Ok(None),
     }
 }
@@ -489,8 +522,9 @@ fn read_opened<O: Opener>(
 fn read_text<R: Read + Drop>(
     alloc: Global,
     opened: Option<R>,
-) -> Result<Option<Vec<u8>>, AllocError>
-    ensures { IfOk result (λ bytes. IsReadOf R.remaining opened (bytes_view bytes)) }
+) -> Result<Option<CodeParts>, AllocError>
+    ensures contents { IfOk result (AreOf (IsReadOf R.remaining opened)) }
+    ensures whole { IfOk result (λ code. is_whole code ≡ true) }
 {
     match opened {
         Some(mut text) => read_to_end(alloc, &mut text),
@@ -499,22 +533,28 @@ fn read_text<R: Read + Drop>(
 }
 
 /// Reads a text to its end; `None` where it can't be read.
-fn read_to_end<R: Read>(alloc: Global, text: &mut R) -> Result<Option<Vec<u8>>, AllocError>
-    ensures { IfOk result (λ bytes. IsReading (R.remaining text.old) (bytes_view bytes)) }
+fn read_to_end<R: Read>(alloc: Global, text: &mut R) -> Result<Option<CodeParts>, AllocError>
+    ensures contents { IfOk result (AreOf (IsReading (R.remaining text.old))) }
+    ensures whole { IfOk result (λ code. is_whole code ≡ true) }
 {
     match read_all(alloc, text) {
-        Ok(bytes) => Ok(Some(bytes)),
+        Ok(bytes) => Ok(Some(CodeParts::whole(alloc, bytes))),
         Err(InputError::OutOfMemory) => Err(AllocError),
         Err(_) => Ok(None),
     }
 }
 
-/// Reads all bytes of a file; `None` where it can't be read.
-fn read_input<I: FileInput>(alloc: Global, file: &mut I) -> Result<Option<Vec<u8>>, AllocError>
-    ensures { IfOk result (λ bytes. IsReading (I.bytes file.old) (bytes_view bytes)) }
+/// Reads what is needed of a file, or all of it; `None` where it can't be read.
+fn read_input<I: FileInput>(
+    alloc: Global,
+    whole: bool,
+    file: &mut I,
+) -> Result<Option<CodeParts>, AllocError>
+    ensures contents { IfOk result (AreOf (IsReading (I.bytes file.old))) }
+    ensures whole { IfOk result (λ code. whole ≡ true → is_whole code ≡ true) }
 {
-    match read_whole(alloc, file) {
-        Ok(bytes) => Ok(Some(bytes)),
+    match CodeParts::read(alloc, whole, file) {
+        Ok(code) => Ok(Some(code)),
         Err(InputError::OutOfMemory) => Err(AllocError),
         Err(_) => Ok(None),
     }
@@ -540,8 +580,8 @@ pub fn profile_files<'opened>(
     named: bool,
     opened: &'opened [OpenedFile<'_>],
 ) -> Result<Vec<ProfileFile<'opened>>, AllocError>
-    ensures { IfOk result (λ files.
-        AreFilesOf named (map opened_view opened.now) (map known_view files.items)) }
+    ensures { (all : List Opened) → AreOpenedAs opened.now all
+        → IfOk result (λ files. AreFilesOf named all (map known_view files.items)) }
 {
     let mut files = Vec::new(alloc);
     for file in opened {
@@ -556,13 +596,13 @@ fn profile_file<'opened>(
     named: bool,
     opened: &'opened OpenedFile<'_>,
 ) -> Result<ProfileFile<'opened>, AllocError>
-    ensures { IfOk result (λ file. IsFileOf named (opened_view opened.now) (known_view file)) }
+    ensures { (one : Opened) → IsOpenedAs opened.now one
+        → IfOk result (λ file. IsFileOf named one (known_view file)) }
 {
-    let functions = functions_if(alloc, named, opened)?;
-    let code = match &opened.bytes {
-        Some(bytes) => code_of(alloc, bytes.as_slice(), slice_of(&opened.debug))?,
-        None => None,
-    };
+    let image = opened.image();
+    let debug = opened.debug_image();
+    let functions = functions_if(alloc, named, image, debug)?;
+    let code = code_if(alloc, image, debug)?;
     let kernel = kernel_of(alloc, opened)?;
     let code_map = map_of(alloc, opened)?;
     Ok(ProfileFile {
@@ -581,10 +621,11 @@ fn map_of<'opened>(
     alloc: Global,
     opened: &'opened OpenedFile<'_>,
 ) -> Result<Option<CodeMap<'opened>>, AllocError>
-    ensures { IfOk result (λ found. option_map map_view found ≡ map_of (opened_view opened.now)) }
+    ensures { IfOk result (λ found. option_map map_view found ≡ map_of
+        (first_of opened.now.code) (option_map string_bytes opened.now.map_name)) }
 {
     match &opened.map_name {
-        Some(name) => map_by(alloc, slice_of(&opened.bytes), name.as_bytes()),
+        Some(name) => map_by(alloc, opened.first(), name.as_bytes()),
         None => Ok(None),
     }
 }
@@ -610,13 +651,13 @@ fn kernel_of<'opened>(
     opened: &'opened OpenedFile<'_>,
 ) -> Result<Option<KernelNames<'opened>>, AllocError>
     ensures { IfOk result (λ names. option_map kernel_view names
-        ≡ kernel_of (opened_view opened.now)) }
+        ≡ kernel_of opened.now.name.now (first_of opened.now.code)) }
 {
     if !is_kernel_name(opened.name) {
         return Ok(None);
     }
-    match &opened.bytes {
-        Some(bytes) => Ok(Some(names_in(alloc, opened.name, bytes.as_slice())?)),
+    match opened.first() {
+        Some(text) => Ok(Some(names_in(alloc, opened.name, text)?)),
         None => Ok(None),
     }
 }
@@ -633,57 +674,52 @@ fn names_in<'opened>(
     KernelNames::of(alloc, text, bytes_from(name, KERNEL_IMAGE.len() as u64))
 }
 
-/// The functions of a file that was opened, if they are asked for.
+/// The functions of a file of which these parts were read, if they are asked for and there is one.
 fn functions_if<'opened>(
     alloc: Global,
     named: bool,
-    opened: &'opened OpenedFile<'_>,
+    image: Option<Image<'opened>>,
+    debug: Option<Image<'opened>>,
 ) -> Result<Option<FileFunctions<'opened>>, AllocError>
     ensures { IfOk result (λ functions. option_map functions_view functions
-        ≡ functions_if named (opened_view opened.now)) }
+        ≡ functions_if named (option_map image_view image.entry)
+        (option_map image_view debug.entry)) }
 {
-    if named {
-        functions_of(alloc, opened)
-    } else {
-        Ok(None)
+    if !named {
+        return Ok(None);
     }
-}
-
-/// The functions of a file that was opened.
-fn functions_of<'opened>(
-    alloc: Global,
-    opened: &'opened OpenedFile<'_>,
-) -> Result<Option<FileFunctions<'opened>>, AllocError>
-    ensures { IfOk result (λ functions. option_map functions_view functions
-        ≡ functions_in (opened_view opened.now)) }
-{
-    match &opened.bytes {
-        Some(bytes) => FileFunctions::of(alloc, bytes.as_slice(), slice_of(&opened.debug)),
+    match image {
+        Some(image) => FileFunctions::of(alloc, image, debug),
         None => Ok(None),
     }
 }
 
-/// The bytes that were read, if they were.
-fn slice_of(bytes: &Option<Vec<u8>>) -> Option<&[u8]>
-    ensures { option_map (λ slice. slice.now) result ≡ bytes_view bytes.now }
+/// The code of the file, if there is one.
+fn code_if<'run>(
+    alloc: Global,
+    image: Option<Image<'run>>,
+    debug: Option<Image<'run>>,
+) -> Result<Option<FileCode<'run>>, AllocError>
+    ensures { IfOk result (λ code. IsCodeOf (object_if (option_map image_view image.entry)
+        (option_map image_view debug.entry)) (option_map code_view code)) }
 {
-    match bytes {
-        Some(bytes) => Some(bytes.as_slice()),
-        None => None,
+    match image {
+        Some(image) => code_of(alloc, image, debug),
+        None => Ok(None),
     }
 }
 
-/// The code of the file that these bytes are, whose debug file has those of `debug`.
+/// The code of the file of which these parts were read, and of its debug file those of `debug`.
 fn code_of<'run>(
     alloc: Global,
-    bytes: &'run [u8],
-    debug: Option<&'run [u8]>,
+    image: Image<'run>,
+    debug: Option<Image<'run>>,
 ) -> Result<Option<FileCode<'run>>, AllocError>
     ensures { IfOk result (λ code. IsCodeOf
-        (object_of bytes.entry.now (option_map (λ debug. debug.now) debug.entry))
+        (object_in (image_view image.entry) (option_map image_view debug.entry))
         (option_map code_view code)) }
 {
-    match Object::of(bytes, debug) {
+    match Object::of(image, debug) {
         Some(object) => Ok(Some(FileCode::of(alloc, object)?)),
         None => Ok(None),
     }

@@ -2,7 +2,7 @@
 ghost use Rattle.std.specs.Prelude.{◌≡◌, IfOk, map, option_map};
 ghost use Rattle.std.specs.List.Sorted.{IsNonDecreasingBy};
 ghost use Rattle.cfi_processes.specs.TextSymbols.{digit_of, lines_of, number_of, parts_at};
-ghost use Rattle.cfi_processes.specs.TextSymbols.{parts_view, with_digit};
+ghost use Rattle.cfi_processes.specs.TextSymbols.{parts_view, with_hexadecimal_digit};
 
 use cfi_elf::bytes::bytes_from;
 use std::alloc::{AllocError, Global};
@@ -102,14 +102,14 @@ pub fn number_of(digits: &[u8]) -> Option<u64>
     }
     let mut number = 0;
     for digit in digits {
-        number = with_digit(number, *digit)?;
+        number = with_hexadecimal_digit(number, *digit)?;
     }
     Some(number)
 }
 
 /// The number with one more digit; `None` where it is no digit or the number 2^64 or more.
-fn with_digit(number: u64, digit: u8) -> Option<u64>
-    ensures { result ≡ with_digit number digit }
+fn with_hexadecimal_digit(number: u64, digit: u8) -> Option<u64>
+    ensures { result ≡ with_hexadecimal_digit number digit }
 {
     let value = digit_of(digit)?;
     if number < 0x1000_0000_0000_0000 {

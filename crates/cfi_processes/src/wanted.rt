@@ -1,13 +1,14 @@
 //! Which files the mappings of a profile are of.
 ghost use Rattle.std.specs.Prelude.{◌≡◌, ◌==◌, option_map};
 ghost use Rattle.std.specs.List.{list_all};
-ghost use Rattle.cfi_processes.specs.Wanted.{has_build, id_of, is_build, is_same, same_id};
-ghost use Rattle.cfi_processes.specs.Wanted.{is_linked, link_of, may_be_of};
+ghost use Rattle.cfi_processes.specs.Wanted.{id_in, id_of, is_build, is_known_build, is_same};
+ghost use Rattle.cfi_processes.specs.Wanted.{is_linked, link_in, may_be_of, same_id};
 ghost use Rattle.cfi_processes.specs.Wanted.{same_process, wanted_view};
 ghost use Rattle.cfi_elf.specs.DebugLinks.{link_view};
+ghost use Rattle.cfi_elf.specs.Images.{image_view};
 
 use cfi_elf::bytes::bytes_from;
-use cfi_elf::{DebugLink, ElfFile, crc32};
+use cfi_elf::{DebugLink, ElfFile, Image, crc32};
 
 /// Where the debug file is looked for to which the link of a file leads (GDB's manual, "Separate
 /// Debug Files").
@@ -71,13 +72,14 @@ pub fn same_process(one: Option<u32>, other: Option<u32>) -> bool
     }
 }
 
-/// Returns whether the file of these bytes is of the build: its note `NT_GNU_BUILD_ID` says so,
-/// with no bytes but zeros behind that in `build`. A file that is no ELF file, or whose notes can't
-/// be read (`cfi_elf::ElfFile::build_id`), is of none. Does not allocate.
-pub fn has_build(build: &[u8], bytes: &[u8]) -> bool
-    ensures { result ≡ has_build build.now bytes.now }
+/// Returns whether the file of which these parts were read is of the build: its note
+/// `NT_GNU_BUILD_ID` says so, with no bytes but zeros behind that in `build`. A file that is no ELF
+/// file, or whose notes can't be read (`cfi_elf::ElfFile::build_id`), is of none. Does not
+/// allocate.
+pub fn has_build(build: &[u8], image: Image<'_>) -> bool
+    ensures { result ≡ is_known_build build.now (id_in (image_view image.entry)) }
 {
-    match id_of(bytes) {
+    match id_in(image) {
         Some(id) => is_build(build, id),
         None => false,
     }
@@ -89,7 +91,14 @@ pub fn has_build(build: &[u8], bytes: &[u8]) -> bool
 pub fn id_of(bytes: &[u8]) -> Option<&[u8]>
     ensures { option_map (λ id. id.now) result ≡ id_of bytes.now }
 {
-    let Ok(file) = ElfFile::parse(bytes) else {
+    id_in(Image::whole(bytes))
+}
+
+/// Returns the same of a file of which these parts were read. Does not allocate.
+pub fn id_in(image: Image<'_>) -> Option<&[u8]>
+    ensures { option_map (λ id. id.now) result ≡ id_in (image_view image.entry) }
+{
+    let Ok(file) = ElfFile::of_image(image) else {
         return None;
     };
     match file.build_id() {
@@ -98,12 +107,13 @@ pub fn id_of(bytes: &[u8]) -> Option<&[u8]>
     }
 }
 
-/// Returns the link of the ELF file of these bytes to its debug file. `None` where they are no ELF
-/// file, or it has none that can be read (`cfi_elf::ElfFile::debug_link`). Does not allocate.
-pub fn link_of(bytes: &[u8]) -> Option<DebugLink<'_>>
-    ensures { option_map link_view result ≡ link_of bytes.now }
+/// Returns the link of the ELF file of which these parts were read to its debug file. `None` where
+/// it is no ELF file, or has none that can be read (`cfi_elf::ElfFile::debug_link`). Does not
+/// allocate.
+pub fn link_in(image: Image<'_>) -> Option<DebugLink<'_>>
+    ensures { option_map link_view result ≡ link_in (image_view image.entry) }
 {
-    let Ok(file) = ElfFile::parse(bytes) else {
+    let Ok(file) = ElfFile::of_image(image) else {
         return None;
     };
     match file.debug_link() {

@@ -1,0 +1,272 @@
+-- Files of code that are read: the parts are those of files that may be opened.
+use Rattle.std.proofs.Common.{◌≡◌, ◌∙◌, inl, inr, ℕ, Bool, true, false, List, Option, Some, None, IfOk, Result, Ok, Err, length, refl, sym, ap, subst, option_map}
+use Rattle.std.specs.Prelude.{if◌then◌else◌, not, ◌||◌, ◌==◌}
+use Rattle.std.proofs.lemmas.Bool.{eq-eqb}
+use Rattle.std.specs.Option.{is_some}
+use Rattle.cfi_elf.specs.DebugLinks.{Link}
+use Rattle.cfi_elf.specs.Images.{Image, IsImageOf, whole}
+use Rattle.cfi_object.specs.FileParts.{AreOfInput}
+use Rattle.cfi_processes.specs.declared.code_parts.CodeParts.{CodeParts}
+use Rattle.cfi_processes.specs.declared.wanted.LinkFolder.{LinkFolder}
+use Rattle.cfi_processes.specs.declared.wanted.LinkFolder.TheVariants.{Below, Beside, Central}
+use Rattle.cfi_processes.specs.CodeParts.{AreOf, IsOf, is_told, is_whole, parts_of}
+use Rattle.cfi_processes.specs.KernelSymbols.{is_kernel_name}
+use Rattle.cfi_processes.specs.OpenedFiles.{IsBuild, IsBuildOf, IsByLink, IsContents, IsDebug, IsDebugOf, IsElsewhere, IsFound, IsLinkedIn, IsLinkedReading, IsOr, IsOrCopy, IsRead, IsReadOf, IsReading, IsTold, if_built, is_file_name}
+use Rattle.cfi_processes.specs.Wanted.{FilePlace, Wanted, at_path, code_map, copy_of, debug_of, has_build, id_in, id_of, is_known_build, is_linked, kernel_symbols, link_in, link_of, linked}
+use Rattle.cfi_processes.proofs.CodeImages.{id_found, link_found, whole_is}
+
+-- ---- a file that is read
+
+-- none where it couldn't be read
+pub none_of : (known : Option (List ℕ)) → AreOf (IsReading known) None
+none_of known = (None, tt, refl)
+
+pub reading_of : (known : Option (List ℕ)) (code : CodeParts) → AreOfInput known (parts_of code) → AreOf (IsReading known) (Some code)
+reading_of known code (bytes, left, of) = (Some bytes, left, of)
+
+-- all bytes of one
+pub whole_of : (known : Option (List ℕ)) (code : CodeParts) (bytes : List ℕ) → parts_of code ≡ whole bytes → IsReading known (Some bytes) → AreOf (IsReading known) (Some code)
+whole_of known code bytes is read = (Some bytes, read, subst (λ (image : Image). IsImageOf image bytes) (sym is) (whole_is bytes))
+
+pub whole_all : (code : CodeParts) (bytes : List ℕ) → parts_of code ≡ whole bytes → is_whole (Some code) ≡ true
+whole_all code bytes is = ap (λ (image : Image). image.length == length image.first) is ∙ eq-eqb (length bytes) (length bytes) refl
+
+-- none where it wasn't opened
+pub none_read : {Handle : Type 0} (remaining : Handle → Option (List ℕ)) (opened : Option Handle) → opened ≡ None → AreOf (IsReadOf remaining opened) None
+none_read {Handle = Handle} remaining opened is = subst (λ (opened : Option Handle). AreOf (IsReadOf remaining opened) None) (sym is) (None, refl, refl)
+
+-- ---- a text that the kernel or a process tells
+
+is_some_kept : {A B : Type 0} (f : A → B) (o : Option A) → is_some (option_map f o) ≡ is_some o
+is_some_kept f None = refl
+is_some_kept f (Some x) = refl
+
+told_by : (b whole : Bool) → (b ≡ true → whole ≡ true) → (not b || whole) ≡ true
+told_by true whole each = each refl
+told_by false whole each = refl
+
+pub told_read : {A B C : Type 0} (f : A → C) (g : B → C) (name : List ℕ) (map_name : Option A) (process : Option B) (code : Option CodeParts) → option_map f map_name ≡ option_map g process
+    → ((is_kernel_name name || is_some process) ≡ true → is_whole code ≡ true) → is_told name map_name code ≡ true
+told_read {C = C} f g name map_name process code same each =
+    let some = sym (is_some_kept f map_name) ∙ (ap (λ (o : Option C). is_some o) same ∙ is_some_kept g process) in
+    told_by (is_kernel_name name || is_some map_name) (is_whole code) (λ told. each (ap (λ (s : Bool). is_kernel_name name || s) (sym some) ∙ told))
+
+-- ---- the build
+
+pub none_built : (build : List ℕ) (bytes : Option (List ℕ)) → bytes ≡ None → if_built build bytes ≡ None
+none_built build bytes is = ap (if_built build) is
+
+module _ (build : List ℕ) (code : CodeParts) where
+  known_by : (bytes : List ℕ) → IsImageOf (parts_of code) bytes → is_known_build build (id_in (parts_of code)) ≡ has_build build bytes
+  known_by bytes of = ap (is_known_build build) (id_found code bytes of)
+
+  pub built : (bytes : Option (List ℕ)) → IsOf (Some code) bytes → is_known_build build (id_in (parts_of code)) ≡ true → IsOf (Some code) (if_built build bytes)
+  built None of is = absurd of
+  built (Some bytes) of is =
+      let same : if_built build (Some bytes) ≡ Some bytes = ap (λ (b : Bool). if b then Some bytes else None) (sym (known_by bytes of) ∙ is) in
+      subst (λ (o : Option (List ℕ)). IsOf (Some code) o) (sym same) of
+
+  pub not_built : (bytes : Option (List ℕ)) → IsOf (Some code) bytes → is_known_build build (id_in (parts_of code)) ≡ false → if_built build bytes ≡ None
+  not_built None of is = absurd of
+  not_built (Some bytes) of is = ap (λ (b : Bool). if b then Some bytes else None) (sym (known_by bytes of) ∙ is)
+
+module _ {Handle : Type 0} (remaining : Handle → Option (List ℕ)) where
+  pub build_of : (build : List ℕ) (opened : Option Handle) (code kept : Option CodeParts) → AreOf (IsReadOf remaining opened) code → ((bytes : Option (List ℕ)) → IsOf code bytes → IsOf kept (if_built build bytes))
+      → AreOf (IsBuildOf remaining build opened) kept
+  build_of build opened code kept (bytes, read, of) each = (if_built build bytes, (bytes, read, refl), each bytes of)
+
+  -- one that was opened
+  pub read_some : {E : Type 0} (opened : Option Handle) (file : Handle) (r : Result (Option CodeParts) E) → opened ≡ Some file → IfOk r (AreOf (IsReading (remaining file))) → IfOk r (AreOf (IsReadOf remaining opened))
+  read_some opened file r is read = subst (λ (o : Option Handle). IfOk r (AreOf (IsReadOf remaining o))) (sym is) read
+
+-- the code that is there, or none
+some_code : (P : Option (List ℕ) → Type 0) (found : Option CodeParts) (code : CodeParts) → found ≡ Some code → AreOf P found → AreOf P (Some code)
+some_code P found code is are = subst (λ (o : Option CodeParts). AreOf P o) is are
+
+no_code : (P : Option (List ℕ) → Type 0) (found : Option CodeParts) → found ≡ None → AreOf P found → AreOf P None
+no_code P found is are = subst (λ (o : Option CodeParts). AreOf P o) is are
+
+-- in the first place, or else in another one
+module _ (First Other Both : Option (List ℕ) → Type 0) (joins : (found debug : Option (List ℕ)) → First found → IsOr found Other debug → Both debug) where
+  in_first : (code : CodeParts) → AreOf First (Some code) → AreOf Both (Some code)
+  in_first code (None, right, of) = absurd of
+  in_first code (Some bytes, right, of) = (Some bytes, joins (Some bytes) (Some bytes) right refl, of)
+
+  in_other : {E : Type 0} → AreOf First None → (r : Result (Option CodeParts) E) → IfOk r (AreOf Other) → IfOk r (AreOf Both)
+  in_other (found, right, none) (Ok code) (bytes, other, of) = (bytes, joins found bytes right (subst (λ (found : Option (List ℕ)). IsOr found Other bytes) (sym none) other), of)
+  in_other are (Err e) other = tt
+
+pub whole_ok : {E : Type 0} (whole : Bool) (r : Result (Option CodeParts) E) → IfOk r (λ code. is_whole code ≡ true) → IfOk r (λ code. whole ≡ true → is_whole code ≡ true)
+whole_ok whole (Ok code) is = λ asked. is
+whole_ok whole (Err e) is = tt
+
+module _ {Handle : Type 0} (may_open : FilePlace → Option Handle → Type 0) (remaining : Handle → Option (List ℕ)) where
+  pub read_at : {E : Type 0} (place : FilePlace) (opened : Option Handle) → may_open place opened → (r : Result (Option CodeParts) E) → IfOk r (AreOf (IsReadOf remaining opened)) → IfOk r (AreOf (IsRead may_open remaining place))
+  read_at place opened may (Ok code) (bytes, read, of) = (bytes, (opened, may, read), of)
+  read_at place opened may (Err e) read = tt
+
+  pub build_at : (build : List ℕ) (place : FilePlace) (opened : Option Handle) → may_open place opened → (code : Option CodeParts) → AreOf (IsBuildOf remaining build opened) code → AreOf (IsBuild may_open remaining build place) code
+  build_at build place opened may code (bytes, right, of) = (bytes, (opened, may, right), of)
+
+  pub build_found : {E : Type 0} (build : List ℕ) (place : FilePlace) (opened : Option Handle) → may_open place opened → (r : Result (Option CodeParts) E) → IfOk r (AreOf (IsBuildOf remaining build opened))
+      → IfOk r (AreOf (IsBuild may_open remaining build place))
+  build_found build place opened may (Ok code) right = build_at build place opened may code right
+  build_found build place opened may (Err e) right = tt
+
+  -- at the path
+  there_first : (name build : List ℕ) (code : CodeParts) → AreOf (IsBuild may_open remaining build (at_path name)) (Some code) → AreOf (IsFound may_open remaining name (Some build)) (Some code)
+  there_first name build code (None, right, of) = absurd of
+  there_first name build code (Some bytes, right, of) = (Some bytes, (Some bytes, right, refl), of)
+
+  pub found_there : (name build : List ℕ) (opened : Option Handle) → may_open (at_path name) opened → (found : Option CodeParts) → AreOf (IsBuildOf remaining build opened) found → (code : CodeParts) → found ≡ Some code
+      → AreOf (IsFound may_open remaining name (Some build)) (Some code)
+  found_there name build opened may found are code is =
+      there_first name build code (some_code (IsBuild may_open remaining build (at_path name)) found code is (build_at build (at_path name) opened may found are))
+
+  -- or else the copy
+  copy_else : {E : Type 0} (name build : List ℕ) → AreOf (IsBuild may_open remaining build (at_path name)) None → (r : Result (Option CodeParts) E) → IfOk r (AreOf (IsBuild may_open remaining build (copy_of build)))
+      → IfOk r (AreOf (IsFound may_open remaining name (Some build)))
+  copy_else name build (found, right, none) (Ok code) (bytes, copy, of) =
+      (bytes, (found, right, subst (λ (found : Option (List ℕ)). IsOrCopy may_open remaining build found bytes) (sym none) copy), of)
+  copy_else name build are (Err e) copy = tt
+
+  pub found_copy : {E : Type 0} (name build : List ℕ) (opened : Option Handle) → may_open (at_path name) opened → (found : Option CodeParts) → AreOf (IsBuildOf remaining build opened) found → found ≡ None
+      → (r : Result (Option CodeParts) E) → IfOk r (AreOf (IsBuild may_open remaining build (copy_of build))) → IfOk r (AreOf (IsFound may_open remaining name (Some build)))
+  found_copy name build opened may found are is r copy =
+      copy_else name build (no_code (IsBuild may_open remaining build (at_path name)) found is (build_at build (at_path name) opened may found are)) r copy
+
+  -- what is told
+  pub told_kernel : {E : Type 0} (is_kernel : Bool) (process : Option ℕ) → is_kernel ≡ true → (opened : Option Handle) → may_open kernel_symbols opened → (r : Result (Option CodeParts) E) → IfOk r (AreOf (IsReadOf remaining opened))
+      → IfOk r (AreOf (IsTold may_open remaining is_kernel process))
+  told_kernel is_kernel process is opened may r read =
+      subst (λ (b : Bool). IfOk r (AreOf (IsTold may_open remaining b process))) (sym is) (read_at kernel_symbols opened may r read)
+
+  pub told_process : {E : Type 0} (is_kernel : Bool) (process : Option ℕ) (pid : ℕ) → is_kernel ≡ false → process ≡ Some pid → (opened : Option Handle) → may_open (code_map pid) opened → (r : Result (Option CodeParts) E)
+      → IfOk r (AreOf (IsReadOf remaining opened)) → IfOk r (AreOf (IsTold may_open remaining is_kernel process))
+  told_process is_kernel process pid is of opened may r read =
+      subst (λ (b : Bool). IfOk r (AreOf (IsTold may_open remaining b process))) (sym is)
+      (subst (λ (p : Option ℕ). IfOk r (AreOf (IsTold may_open remaining false p))) (sym of) (read_at (code_map pid) opened may r read))
+
+  pub told_none : (is_kernel : Bool) (process : Option ℕ) → is_kernel ≡ false → process ≡ None → AreOf (IsTold may_open remaining is_kernel process) None
+  told_none is_kernel process is of =
+      subst (λ (b : Bool). AreOf (IsTold may_open remaining b process) None) (sym is) (subst (λ (p : Option ℕ). AreOf (IsTold may_open remaining false p) None) (sym of) (None, refl, refl))
+
+  pub contents_told : {E : Type 0} (file : Wanted) (is_kernel : Bool) → is_kernel ≡ is_kernel_name file.name → is_file_name file.name ≡ false → (r : Result (Option CodeParts) E)
+      → IfOk r (AreOf (IsTold may_open remaining is_kernel file.process)) → IfOk r (AreOf (IsContents may_open remaining file))
+  contents_told file is_kernel same is (Ok code) (bytes, told, of) =
+      (bytes, inl (is, subst (λ (b : Bool). IsTold may_open remaining b file.process bytes) same told), of)
+  contents_told file is_kernel same is (Err e) told = tt
+
+  pub contents_found : {E : Type 0} (file : Wanted) (build : Option (List ℕ)) → file.build_id ≡ build → is_file_name file.name ≡ true → (r : Result (Option CodeParts) E)
+      → IfOk r (AreOf (IsFound may_open remaining file.name build)) → IfOk r (AreOf (IsContents may_open remaining file))
+  contents_found file build same is (Ok code) (bytes, found, of) =
+      (bytes, inr (is, subst (λ (build : Option (List ℕ)). IsFound may_open remaining file.name build bytes) (sym same) found), of)
+  contents_found file build same is (Err e) found = tt
+
+  -- ---- debug files
+
+  pub debug_some : {E : Type 0} (id : Option (List ℕ)) (build : List ℕ) → id ≡ Some build → (opened : Option Handle) → may_open (debug_of build) opened → (r : Result (Option CodeParts) E) → IfOk r (AreOf (IsBuildOf remaining build opened))
+      → IfOk r (AreOf (IsDebug may_open remaining id))
+  debug_some id build is opened may r right =
+      subst (λ (id : Option (List ℕ)). IfOk r (AreOf (IsDebug may_open remaining id))) (sym is) (build_found build (debug_of build) opened may r right)
+
+  pub debug_gone : (id : Option (List ℕ)) → id ≡ None → AreOf (IsDebug may_open remaining id) None
+  debug_gone id is = subst (λ (id : Option (List ℕ)). AreOf (IsDebug may_open remaining id) None) (sym is) (None, refl, refl)
+
+  module _ (name : List ℕ) (link : Link) (build : Option (List ℕ)) where
+    abbrev in_folder : LinkFolder → Option (List ℕ) → Type 0
+    in_folder folder debug = IsLinkedIn may_open remaining name link build folder debug
+
+    pub linked_some : {E : Type 0} (folder : LinkFolder) (opened : Option Handle) → may_open (linked folder name link.name) opened → (file : Handle) → opened ≡ Some file → (left : Option (List ℕ)) → remaining file ≡ left
+        → (r : Result (Option CodeParts) E) → IfOk r (AreOf (IsLinkedReading left link build)) → IfOk r (AreOf (IsLinkedIn may_open remaining name link build folder))
+    linked_some folder opened may file is left same (Ok code) (debug, (read, reading, linked_is), of) =
+        (debug, (read, (opened, may, subst (λ (o : Option Handle). IsReadOf remaining o read) (sym is) (subst (λ (left : Option (List ℕ)). IsReading left read) (sym same) reading)), linked_is), of)
+    linked_some folder opened may file is left same (Err e) read = tt
+
+    pub linked_none : (folder : LinkFolder) (opened : Option Handle) → may_open (linked folder name link.name) opened → opened ≡ None → AreOf (IsLinkedIn may_open remaining name link build folder) None
+    linked_none folder opened may is = (None, (None, (opened, may, subst (λ (o : Option Handle). IsReadOf remaining o None) (sym is) refl), refl), refl)
+
+    joins_elsewhere : (found debug : Option (List ℕ)) → IsLinkedIn may_open remaining name link build Below found → IsOr found (IsLinkedIn may_open remaining name link build Central) debug → IsElsewhere may_open remaining name link build debug
+    joins_elsewhere found debug first other = (found, first, other)
+
+    joins_link : (found debug : Option (List ℕ)) → IsLinkedIn may_open remaining name link build Beside found → IsOr found (IsElsewhere may_open remaining name link build) debug → IsByLink may_open remaining name build (Some link) debug
+    joins_link found debug first other = (found, first, other)
+
+    -- below the file's folder, or else in that of debug files
+    pub below_first : (found : Option CodeParts) (code : CodeParts) → found ≡ Some code → AreOf (IsLinkedIn may_open remaining name link build Below) found → AreOf (IsElsewhere may_open remaining name link build) (Some code)
+    below_first found code is are =
+        in_first (in_folder Below) (in_folder Central) (IsElsewhere may_open remaining name link build) joins_elsewhere code (some_code (in_folder Below) found code is are)
+
+    pub central_else : {E : Type 0} (found : Option CodeParts) → found ≡ None → AreOf (IsLinkedIn may_open remaining name link build Below) found → (r : Result (Option CodeParts) E)
+        → IfOk r (AreOf (IsLinkedIn may_open remaining name link build Central)) → IfOk r (AreOf (IsElsewhere may_open remaining name link build))
+    central_else found is are r other =
+        in_other (in_folder Below) (in_folder Central) (IsElsewhere may_open remaining name link build) joins_elsewhere (no_code (in_folder Below) found is are) r other
+
+    -- beside the file, or else elsewhere
+    pub beside_first : (some : Option Link) → some ≡ Some link → (found : Option CodeParts) (code : CodeParts) → found ≡ Some code → AreOf (IsLinkedIn may_open remaining name link build Beside) found
+        → AreOf (IsByLink may_open remaining name build some) (Some code)
+    beside_first some has found code is are =
+        subst (λ (l : Option Link). AreOf (IsByLink may_open remaining name build l) (Some code)) (sym has)
+        (in_first (in_folder Beside) (IsElsewhere may_open remaining name link build) (IsByLink may_open remaining name build (Some link)) joins_link code (some_code (in_folder Beside) found code is are))
+
+    pub elsewhere_else : {E : Type 0} (some : Option Link) → some ≡ Some link → (found : Option CodeParts) → found ≡ None → AreOf (IsLinkedIn may_open remaining name link build Beside) found → (r : Result (Option CodeParts) E)
+        → IfOk r (AreOf (IsElsewhere may_open remaining name link build)) → IfOk r (AreOf (IsByLink may_open remaining name build some))
+    elsewhere_else some has found is are r other =
+        subst (λ (l : Option Link). IfOk r (AreOf (IsByLink may_open remaining name build l))) (sym has)
+        (in_other (in_folder Beside) (IsElsewhere may_open remaining name link build) (IsByLink may_open remaining name build (Some link)) joins_link (no_code (in_folder Beside) found is are) r other)
+
+  pub no_link : (name : List ℕ) (build : Option (List ℕ)) (some : Option Link) → some ≡ None → AreOf (IsByLink may_open remaining name build some) None
+  no_link name build some is = subst (λ (l : Option Link). AreOf (IsByLink may_open remaining name build l) None) (sym is) (None, refl, refl)
+
+  -- of a file that has these parts
+  module _ (name : List ℕ) (all : Option CodeParts) (code : CodeParts) (is_code : all ≡ Some code) where
+    bytes_of : (bytes : Option (List ℕ)) → IsOf all bytes → IsOf (Some code) bytes
+    bytes_of bytes of = subst (λ (o : Option CodeParts). IsOf o bytes) is_code of
+
+    first_by : (debug : CodeParts) (bytes : Option (List ℕ)) → IsOf (Some code) bytes → AreOf (IsDebug may_open remaining (id_in (parts_of code))) (Some debug) → AreOf (IsDebugOf may_open remaining name bytes) (Some debug)
+    first_by debug None of are = absurd of
+    first_by debug (Some bytes) of (None, right, parts_are) = absurd parts_are
+    first_by debug (Some bytes) of (Some all, right, parts_are) =
+        (Some all, (Some all, subst (λ (id : Option (List ℕ)). IsDebug may_open remaining id (Some all)) (id_found code bytes of) right, refl), parts_are)
+
+    pub debug_first : (id : Option (List ℕ)) → id ≡ id_in (parts_of code) → (found : Option CodeParts) (debug : CodeParts) → found ≡ Some debug → AreOf (IsDebug may_open remaining id) found → (bytes : Option (List ℕ)) → IsOf all bytes
+        → AreOf (IsDebugOf may_open remaining name bytes) (Some debug)
+    debug_first id same found debug is are bytes of =
+        first_by debug bytes (bytes_of bytes of)
+        (subst (λ (id : Option (List ℕ)). AreOf (IsDebug may_open remaining id) (Some debug)) same (some_code (IsDebug may_open remaining id) found debug is are))
+
+    link_by : {E : Type 0} (bytes : Option (List ℕ)) → IsOf (Some code) bytes → AreOf (IsDebug may_open remaining (id_in (parts_of code))) None → (r : Result (Option CodeParts) E)
+        → IfOk r (AreOf (IsByLink may_open remaining name (id_in (parts_of code)) (link_in (parts_of code)))) → IfOk r (AreOf (IsDebugOf may_open remaining name bytes))
+    link_by None of are r by_link = absurd of
+    link_by (Some bytes) of are (Err e) by_link = tt
+    link_by (Some bytes) of (found, right, none) (Ok debug) (all, link, parts_are) =
+        let id = id_found code bytes of in
+        let by_id = subst (λ (id : Option (List ℕ)). IsDebug may_open remaining id found) id right in
+        let by_link = subst (λ (i : Option (List ℕ)). IsByLink may_open remaining name i (link_of bytes) all) id (subst (λ (l : Option Link). IsByLink may_open remaining name (id_in (parts_of code)) l all) (link_found code bytes of) link) in
+        (all, (found, by_id, subst (λ (found : Option (List ℕ)). IsOr found (IsByLink may_open remaining name (id_of bytes) (link_of bytes)) all) (sym none) by_link), parts_are)
+
+    pub debug_link : {E : Type 0} (id : Option (List ℕ)) → id ≡ id_in (parts_of code) → (link : Option Link) → link ≡ link_in (parts_of code) → (found : Option CodeParts) → found ≡ None → AreOf (IsDebug may_open remaining id) found
+        → (r : Result (Option CodeParts) E) → IfOk r (AreOf (IsByLink may_open remaining name id link)) → (bytes : Option (List ℕ)) → IsOf all bytes → IfOk r (AreOf (IsDebugOf may_open remaining name bytes))
+    debug_link id same link same_link found is are r by_link bytes of =
+        link_by bytes (bytes_of bytes of)
+        (subst (λ (id : Option (List ℕ)). AreOf (IsDebug may_open remaining id) None) same (no_code (IsDebug may_open remaining id) found is are)) r
+        (subst (λ (i : Option (List ℕ)). IfOk r (AreOf (IsByLink may_open remaining name i (link_in (parts_of code))))) same
+        (subst (λ (l : Option Link). IfOk r (AreOf (IsByLink may_open remaining name id l))) same_link by_link))
+
+  pub debug_none : (name : List ℕ) (all : Option CodeParts) → all ≡ None → (bytes : Option (List ℕ)) → IsOf all bytes → AreOf (IsDebugOf may_open remaining name bytes) None
+  debug_none name all is bytes of =
+      let none : bytes ≡ None = subst (λ (o : Option CodeParts). IsOf o bytes) is of in
+      (None, subst (λ (bytes : Option (List ℕ)). IsDebugOf may_open remaining name bytes None) (sym none) refl, refl)
+
+-- ---- by a link
+
+pub linked_whole : (known : Option (List ℕ)) (link : Link) (build : Option (List ℕ)) (code : CodeParts) (bytes : List ℕ) → parts_of code ≡ whole bytes → is_linked link build bytes ≡ true → IsReading known (Some bytes)
+    → AreOf (IsLinkedReading known link build) (Some code)
+linked_whole known link build code bytes is leads read =
+    (Some bytes, (Some bytes, read, ap (λ (b : Bool). if b then Some bytes else None) (sym leads)), subst (λ (image : Image). IsImageOf image bytes) (sym is) (whole_is bytes))
+
+pub linked_not : (known : Option (List ℕ)) (link : Link) (build : Option (List ℕ)) (bytes : List ℕ) → is_linked link build bytes ≡ false → IsReading known (Some bytes) → AreOf (IsLinkedReading known link build) None
+linked_not known link build bytes is read = (None, (Some bytes, read, ap (λ (b : Bool). if b then Some bytes else None) (sym is)), refl)
+
+pub unread : (known : Option (List ℕ)) (link : Link) (build : Option (List ℕ)) → AreOf (IsLinkedReading known link build) None
+unread known link build = (None, (None, tt, refl), refl)
