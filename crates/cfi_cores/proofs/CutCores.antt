@@ -1,31 +1,26 @@
 -- What the beginning of a core file says of the whole.
-use Rattle.std.proofs.Common.{◌≡◌, ◌∙◌, ◌≤◌, ◌<◌, ◌+◌, ◌-◌, ◌*◌, ◌==◌, ◌&&◌, ◌||◌, ℕ, Bool, true, false, not, List, [], ◌∷◌, length, take, drop, Option, Some, None, Result, Ok, Err, refl, sym, ap, ap₂, arith, min, true≢false}
+use Rattle.std.proofs.Common.{◌≡◌, ◌∙◌, ◌≤◌, ◌+◌, ◌-◌, ◌*◌, ◌==◌, ◌&&◌, ℕ, Bool, true, false, not, List, [], length, take, Option, Some, None, Result, Ok, Err, refl, sym, ap, ap₂, arith, min, true≢false}
 use Rattle.std.specs.Prelude.{nat_le, nat_lt, slice_range, if◌then◌else◌}
 use Rattle.std.proofs.lemmas.Bool.{leb-true}
-use Rattle.std.proofs.lemmas.List.{drop-take, take-take}
 use Rattle.cfi_read_core.specs.ByteOrder.{is_big}
 use Rattle.cfi_read_core.specs.ReaderCalls.{map_ok}
 use Rattle.cfi_elf.specs.declared.error.ElfError.{ElfError}
 use Rattle.cfi_elf.specs.declared.error.ElfError.TheVariants.{HeaderCut, NotCore, ProgramEntrySize, ProgramTableOutOfBounds, UnknownVersion}
 use Rattle.cfi_elf.specs.declared.file_header.Identification.{Identification}
 use Rattle.cfi_elf.specs.declared.program_header.ProgramHeader.{ProgramHeader}
-use Rattle.cfi_elf.specs.ElfFiles.{File, any_file, class_of_file, core_file, header_bytes, identification, is_big_file, only_core}
+use Rattle.cfi_elf.specs.ElfFiles.{File, any_file, class_of_file, core_file, header_bytes, identification, only_core}
 use Rattle.cfi_elf.specs.Fields.{part}
 use Rattle.cfi_elf.specs.Headers.{file_header, file_header_bytes, program_header_bytes}
-use Rattle.cfi_elf.specs.Images.{Image, IsImageOf, bytes_at, if_read, in_parts, whole}
+use Rattle.cfi_elf.specs.Images.{Image, bytes_at, if_read, whole}
 use Rattle.cfi_elf.specs.Options.{or_else}
 use Rattle.cfi_elf.specs.Results.{and_then, or_missing}
 use Rattle.cfi_elf.specs.Sections.{first_section_header}
 use Rattle.cfi_elf.specs.SegmentLists.{segments}
 use Rattle.cfi_elf.specs.Segments.{program_headers, program_table, segment_count}
 use Rattle.cfi_elf.proofs.ImageParts.{part_of_part}
-use Rattle.cfi_elf.proofs.Images.{in_whole}
 use Rattle.cfi_processes.specs.declared.registers.SampleMachine.{SampleMachine}
 use Rattle.cfi_cores.specs.declared.error.CoreError.{CoreError}
-use Rattle.cfi_cores.specs.Contents.{Contents, followed_by, nothing, of_header, of_headers, of_part}
-use Rattle.cfi_cores.specs.CoreFiles.{Core, and_then as and_then_core, core_elf, core_headers, core_of, core_with, machine_of, or_elf_error}
-use Rattle.cfi_cores.specs.CoreParts.{note_ends_by, notes_end_by}
-use Rattle.cfi_cores.specs.CoreSegments.{bytes_of}
+use Rattle.cfi_cores.specs.CoreFiles.{and_then as and_then_core, core_elf, core_headers, core_of, core_with, machine_of, or_elf_error}
 
 -- ---- results
 
@@ -158,33 +153,6 @@ module _ (first bytes : List ℕ) (is : part bytes 0 (length first) ≡ Some fir
         by : (r : Result (List ℕ) ElfError) → program_table cut ≡ r → and_then r (λ table. Ok (program_headers file table)) ≡ Ok headers → and_then (program_table all) (λ table. Ok (program_headers file table)) ≡ Ok headers
         by (Ok t) is_table read = ap (λ (r : Result (List ℕ) ElfError). and_then r (λ table. Ok (program_headers file table))) (same_table t is_table) ∙ read
         by (Err e) is_table read = absurd (cc)
-
-  -- ---- the notes
-
-  same_part : (offset size : ℕ) → offset + size ≤ length first → take size (drop offset first) ≡ take size (drop offset bytes)
-  same_part offset size fits =
-      let long : offset + (length first - offset) ≡ length first = omega (arith, fits) in
-      ap (λ (xs : List ℕ). take size (drop offset xs)) (sym taken ∙ ap (λ (n : ℕ). take n bytes) (sym long))
-      ∙ (ap (take size) (drop-take offset (length first - offset) bytes) ∙ take-take size (length first - offset) (drop offset bytes) (omega (arith, fits)))
-
-  same_note : (machine : SampleMachine) (h : ProgramHeader) → note_ends_by (length first) h ≡ true → of_header machine first h ≡ of_header machine bytes h
-  same_note machine h ends = by (h.p_type == 4) (nat_le (h.p_offset + h.p_filesz) (length first)) refl ends
-    where
-      by : (notes fits : Bool) → nat_le (h.p_offset + h.p_filesz) (length first) ≡ fits → (not notes || fits) ≡ true
-          → (if notes then of_part machine h.p_filesz (bytes_of first h) else nothing) ≡ (if notes then of_part machine h.p_filesz (bytes_of bytes h) else nothing)
-      by true true is_fit ends = ap (of_part machine h.p_filesz) (same_part h.p_offset h.p_filesz (leb-true _ _ is_fit))
-      by true false is_fit ends = absurd (cc)
-      by false fits is_fit ends = refl
-
-  both : (a b : Bool) → (a && b) ≡ true → (a ≡ true) × (b ≡ true)
-  both true b e = (refl, e)
-  both false b e = absurd (cc)
-
-  pub same_notes : (machine : SampleMachine) (headers : List ProgramHeader) → notes_end_by (length first) headers ≡ true → of_headers machine first headers ≡ of_headers machine bytes headers
-  same_notes machine [] ends = refl
-  same_notes machine (h ∷ headers) ends =
-      let (one, others) = both (note_ends_by (length first) h) (notes_end_by (length first) headers) ends in
-      ap₂ followed_by (same_note machine h one) (same_notes machine headers others)
 
   -- ---- the core
 

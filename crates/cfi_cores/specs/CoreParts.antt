@@ -7,7 +7,7 @@
 --     IsPartial bytes partial      what the parts have, by the bytes of the whole file
 --     IsStackOf segments window      each number in a part of the stack is that in the segments
 use Rattle.std.specs.Prelude.{◌≡◌, ℕ, zero, suc, ◌+◌, ◌-◌, ◌^◌, ◌≤◌, Bool, true, false, not, ◌&&◌}
-use Rattle.std.specs.Prelude.{◌||◌, List, [], ◌∷◌, length, take, drop, map, bit_and, nat_le, Option}
+use Rattle.std.specs.Prelude.{List, [], ◌∷◌, length, take, drop, map, bit_and}
 use Rattle.std.specs.Prelude.{Some, Ok, ◌==◌, if◌then◌else◌, option_map}
 use Rattle.std.specs.List.{filter, filter_map, list_any}
 use Rattle.std.specs.List.Sorted.{IsNonDecreasingBy, IsSortedByKey, IsStableByKey}
@@ -22,8 +22,7 @@ use Rattle.cfi_processes.specs.declared.registers.SampleMachine.{SampleMachine}
 use Rattle.cfi_cores.specs.declared.core_parts.CoreHeads.{CoreHeads}
 use Rattle.cfi_cores.specs.declared.core_parts.CoreParts.{CoreParts}
 use Rattle.cfi_cores.specs.declared.core_parts.PartialCore.{PartialCore}
-use Rattle.cfi_cores.specs.declared.error.CoreError.{CoreError}
-use Rattle.cfi_cores.specs.Contents.{Contents, contents_view, of_headers}
+use Rattle.cfi_cores.specs.Contents.{of_headers}
 use Rattle.cfi_cores.specs.CoreFiles.{Core, IsSortedCore, core_of, core_view, core_with, with_vdso}
 use Rattle.cfi_cores.specs.CoreSegments.{CoreSegment, bytes_of, loaded_in, number_among, number_of}
 use Rattle.cfi_cores.specs.CoreThreads.{thread_view}
@@ -56,15 +55,6 @@ is_image image bytes =
 
 -- ---- headers and notes
 
--- whether all notes end at an offset at the latest (PT_NOTE is 4)
-abbrev pub note_ends_by : ℕ → ProgramHeader → Bool
-note_ends_by end header =
-    not (header.p_type == 4) || nat_le (header.p_offset + header.p_filesz) end
-
-abbrev pub notes_end_by : ℕ → List ProgramHeader → Bool
-notes_end_by end [] = true
-notes_end_by end (header ∷ headers) = note_ends_by end header && notes_end_by end headers
-
 -- those that are loaded (PT_LOAD is 1)
 abbrev pub loaded_headers : List ProgramHeader → List ProgramHeader
 loaded_headers headers = filter (λ header. header.p_type == 1) headers
@@ -75,27 +65,27 @@ pub record ArePlaces (headers places : List ProgramHeader) : Type 0 where
   pub stable :
       IsStableByKey (λ (h : ProgramHeader). h.p_vaddr) nat_cmp (loaded_headers headers) places
 
--- what the headers say of a file of these bytes, whose notes say this
-pub record HasHeads (machine : SampleMachine) (noted bytes : List ℕ) (headers : List ProgramHeader)
+-- what the headers and the notes say of a file of these bytes
+pub record HasHeads (machine : SampleMachine) (bytes : List ℕ) (headers : List ProgramHeader)
     (heads : CoreHeads) : Type 0 where
   pub machine_is : heads.machine ≡ machine
   pub threads_are :
       map thread_view heads.threads.items
-      ≡ with_fault (fault_by (of_headers machine noted headers).siginfo)
-      (of_headers machine noted headers).threads
+      ≡ with_fault (fault_by (of_headers machine bytes headers).siginfo)
+      (of_headers machine bytes headers).threads
   pub name_is :
-      option_map (λ name. name.now) heads.name ≡ (of_headers machine noted headers).name
-  pub error_is : heads.error ≡ (of_headers machine noted headers).error
+      option_map (λ name. name.now) heads.name ≡ (of_headers machine bytes headers).name
+  pub error_is : heads.error ≡ (of_headers machine bytes headers).error
   pub mapped_are :
       list_view heads.mapped
-      ≡ with_vdso (or_this [] (of_headers machine noted headers).mapped)
-      (vdso_by (filter_map (loaded_in bytes) headers) (of_headers machine noted headers).vector)
+      ≡ with_vdso (or_this [] (of_headers machine bytes headers).mapped)
+      (vdso_by (filter_map (loaded_in bytes) headers) (of_headers machine bytes headers).vector)
   pub places_are : ArePlaces headers heads.places.items
 
 pub record HasHeadsOf (bytes : List ℕ) (heads : CoreHeads) : Type 0 where
   pub headers : List ProgramHeader
   pub reads : core_of bytes ≡ Ok (core_with heads.machine bytes headers)
-  pub has : HasHeads heads.machine bytes bytes headers heads
+  pub has : HasHeads heads.machine bytes headers heads
 
 -- ---- segments
 

@@ -64,7 +64,7 @@ pub(crate) fn read_contents<'run>(
 
 impl<'run> Contents<'run> {
     /// Nothing yet.
-    fn new(alloc: Global) -> Self
+    pub(crate) fn new(alloc: Global) -> Self
         ensures { contents_view result ≡ nothing }
     {
         Contents {
@@ -96,7 +96,7 @@ impl<'run> Contents<'run> {
 
     /// Reads the notes too that a file has of a segment of this size. Where the file ends before
     /// the segment does, notes are cut, even if the last one it has is whole.
-    fn read_part(
+    pub(crate) fn read_part(
         &mut self,
         alloc: Global,
         machine: SampleMachine,

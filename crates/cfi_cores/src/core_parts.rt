@@ -9,18 +9,20 @@ ghost use Rattle.cfi_elf.specs.SegmentLists.{segments_left};
 ghost use Rattle.cfi_object.specs.FileParts.{AreOfInput, are_apart, is_apart, is_free};
 ghost use Rattle.cfi_object.specs.FileParts.{IsLength};
 ghost use Rattle.cfi_cores.specs.CoreParts.{HasHeads, HasHeadsOf, IsPartial, bytes_if, head_in};
-ghost use Rattle.cfi_cores.specs.CoreParts.{image_of, is_head, loaded_headers, note_ends_by};
-ghost use Rattle.cfi_cores.specs.CoreParts.{IsAt, IsStackOf, IsWindowIn, notes_end_by};
+ghost use Rattle.cfi_cores.specs.CoreParts.{image_of, is_head, loaded_headers};
+ghost use Rattle.cfi_cores.specs.CoreParts.{IsAt, IsStackOf, IsWindowIn};
 ghost use Rattle.cfi_cores.specs.CoreParts.{has_part, has_parts, is_image, segment_at, start_from};
 ghost use Rattle.cfi_cores.specs.CoreParts.{with_all};
+ghost use Rattle.cfi_cores.specs.Contents.{contents_view, of_headers};
 ghost use Rattle.cfi_cores.specs.CoreFiles.{core_view};
 ghost use Rattle.cfi_cores.specs.CoreSegments.{AreInOrder, bytes_of, segment_view};
 ghost use Rattle.cfi_cores.specs.MappedFiles.{mapping_view};
 
-use crate::contents::read_contents;
+use crate::contents::Contents;
 use crate::core_file::{
     Core, core_elf, machine_of, or_none, segments_of_elf, with_fault, with_vdso,
 };
+use crate::core_notes::{note_ranges, read_noted};
 use crate::error::CoreError;
 use crate::fault::fault_by;
 use crate::mapped_files::CoreMapping;
@@ -155,8 +157,9 @@ fn is_apart(part: &FilePart, start: u64, end: u64) -> bool
 }
 
 /// Reads the parts of a core file that are needed for its threads, what is mapped and the stacks:
-/// its beginning with all headers and notes, the segments where the first byte of a file is mapped,
-/// and of each thread's stack what lies from its stack pointer on.
+/// its beginning with all headers, the notes, which may lie behind the memory, the segments where
+/// the first byte of a file is mapped, and of each thread's stack what lies from its stack pointer
+/// on.
 ///
 /// Fails with `Unreadable` where the length can't be told or a read fails, and with `OutOfMemory`.
 /// Allocates for the parts.
@@ -165,11 +168,28 @@ pub fn read_core_parts<I: FileInput>(alloc: Global, input: &mut I) -> Result<Cor
     ensures same { I.bytes input.new ≡ I.bytes input.old }
 {
     let parts = begin(alloc, input)?;
-    // The beginning says where the headers end, and these where the notes do.
+    // The beginning says where the headers end, and these where the notes are.
     let parts = up_to_notes(alloc, parts, input)?;
-    let mut parts = up_to_notes(alloc, parts, input)?;
+    let parts = up_to_notes(alloc, parts, input)?;
+    let notes = note_ranges(alloc, parts.image())?;
+    let parts = with_ranges(alloc, parts, notes.as_slice(), input)?;
     let ranges = ranges_of(alloc, parts.image())?;
-    for range in ranges.as_slice() {
+    with_ranges(alloc, parts, ranges.as_slice(), input)
+}
+
+/// Reads these ranges too, each if none of its bytes was read.
+fn with_ranges<I: FileInput>(
+    alloc: Global,
+    parts: CoreParts,
+    ranges: &[Range],
+    input: &mut I,
+) -> Result<CoreParts, InputError>
+    requires { AreOfInput (I.bytes input.old) (image_of parts) }
+    ensures read { IfOk result (λ parts. AreOfInput (I.bytes input.old) (image_of parts)) }
+    ensures same { I.bytes input.new ≡ I.bytes input.old }
+{
+    let mut parts = parts;
+    for range in ranges {
         parts = with_part(alloc, parts, range.start, range.end, input)?;
     }
     Ok(parts)
@@ -204,7 +224,7 @@ fn first_part<I: FileInput>(
     })
 }
 
-/// Reads the beginning again where the program headers or the notes end behind it.
+/// Reads the beginning again where the program headers, or notes that begin in it, end behind it.
 fn up_to_notes<I: FileInput>(
     alloc: Global,
     parts: CoreParts,
@@ -223,8 +243,8 @@ fn up_to_notes<I: FileInput>(
     }
 }
 
-/// Where the program headers end, or the notes where all headers are among these bytes; 0 for bytes
-/// that are the beginning of no core file.
+/// Where the program headers end, or, where all headers are among these bytes, the notes that begin
+/// among them; 0 for bytes that are the beginning of no core file.
 fn end_of_heads(first: &[u8]) -> u64 {
     if first.len() < HEADER_SIZE {
         return 0;
@@ -233,16 +253,16 @@ fn end_of_heads(first: &[u8]) -> u64 {
         return 0;
     };
     match segments_of_elf(&file) {
-        Ok(headers) => end_of_notes(headers),
+        Ok(headers) => end_of_notes(headers, first.len() as u64),
         Err(_) => end_of_headers(&file),
     }
 }
 
-/// Where the last notes end.
-fn end_of_notes(headers: Segments<'_>) -> u64 {
+/// Where the last notes end of those that begin before an offset.
+fn end_of_notes(headers: Segments<'_>, behind: u64) -> u64 {
     let mut end = 0u64;
     for header in headers {
-        if header.p_type == PT_NOTE {
+        if header.p_type == PT_NOTE && header.p_offset < behind {
             end = end.max(header.p_offset.saturating_add(header.p_filesz));
         }
     }
@@ -298,13 +318,12 @@ fn more<I: FileInput>(
 
 /// What lies between two offsets of a file.
 #[derive(Clone, Copy, Debug)]
-struct Range {
-    start: u64,
-    end: u64,
+pub(crate) struct Range {
+    pub(crate) start: u64,
+    pub(crate) end: u64,
 }
 
-/// The parts that are to be read, by the beginning of the file; none where that doesn't have the
-/// headers and the notes.
+/// The parts that are to be read, by the headers and the notes; none where these weren't read.
 fn ranges_of(alloc: Global, image: Image<'_>) -> Result<Vec<Range>, InputError> {
     match ranges_in(alloc, image) {
         Ok(ranges) => Ok(ranges),
@@ -341,7 +360,7 @@ fn push_heads(
 }
 
 /// Where the bytes of a segment end in a file of this length.
-fn end_of(length: u64, place: &ProgramHeader) -> u64 {
+pub(crate) fn end_of(length: u64, place: &ProgramHeader) -> u64 {
     place.p_offset.saturating_add(place.p_filesz).min(length)
 }
 
@@ -388,8 +407,9 @@ fn stack_pointers(alloc: Global, heads: &CoreHeads<'_>) -> Result<Vec<u64>, Allo
     Ok(pointers)
 }
 
-/// What the headers and the notes of a core file say, by the beginning of the file. `None` where
-/// that doesn't have all of them, or they can't be read. Fails where memory is refused.
+/// What the headers and the notes of a core file say, by the beginning of the file and the notes
+/// that were read. `None` where something is lacking, or can't be read. Fails where memory is
+/// refused.
 pub(crate) fn core_heads<'run>(
     alloc: Global,
     image: Image<'run>,
@@ -413,45 +433,27 @@ pub(crate) fn core_heads<'run>(
     let Ok(headers) = segments_of_elf(&file) else {
         return Ok(None);
     };
-    if !notes_end_by(headers, first.len() as u64) {
+    let Some(contents) = read_noted(alloc, machine, image, headers)? else {
         return Ok(None);
-    }
-    match heads_by(alloc, machine, image, headers) {
+    };
+    match heads_by(alloc, machine, image, headers, contents) {
         Ok(heads) => Ok(Some(heads)),
         Err(error) => Err(error),
     }
 }
 
-/// Whether all notes end before this offset, or at it.
-fn notes_end_by(headers: Segments<'_>, end: u64) -> bool
-    ensures { result ≡ notes_end_by end (segments_left headers.entry) }
-{
-    for header in headers {
-        if !note_ends_by(&header, end) {
-            return false;
-        }
-    }
-    true
-}
-
-/// Whether the header has no notes, or these end before this offset, or at it.
-fn note_ends_by(header: &ProgramHeader, end: u64) -> bool
-    ensures { result ≡ note_ends_by end header.now }
-{
-    header.p_type != PT_NOTE || (header.p_filesz <= end && header.p_offset <= end - header.p_filesz)
-}
-
-/// What these headers and their notes say. Fails where memory is refused.
+/// What these headers say, and their notes, which say this. Fails where memory is refused.
 fn heads_by<'run>(
     alloc: Global,
     machine: SampleMachine,
     image: Image<'run>,
     headers: Segments<'run>,
+    contents: Contents<'run>,
 ) -> Result<CoreHeads<'run>, AllocError>
-    ensures { (bytes : List ℕ) → length bytes ≡ image.entry.length → IfOk result (λ heads.
-        HasHeads machine image.entry.first.now bytes (segments_left headers.entry) heads) }
+    ensures { (bytes : List ℕ) → length bytes ≡ image.entry.length
+        → contents_view contents.entry ≡ of_headers machine bytes (segments_left headers.entry)
+        → IfOk result (HasHeads machine bytes (segments_left headers.entry)) }
 {
-    let contents = read_contents(alloc, machine, image.first, headers)?;
     let vdso = vdso_of(image.length, headers, contents.vector);
     let files = or_none(alloc, contents.mapped);
     let mut places = loaded_headers(alloc, headers)?;
@@ -577,7 +579,7 @@ fn head_bytes<'run>(image: Image<'run>, is_head: bool, place: &ProgramHeader) ->
 }
 
 /// The bytes of a segment; `None` where not all of them were read.
-fn bytes_in<'run>(image: Image<'run>, place: &ProgramHeader) -> Option<&'run [u8]>
+pub(crate) fn bytes_in<'run>(image: Image<'run>, place: &ProgramHeader) -> Option<&'run [u8]>
     ensures { (bytes : List ℕ) → IsImageOf (image_view image.entry) bytes
         → IfSome result (λ found. found.now ≡ bytes_of bytes place.now) }
 {

@@ -5,12 +5,14 @@
 //! `PT_LOAD` the memory. `core_file` reads it, `contents` its notes, `thread`, `mapped_files`,
 //! `process_name`, `fault` and `vdso` what these say; `builds` finds images of files in the memory,
 //! and their build ids; `registers` finds a thread's registers by DWARF's numbers, and `memory`
-//! reads the memory. `core_parts` reads the parts of a core file that its stacks need.
+//! reads the memory. `core_parts` reads the parts of a core file that its stacks need, `core_notes`
+//! its notes by these.
 #![tactic(auto)]
 
 pub mod builds;
 mod contents;
 pub mod core_file;
+mod core_notes;
 pub mod core_parts;
 pub mod error;
 pub mod fault;

@@ -14,9 +14,9 @@ use Rattle.cfi_cores.specs.Vdso.{vdso_by}
 use Rattle.cfi_cores.proofs.core_parts.heads_by.Goals as goal
 
 pub returns : goal.returns
-returns c = λ bytes size.
+returns c = λ bytes size said.
     let keys = answers_always _ _ _ (λ f a r next called. search rules) in
-    let contents = c.in_ok-contents.ensures in
+    let contents = said in
     record {
       machine_is = refl;
       threads_are = c.with_fault.ensures ∙ ap₂ with_fault (c.fault_by.ensures ∙ ap (λ (contents : Contents). fault_by contents.siginfo) contents) (ap (λ (contents : Contents). contents.threads) contents);

@@ -1,7 +1,7 @@
 use Rattle.std.proofs.Common.{◌≡◌}
 use Rattle.cfi_object.specs.FileParts.{AreOfInput}
 use Rattle.cfi_cores.specs.CoreParts.{image_of}
-use Rattle.cfi_cores.proofs.core_parts.read_core_parts.Given as goal
+use Rattle.cfi_cores.proofs.core_parts.with_ranges.Given as goal
 
 abbrev pub invariant-loop-range : goal.invariant-loop-range
 invariant-loop-range g l =
