@@ -4,9 +4,7 @@ use Rattle.std.proofs.Math.Seq.{take-nil}
 use Rattle.std.specs.Option.{option_eq}
 use Rattle.cfi_perf.specs.Events.{Event, Record, ForkEvent, LostEvent, MappingEvent, OtherEvent, ProgramEvent, SampleEvent}
 use Rattle.cfi_processes.specs.KnownFiles.{KnownFile}
-use Rattle.cfi_processes.specs.Replays.{after}
-use Rattle.cfi_processes.specs.ThreadNames.{names_after}
-use Rattle.std.proofs.Common.{◌⊎◌, inl, inr}
+use Rattle.std.proofs.Common.{inl, inr}
 use Rattle.cfi_stacks.specs.Choices.{Choice, limited}
 use Rattle.cfi_stacks.specs.Foldings.{IsKnownAfter, IsTurn, is_left_out, left_after}
 use Rattle.cfi_stacks.specs.ProfileOutputs.{AreOfAll, Known, KnownSample, chosen, chosen_of, is_chosen, known_after, sample_at}

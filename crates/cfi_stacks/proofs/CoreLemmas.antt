@@ -1,13 +1,8 @@
 -- What the files of a core have of its process, one mapping after the other.
-use Rattle.std.proofs.Common.{◌||◌, ◌≡◌, ◌∙◌, ℕ, ◌+◌, ◌<◌, ◌≤◌, ◌&&◌, Bool, true, false, List, [], ◌∷◌, ◌++◌, Bor, Option, Some, None, length, get_or, drop, map, option_map, cond, refl, sym, ap, add-one, append_assoc}
+use Rattle.std.proofs.Common.{◌||◌, ◌≡◌, ◌∙◌, ℕ, ◌+◌, ◌<◌, ◌≤◌, ◌&&◌, Bool, List, [], ◌∷◌, ◌++◌, Option, Some, None, length, get_or, drop, map, refl, sym, ap, add-one, append_assoc}
 use Rattle.std.proofs.Math.Seq.{drop-cons}
 use Rattle.std.proofs.lemmas.List.{drop_all, map-append}
-use Rattle.std.specs.List.{cons_option, filter_map, find, fold, list_all, list_any}
-use Rattle.std.specs.Option.{option_and_then}
-use Rattle.std.specs.Str.{bytes_eq}
-use Rattle.cfi_processes.specs.declared.profile_files.OpenedFile.{OpenedFile}
-use Rattle.cfi_processes.specs.OpenedFiles.{bytes_view, opened_view}
-use Rattle.cfi_stacks.specs.CoreOutputs.{bytes_named}
+use Rattle.std.specs.List.{cons_option, filter_map, fold, list_all, list_any}
 
 -- ---- a list of the code, element after element
 
@@ -56,24 +51,3 @@ all_mapped f p (x ∷ xs) = ap (λ (b : Bool). p (f x) && b) (all_mapped f p xs)
 pub any_mapped : {X Y : Type 0} (f : X → Y) (p : Y → Bool) (xs : List X) → list_any (λ x. p (f x)) xs ≡ list_any p (map f xs)
 any_mapped f p [] = refl
 any_mapped f p (x ∷ xs) = ap (λ (b : Bool). p (f x) || b) (any_mapped f p xs)
-
--- ---- a file by its name
-
-find_mapped : {X Y : Type 0} (f : X → Y) (p : Y → Bool) (xs : List X) → find p (map f xs) ≡ option_map f (find (λ x. p (f x)) xs)
-find_mapped f p [] = refl
-find_mapped f p (x ∷ xs) = by (p (f x)) (find_mapped f p xs)
-  where
-    by : (b : Bool) → find p (map f xs) ≡ option_map f (find (λ x. p (f x)) xs) → cond b (Some (f x)) (find p (map f xs)) ≡ option_map f (cond b (Some x) (find (λ x. p (f x)) xs))
-    by true others = refl
-    by false others = others
-
--- the bytes of what was found
-pub bytes_found : (opened : List OpenedFile) (name : List ℕ) (o : Option (Bor OpenedFile)) → option_map (λ one. one.now) o ≡ find (λ one. bytes_eq one.name.now name) opened
-    → option_and_then (λ one. bytes_view one.now.bytes) o ≡ bytes_named (map opened_view opened) name
-bytes_found opened name o is =
-    by o ∙ (ap (λ (found : Option OpenedFile). option_and_then (λ one. one.bytes) (option_map opened_view found)) is
-    ∙ ap (option_and_then (λ one. one.bytes)) (sym (find_mapped opened_view (λ one. bytes_eq one.name name) opened)))
-  where
-    by : (o : Option (Bor OpenedFile)) → option_and_then (λ one. bytes_view one.now.bytes) o ≡ option_and_then (λ one. one.bytes) (option_map opened_view (option_map (λ one. one.now) o))
-    by None = refl
-    by (Some one) = refl

@@ -23,7 +23,6 @@ use Rattle.cfi_processes.specs.declared.registers.SampleMachine.{SampleMachine}
 use Rattle.cfi_processes.specs.KnownFiles.{KnownFile}
 use Rattle.cfi_stacks.specs.FoldedTexts.{frame_name, names_text}
 use Rattle.cfi_object.specs.declared.input.InputError.TheVariants.{OutOfMemory as InputMemory}
-use Rattle.cfi_stacks.specs.declared.folding.Unfolded.{Unfolded}
 use Rattle.cfi_stacks.specs.declared.folding.Unfolded.TheVariants.{Input, TooMany}
 use Rattle.cfi_stacks.specs.Foldings.{AddsAll, IsFollowed, IsNotFollowed, IsTurn}
 use Rattle.cfi_stacks.specs.Choices.{Choice}

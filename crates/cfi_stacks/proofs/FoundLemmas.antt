@@ -1,11 +1,11 @@
 -- The records of a profile as they are found by windows, one after the other.
-use Rattle.std.proofs.Common.{◌≡◌, ◌∙◌, ◌⊎◌, ◌<◌, ◌≤◌, ◌+◌, ◌-◌, ℕ, suc, Bool, true, false, List, [], ◌∷◌, ◌++◌, Option, Some, None, Result, Ok, Err, IfSome, length, take, drop, map, min, replicate, refl, sym, ap, subst, append_assoc, append-nil, length-append, arith, ⊎_elim, inl, inr, add-one, rules}
+use Rattle.std.proofs.Common.{◌≡◌, ◌∙◌, ◌⊎◌, ◌<◌, ◌≤◌, ◌+◌, ◌-◌, ℕ, Bool, true, false, List, [], ◌∷◌, ◌++◌, Option, Some, None, Result, Ok, Err, IfSome, length, take, drop, map, min, replicate, refl, sym, ap, subst, append_assoc, append-nil, length-append, arith, ⊎_elim, inl, inr}
 use Rattle.std.specs.Result.{is_err}
 use Rattle.std.specs.Prelude.{IfOk, OnOk, option_map, slice_range, nat_le, if◌then◌else◌}
-use Rattle.std.specs.List.{All, Contains, flat_map}
-use Rattle.std.proofs.Math.Seq.{drop-append_seam, drop-append-add, take-append-add, take-append_seam, take-length}
+use Rattle.std.specs.List.{All, Contains}
+use Rattle.std.proofs.Math.Seq.{drop-append-add, take-length}
 use Rattle.std.proofs.lemmas.Bool.{cases_lt}
-use Rattle.std.proofs.lemmas.List.{drop-append-le, drop-drop, drop-take, drop_all, drop_min, length-drop, length-map, length-replicate, length-take, map-append, take-append-drop, take-append-le, take-take, take_at, take_min, drop_at}
+use Rattle.std.proofs.lemmas.List.{drop-append-le, drop-drop, drop-take, drop_all, length-drop, length-replicate, length-take, map-append, take-append-drop, take-append-le, take-take, drop_at}
 use Rattle.std.proofs.lemmas.List.Elements.{All-append, All-cons, All-nil, Contains-append_left, Contains-append_right}
 use Rattle.std.proofs.lemmas.Grind.{flat_map-append}
 use Rattle.cfi_object.specs.FileParts.{IsPartRead}
@@ -18,15 +18,15 @@ use Rattle.cfi_perf.specs.declared.record.Record.{Record as RecordOfCode}
 use Rattle.cfi_perf.specs.declared.windows.RecordWalk.{RecordWalk}
 use Rattle.cfi_perf.specs.Events.{record_view, Event, OtherEvent, Record, SampleEvent, MappingEvent, ProgramEvent, ForkEvent, LostEvent}
 use Rattle.cfi_read_core.specs.ReaderCalls.{map_ok}
-use Rattle.cfi_perf.specs.Indexes.{AreAt, AreIndexed, IsKeptIn, IsOfBytes, bytes_at, kept_bytes, kept_of, kind_of, offset_for, place_for, places_of}
+use Rattle.cfi_perf.specs.Indexes.{AreAt, AreIndexed, IsOfBytes, kept_bytes, kept_of, kind_of, offset_for, place_for, places_of}
 use Rattle.cfi_perf.specs.Recordings.{is_sample}
 use Rattle.cfi_perf.specs.Records.{Meets, Records, no_records}
-use Rattle.cfi_perf.specs.Windows.{IsAlone, IsSameWalk, IsWindow, IsWithin, bytes_left, passed, place_in, record_alone, records_in}
+use Rattle.cfi_perf.specs.Windows.{IsAlone, IsSameWalk, IsWithin, bytes_left, passed, place_in, record_alone, records_in}
 use Rattle.cfi_perf.proofs.WindowSteps.{front_range}
 use Rattle.cfi_processes.specs.Replays.{has_kernel_frames}
 use Rattle.cfi_stacks.specs.declared.profile_index.ProfileIndex.{ProfileIndex}
 use Rattle.cfi_stacks.specs.declared.profile_index.Tally.{Tally}
-use Rattle.cfi_stacks.specs.ProfileIndexes.{IsTallyOf, HasRecords, IsFoundOf, IsKernelAt, IsNextIn, IsPartOf, IsPieceOf, IsPlacedIn, IsWholeOf, IsWindowIn, Piece, all_bytes, kernel_after, place_of, record_of, records_bytes}
+use Rattle.cfi_stacks.specs.ProfileIndexes.{IsTallyOf, HasRecords, IsFoundOf, IsKernelAt, IsNextIn, IsPartOf, IsPieceOf, IsPlacedIn, IsWindowIn, Piece, all_bytes, kernel_after, place_of, record_of, records_bytes}
 
 -- ---- parts of lists
 

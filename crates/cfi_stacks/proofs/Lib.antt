@@ -9,8 +9,13 @@ mod ReadLemmas
 mod ThreadLemmas
 mod CoreLemmas
 mod CoreRunLemmas
+mod MissingLemmas
+mod NullLemmas
+mod SignalLemmas
 mod QuickLemmas
 mod Worked
+mod WorkedSignals
+mod WorkedNullCalls
 mod PieceLemmas
 mod TurnLemmas
 mod AroundLemmas
@@ -20,3 +25,6 @@ mod FoundLemmas
 mod SortedPieces
 mod WantedPieces
 mod TallyLemmas
+mod SortedWindows
+mod FileWindows
+mod VdsoFiles

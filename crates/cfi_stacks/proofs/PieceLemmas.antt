@@ -1,23 +1,23 @@
 -- The records of an index by their own bytes: what is read again in the place of one of them.
-use Rattle.std.proofs.Common.{◌≡◌, ◌∙◌, ◌⊎◌, ◌<◌, ◌≤◌, ◌+◌, ℕ, zero, suc, Bool, true, false, List, [], ◌∷◌, ◌++◌, Option, Some, None, Result, Ok, Err, IfSome, length, get_or, set, take, drop, map, refl, sym, ap, subst, append_assoc, append-nil, length-append, arith, ⊎_elim, inl, inr, true≢false, add-one}
-use Rattle.std.specs.List.{All, Contains, list_any}
+use Rattle.std.proofs.Common.{◌≡◌, ◌∙◌, ◌⊎◌, ◌<◌, ◌≤◌, ◌+◌, ℕ, zero, suc, false, List, [], ◌∷◌, ◌++◌, Option, Some, None, Result, Ok, IfSome, length, get_or, set, take, map, refl, sym, ap, subst, append_assoc, append-nil, length-append, arith, ⊎_elim, inl, inr, add-one}
+use Rattle.std.specs.List.{All}
 use Rattle.std.specs.List.Sorted.{IsSortedByKey}
 use Rattle.std.specs.Ordering.{nat_cmp, is_lt}
 use Rattle.std.proofs.Math.Seq.{take-suc}
 use Rattle.std.proofs.lemmas.List.{get_or-map, get_or-set_other, get_or-set_same, get_or_default, length-map, length-set}
 use Rattle.std.proofs.lemmas.Bool.{cases_lt}
-use Rattle.std.proofs.lemmas.List.Elements.{All-cons, All-set}
+use Rattle.std.proofs.lemmas.List.Elements.{All-set}
 use Rattle.cfi_perf.specs.declared.error.PerfError.{PerfError}
 use Rattle.cfi_perf.specs.declared.index.PlaceKind.{PlaceKind}
 use Rattle.cfi_perf.specs.declared.index.PlaceKind.TheVariants.{InFile, Kept, Nothing}
 use Rattle.cfi_perf.specs.declared.index.RecordPlace.{RecordPlace}
 use Rattle.cfi_perf.specs.declared.windows.RecordWalk.{RecordWalk}
-use Rattle.cfi_perf.specs.Events.{Event, OtherEvent, Record}
+use Rattle.cfi_perf.specs.Events.{OtherEvent, Record}
 use Rattle.cfi_perf.specs.Indexes.{AreAt, IsInTimeOrder, bytes_at, kept_of, places_of, record_by}
 use Rattle.cfi_perf.specs.Records.{Records, no_records, with_first}
 use Rattle.cfi_perf.specs.Windows.{bytes_left, record_alone, records_in}
 use Rattle.cfi_perf.proofs.PieceSteps.{then_others}
-use Rattle.cfi_processes.specs.Replays.{has_kernel, has_kernel_frames}
+use Rattle.cfi_processes.specs.Replays.{has_kernel_frames}
 use Rattle.cfi_stacks.specs.declared.profile_index.ProfileIndex.{ProfileIndex}
 use Rattle.cfi_stacks.specs.ProfileIndexes.{AreRecordsOf, IsIndexOf, IsKernelAt, IsKernelFit, IsPieceOf, IsPlacedIn, IsReadAt, IsReadBy, Piece, all_bytes, place_of, record_of, records_bytes}
 use Rattle.cfi_stacks.proofs.ReadLemmas.{behind_these}

@@ -1,5 +1,5 @@
 -- A core file of which parts were read: what is printed of it is what is printed of the whole file.
-use Rattle.std.proofs.Common.{◌≡◌, ◌∙◌, ◌==◌, ◌&&◌, ◌||◌, ◌⊎◌, ℕ, Bool, true, false, not, List, [], ◌∷◌, map, cond, Option, Some, None, Result, Ok, Err, IfOk, IfSome, refl, sym, ap, ap₂, subst, inl, inr, take, arith}
+use Rattle.std.proofs.Common.{◌≡◌, ◌∙◌, ◌==◌, ◌&&◌, ◌||◌, ◌⊎◌, ℕ, Bool, true, false, not, List, [], ◌∷◌, map, cond, length, Option, Some, None, Result, Ok, Err, IfOk, IfSome, refl, sym, ap, ap₂, subst, inl, inr, take, arith}
 use Rattle.std.specs.Prelude.{if◌then◌else◌}
 use borrow.Author.Tests.{eqb-true}
 use Rattle.std.proofs.lemmas.Bool.Decides.{nat_tests}
@@ -14,22 +14,21 @@ use Rattle.cfi_read_core.specs.ReadFunctions.{Position}
 use Rattle.cfi_read_core.specs.SliceReaders.{EndianSlice, slice_over, slice_position}
 use Rattle.cfi_elf.specs.Options.{or_else}
 use Rattle.cfi_elf.specs.declared.program_header.ProgramHeader.{ProgramHeader}
-use Rattle.cfi_expression.specs.declared.error.FrameError.{FrameError}
-use Rattle.cfi_expression.specs.declared.error.FrameError.TheVariants.{UnknownRegister, UnreadableMemory}
 use Rattle.cfi_expression.specs.Windows.{number_in}
-use Rattle.cfi_expression.proofs.LesserFrames.{Extends, is_lacking}
+use Rattle.cfi_expression.proofs.LesserFrames.{Extends}
 use Rattle.cfi_step.specs.declared.module.LoadedModule.{LoadedModule}
-use Rattle.cfi_step.specs.declared.walk.End.{End}
-use Rattle.cfi_step.specs.declared.walk.End.TheVariants.{Failed}
 use Rattle.cfi_step.specs.declared.walk.Walk.{Walk}
-use Rattle.cfi_step.proofs.LesserWalks.{lacks_end, walk_over_more}
+use Rattle.cfi_step.specs.declared.step.Caller.{Caller}
+use Rattle.cfi_step.specs.declared.walk.End.{End}
+use Rattle.cfi_step.specs.Walks.{State}
+use Rattle.cfi_step.proofs.LesserWalks.{IsAll, IsLess, steps_more, walk_by_more}
 use Rattle.cfi_processes.specs.declared.mappings.MappedCode.{MappedCode}
 use Rattle.cfi_processes.specs.declared.registers.SampleMachine.{SampleMachine}
 use Rattle.cfi_processes.specs.declared.sample_stack.NoFrames.{NoFrames}
 use Rattle.cfi_processes.specs.KnownFiles.{KnownFile, modules_in}
 use Rattle.cfi_processes.specs.Mappings.{mapped_over}
 use Rattle.cfi_processes.specs.OpenedFiles.{Opened}
-use Rattle.cfi_processes.specs.Registers.{abi_of, pc_number}
+use Rattle.cfi_processes.specs.Registers.{abi_of, pc_number, register_count}
 use Rattle.cfi_processes.specs.Replays.{with_file}
 use Rattle.cfi_processes.specs.SampleStacks.{Room}
 use Rattle.cfi_processes.specs.Wanted.{Wanted}
@@ -46,7 +45,8 @@ use Rattle.cfi_object.specs.FileParts.{AreOfInput}
 use Rattle.cfi_programs.specs.Lines.{Line}
 use Rattle.cfi_programs.specs.WriterOutput.{Prints, PrintsSome}
 use Rattle.cfi_processes.specs.Modules.{module_view}
-use Rattle.cfi_processes.specs.OpenedFiles.{AreOpened}
+use Rattle.cfi_processes.specs.declared.opened_file.OpenedFile.{OpenedFile}
+use Rattle.cfi_processes.specs.OpenedFiles.{AreOpened, AreOpenedAs}
 use Rattle.cfi_processes.specs.SampleStacks.{HasRoom}
 use Rattle.cfi_processes.specs.Wanted.{FilePlace}
 use Rattle.cfi_cores.specs.declared.core_parts.PartialCore.{PartialCore}
@@ -59,9 +59,12 @@ use Rattle.cfi_stacks.specs.CoreOutputs.{AreOpenedFor, IsOfCore, IsOfLacking, Is
 use Rattle.cfi_stacks.specs.CoreOutputs.{and_file, code_file, code_files, is_code, mapped_code, mappings_of, with_vdso}
 use Rattle.cfi_stacks.specs.CoreOutputs.{IsPrinted, ended}
 use Rattle.cfi_stacks.specs.ProfileOutputs.{no_memory, wrong_input_in}
-use Rattle.cfi_stacks.specs.QuickStacks.{IsOwedBy, IsStackIn, PrintsOpened, end_lacks, error_lacks, memory_by, walk_lacks}
+use Rattle.cfi_stacks.specs.QuickStacks.{IsStackIn, end_lacks, memory_by, walk_lacks}
 use Rattle.cfi_stacks.proofs.ThreadLemmas.{Printed, printed}
-use Rattle.cfi_stacks.specs.ThreadStacks.{IsUnwound, IsUnwoundFrom, thread_registers}
+use Rattle.cfi_stacks.specs.NullCalls.{IsNullStep}
+use Rattle.cfi_stacks.proofs.NullLemmas.{nulls_more}
+use Rattle.cfi_stacks.proofs.SignalLemmas.{signals_more}
+use Rattle.cfi_stacks.specs.ThreadStacks.{IsThreadStep, IsUnwound, IsUnwoundFrom, thread_registers}
 
 -- ---- segments that have their bytes only where the first byte of a file is mapped
 
@@ -140,17 +143,8 @@ module _ (bytes : List ℕ) (core : Core) (places : List ProgramHeader) (heads :
 
 -- ---- a walk over a part of the stack that lacks nothing
 
-same_error : (e : FrameError) → is_lacking e ≡ error_lacks e
-same_error (UnknownRegister r) = refl
-same_error (UnreadableMemory a) = refl
-same_error e = refl
-
-same_lacks : (end : End) → lacks_end end ≡ end_lacks end
-same_lacks (Failed e) = same_error e
-same_lacks end = refl
-
 module _ {R T : Type 0} (position : R → Position) (number : T → ℕ) (rule_limit stack_limit : Option ℕ) (copies_free : Bool) (modules : List (LoadedModule R)) (machine : SampleMachine) (m m' : ℕ → ℕ → Option ℕ)
-    (more : Extends m m') (thread : CoreThread) (old : Room) (result : Result Walk NoFrames) (new : Room) (whole : walk_lacks result ≡ false) where
+    (more : Extends m m') (thread : CoreThread) (old : Room) (result : Result Walk NoFrames) (new : Room) (whole : walk_lacks machine result ≡ false) where
   -- the same frames; of the last one more registers may be known
   pub record Unwound : Type 0 where
     pub room : Room
@@ -162,12 +156,19 @@ module _ {R T : Type 0} (position : R → Position) (number : T → ℕ) (rule_l
     unwound : IsUnwoundFrom position number rule_limit stack_limit copies_free modules machine m' thread old result room pc
     frames : room.frames ≡ new.frames
 
+  -- by call frames alone
+  abbrev plain : State → Result Caller End → List (Option ℕ) → Type 0
+  plain = IsLess position number more 8 (abi_of machine) rule_limit stack_limit copies_free modules
+
+  abbrev plain' : State → Result Caller End → List (Option ℕ) → Type 0
+  plain' = IsAll position number more 8 (abi_of machine) rule_limit stack_limit copies_free modules
+
   by_pc : (pc : Option ℕ) → IsUnwoundFrom position number rule_limit stack_limit copies_free modules machine m thread old result new pc → UnwoundFrom pc
   by_pc (Some pc) (walk, is, (walks, written)) =
-      let lacks_none : lacks_end walk.end ≡ false = same_lacks walk.end ∙ (ap walk_lacks (sym is) ∙ whole) in
-      let w = walk_over_more position number more 8 (abi_of machine) rule_limit stack_limit copies_free modules
+      let w = walk_by_more (end_lacks machine) (IsThreadStep position number rule_limit stack_limit copies_free modules machine m) (IsThreadStep position number rule_limit stack_limit copies_free modules machine m')
+      (signals_more more machine (IsNullStep machine m plain) (IsNullStep machine m' plain') (nulls_more more machine plain plain' (steps_more position number more 8 (abi_of machine) rule_limit stack_limit copies_free modules)))
       (record { at = record { pc = pc; is_interrupted = true; callee_cfa = None }; registers = thread_registers machine thread; caller = old.caller })
-      (take walk.count new.frames) walk.end new.registers new.caller lacks_none walks in
+      (take walk.count new.frames) walk.end new.registers new.caller (ap (walk_lacks machine) (sym is) ∙ whole) walks in
       record {
         room = record { registers = w.registers; caller = w.caller; frames = new.frames };
         unwound = (walk, is, (w.walked, written));
@@ -191,6 +192,10 @@ each_found (Ok (Some x)) P Q each has = each x has
 each_found (Ok None) P Q each has = tt
 each_found (Err e) P Q each has = tt
 
+pub each_ok : {A E : Type 0} (r : Result A E) (P Q : A → Type 0) → ((x : A) → P x → Q x) → IfOk r P → IfOk r Q
+each_ok (Ok x) P Q each has = each x has
+each_ok (Err e) P Q each has = tt
+
 pub each_some : {A : Type 0} (o : Option A) (P Q : A → Type 0) → ((x : A) → P x → Q x) → IfSome o P → IfSome o Q
 each_some (Some x) P Q each has = each x has
 each_some None P Q each has = tt
@@ -199,13 +204,13 @@ each_some None P Q each has = tt
 
 module _ (listing : ThreadListing) (machine : SampleMachine) (files : List KnownFile) (list : List MappedCode) (name : Option (List ℕ)) (thread : CoreThread) where
   pub text_by_part : (stack : CoreSegment) (view : Position) → view ≡ slice_over stack.bytes false → (memory : ℕ → ℕ → Option ℕ) → IsStackIn memory stack
-      → (modules : List (LoadedModule (EndianSlice RunTimeEndian))) (old : Room) (result : Result Walk NoFrames) (new : Room) → map module_view modules ≡ modules_in files list → HasRoom old.frames
+      → (modules : List (LoadedModule (EndianSlice RunTimeEndian))) (old : Room) (result : Result Walk NoFrames) (new : Room) → map module_view modules ≡ modules_in files list → HasRoom old.frames → length old.caller ≡ register_count machine
       → IsUnwound (slice_position is_big) (λ n. n) (Some 192) (Some 4) true modules machine (λ a size. number_in view stack.start a size) thread old result new
-      → walk_lacks result ≡ false → IsThreadText listing machine files list memory name thread (thread_in listing files list name thread result new.frames)
-  text_by_part stack view same memory within modules old result new are room unwound whole =
+      → walk_lacks machine result ≡ false → IsThreadText listing machine files list memory name thread (thread_in listing files list name thread result new.frames)
+  text_by_part stack view same memory within modules old result new are room registers unwound whole =
       let u = unwound_more (slice_position is_big) (λ n. n) (Some 192) (Some 4) true modules machine (λ a size. number_in view stack.start a size) memory
       (record { numbers = λ a size n is. within a size n (subst (λ (v : Position). number_in v stack.start a size ≡ Some n) same is) }) thread old result new whole unwound in
-      (modules, old, result, u.room, are, room, u.unwound, ap (thread_in listing files list name thread result) (sym u.frames))
+      (modules, old, result, u.room, are, room, registers, u.unwound, ap (thread_in listing files list name thread result) (sym u.frames))
 
 -- numbers of the segments are those of the memory, whatever else it has
 pub in_memory : (segments lent : List CoreSegment) (stack : CoreSegment) → IsStackOf segments stack → IsStackIn (memory_by segments lent) stack
@@ -256,17 +261,18 @@ module _ (listing : ThreadListing) {Handle : Type 0} (may_open : FilePlace → O
       same ∙ same_vdso bytes core_in partial.places.items p.heads opened,
     )
 
-    owed_by : (bytes : List ℕ) (all : List Opened) (line : Line) → AreOpenedFor may_open remaining core_in all → lacks_thread listing core_in ≡ false → IsOwedBy listing image partial all bytes line → IsOwed listing may_open remaining bytes line
-    owed_by bytes all line are lacks (inl (is, of)) =
+    -- by files that were opened, of which the code has these parts
+    pub quick_owed : {E : Type 0} (known : Option (List ℕ)) (opened : List OpenedFile) (line : Line) (old new : Option (List ℕ)) (result : Result ℕ E) → AreOfInput known image
+        → (all : List Opened) × AreOpenedFor may_open remaining core_in all × AreOpenedAs opened all → lacks_thread listing core_in ≡ false
+        → ((bytes : List ℕ) → IsImageOf image bytes → IsPartial bytes partial → (all : List Opened) → AreOpenedAs opened all → IsOfOpened listing (core_whole bytes) all line)
+        → Prints line old new result → PrintsOwed listing may_open remaining known old new result
+    quick_owed known opened line old new result (bytes, left, is) (all, are, hold) lacks of prints =
         let p = each bytes is in
-        inl (inl (subst (λ (r : Result Core CoreError). IsOfRead listing may_open remaining r line) (sym p.reads)
-        (core_whole bytes, p.sorted, of_opened (core_whole bytes) all line (opened_whole bytes p all are) lacks of)))
-    owed_by bytes all line are lacks (inr (inl none)) = inl (inr none)
-    owed_by bytes all line are lacks (inr (inr wrong)) = inr wrong
-
-    pub printed_owed : {E : Type 0} (known : Option (List ℕ)) (all : List Opened) (old new : Option (List ℕ)) (result : Result ℕ E) → AreOpenedFor may_open remaining core_in all → lacks_thread listing core_in ≡ false
-        → PrintsOpened listing image partial all known old new result → PrintsOwed listing may_open remaining known old new result
-    printed_owed known all old new result are lacks (bytes, left, (line, prints, of)) = (bytes, left, (line, prints, owed_by bytes all line are lacks of))
+        let right = of_opened (core_whole bytes) all line (opened_whole bytes p all are) lacks (of bytes is p all hold) in (
+          bytes,
+          left,
+          (line, prints, inl (inl (subst (λ (r : Result Core CoreError). IsOfRead listing may_open remaining r line) (sym p.reads) (core_whole bytes, p.sorted, right)))),
+        )
 
     pub printed_lacking : {E : Type 0} (known old new : Option (List ℕ)) (result : Result ℕ E) → AreOfInput known image → lacks_thread listing core_in ≡ true
         → Prints (no_thread listing.format) old new result → PrintsOwed listing may_open remaining known old new result
@@ -287,24 +293,6 @@ places_in_order known image partial (bytes, left, is) each = (each bytes is).in_
 pub refused_of_parts : {E : Type 0} (listing : ThreadListing) {Handle : Type 0} (may_open : FilePlace → Option Handle → Type 0) (remaining : Handle → Option (List ℕ)) (image : Image) (known old new : Option (List ℕ)) (result : Result ℕ E)
     → AreOfInput known image → Prints (no_memory listing.format) old new result → PrintsOwed listing may_open remaining known old new result
 refused_of_parts listing may_open remaining image known old new result (bytes, left, is) prints = (bytes, left, (no_memory listing.format, prints, inl (inr refl)))
-
-module _ (listing : ThreadListing) (partial : PartialCore) (image : Image) (opened : List Opened) where
-  pub refused_by : {E : Type 0} (known old new : Option (List ℕ)) (result : Result ℕ E) → AreOfInput known image → Prints (no_memory listing.format) old new result → PrintsOpened listing image partial opened known old new result
-  refused_by known old new result (bytes, left, is) prints = (bytes, left, (no_memory listing.format, prints, inr (inl refl)))
-
-  pub quick_by : {E : Type 0} (line : Line) (known old new : Option (List ℕ)) (result : Result ℕ E) → AreOfInput known image
-      → ((bytes : List ℕ) → IsImageOf image bytes → IsOfOpened listing (with_all bytes (core_view partial.core) partial.places.items) opened line)
-      → Prints line old new result → PrintsOpened listing image partial opened known old new result
-  quick_by line known old new result (bytes, left, is) of prints = (bytes, left, (line, prints, inl (is, of bytes is)))
-
-  pub unread_by : {E : Type 0} (known old new : Option (List ℕ)) (result : Result ℕ E) → AreOfInput known image → PrintsSome (λ line. (line ≡ no_memory listing.format) ⊎ (line ≡ wrong_input_in listing.format)) old new result
-      → PrintsOpened listing image partial opened known old new result
-  unread_by known old new result (bytes, left, is) (line, prints, why) = (bytes, left, (line, prints, inr why))
-
-  pub filled_by : {E : Type 0} (bytes : List ℕ) (core : Core) (old new : Option (List ℕ)) (result : Result ℕ E) → IsImageOf image bytes → core ≡ with_all bytes (core_view partial.core) partial.places.items
-      → PrintsSome (λ line. IsOfOpened listing core opened line ⊎ (line ≡ no_memory listing.format)) old new result → PrintsSome (λ line. IsOwedBy listing image partial opened bytes line) old new result
-  filled_by bytes core old new result is same (line, prints, inl of) = (line, prints, inl (is, subst (λ (c : Core). IsOfOpened listing c opened line) same of))
-  filled_by bytes core old new result is same (line, prints, inr none) = (line, prints, inr (inl none))
 
 -- ---- the texts of all threads
 

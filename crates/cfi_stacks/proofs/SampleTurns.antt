@@ -1,5 +1,5 @@
 -- What comes of one record: a sample that is chosen or not, or another one.
-use Rattle.std.proofs.Common.{◌≡◌, ◌∙◌, ℕ, Bool, true, false, true≢false, List, [], ◌++◌, Option, Result, Ok, Err, IfOk, append-nil, inl, inr, refl, subst, sym}
+use Rattle.std.proofs.Common.{◌≡◌, ℕ, Bool, false, true≢false, List, [], Option, Result, Ok, Err, IfOk, append-nil, inl, inr, refl, subst, sym}
 use Rattle.std.specs.Io.KnownBytes.{Appends}
 use Rattle.std.specs.Result.{IsErr}
 use Rattle.cfi_flame.specs.FoldedCounts.{AreCounted}
@@ -18,7 +18,7 @@ use Rattle.cfi_processes.specs.KnownFiles.{KnownFile}
 use Rattle.cfi_stacks.specs.declared.listing.StackStyle.{StackStyle}
 use Rattle.cfi_stacks.specs.declared.profile_index.ProfileIndex.{ProfileIndex}
 use Rattle.cfi_stacks.specs.Choices.{Choice}
-use Rattle.cfi_stacks.specs.Foldings.{AddsAll, CountsRecord, CountsTurn, IsKnownAfter, IsTurn, PrintsRecord, PrintsTurn, is_left_out}
+use Rattle.cfi_stacks.specs.Foldings.{AddsAll, CountsTurn, IsKnownAfter, IsTurn, PrintsRecord, PrintsTurn}
 use Rattle.cfi_stacks.specs.ProfileIndexes.{IsReadAt}
 use Rattle.cfi_stacks.specs.ProfileOutputs.{IsSampleOf, IsTextOf, Known, KnownSample}
 

@@ -1,9 +1,7 @@
 -- What is printed of a profile, from the records of an index up to the bytes of the file.
-use Rattle.std.proofs.Common.{◌≡◌, ◌∙◌, ◌⊎◌, ◌+◌, ℕ, Bool, List, Option, Some, None, Result, Ok, Err, ap, inl, inr, length, map, refl, replicate, subst, sym}
+use Rattle.std.proofs.Common.{◌≡◌, ◌∙◌, ◌⊎◌, ◌+◌, ℕ, Bool, List, Option, Some, None, Result, Ok, Err, ap, inl, inr, map, refl, replicate, subst, sym}
 use Rattle.std.proofs.lemmas.List.{length-replicate}
 use Rattle.std.specs.Prelude.{slice_range}
-use Rattle.cfi_inputs.specs.Refusals.{input_refusal}
-use Rattle.cfi_object.specs.declared.input.InputError.{InputError}
 use Rattle.cfi_object.specs.FileParts.{AreLeft}
 use Rattle.cfi_perf.specs.declared.error.PerfError.{PerfError}
 use Rattle.cfi_perf.specs.declared.windows.RecordWalk.{RecordWalk}
@@ -19,7 +17,7 @@ use Rattle.cfi_programs.specs.Lines.{Line}
 use Rattle.cfi_programs.specs.WriterOutput.{Prints, PrintsSome}
 use Rattle.cfi_processes.specs.declared.registers.SampleMachine.{SampleMachine}
 use Rattle.cfi_processes.specs.KnownFiles.{KnownFile}
-use Rattle.cfi_processes.specs.OpenedFiles.{AreOpened, Opened}
+use Rattle.cfi_processes.specs.OpenedFiles.{AreFilesOf, AreOpened, Opened}
 use Rattle.cfi_processes.specs.Registers.{machine_named}
 use Rattle.cfi_processes.specs.Replays.{wanted_of}
 use Rattle.cfi_processes.specs.Wanted.{FilePlace, Wanted}
@@ -29,7 +27,7 @@ use Rattle.cfi_stacks.specs.declared.profile_index.ProfileIndex.{ProfileIndex}
 use Rattle.cfi_stacks.specs.Choices.{Choice}
 use Rattle.cfi_stacks.specs.ProfileIndexes.{AreBytesAt, AreBytesOf, AreRecordsOf, HasRecords, HasRecordsAt, HoldsOf, IsIndexOf, IsReadAround, Piece, record_of}
 use Rattle.cfi_stacks.specs.ProfileErrors.{perf_refusal}
-use Rattle.cfi_stacks.specs.ProfileOutputs.{IsListed, IsListingOwed, IsOfArchitecture, IsOfMachine, IsOfOpened, IsOfProfile, IsOfRecords, IsOfSorted, IsOfWanted, IsOutput, IsPrinted, IsRefused, format_of, unknown_machine}
+use Rattle.cfi_stacks.specs.ProfileOutputs.{IsListed, IsListingOwed, IsOfArchitecture, IsOfMachine, IsOfOpened, IsOfProfile, IsOfRecords, IsOfSorted, IsOfWanted, IsOutput, IsPrinted, IsRefused, format_of, names_functions, unknown_machine}
 use Rattle.cfi_stacks.proofs.AroundLemmas.{own_records, whole_of}
 use Rattle.cfi_stacks.proofs.PieceLemmas.{records_of_index}
 
@@ -70,6 +68,12 @@ module _ (choice : Choice) (machine : SampleMachine) (files : List KnownFile) wh
 pub some_bytes : (known : Option (List ℕ)) (place size : ℕ) → HasRecordsAt known place size → (all : List ℕ) × AreBytesAt known place size all
 some_bytes None place size has = (replicate size 0, (length-replicate {A = ℕ} size 0, tt))
 some_bytes (Some file) place size has = (slice_range file place (place + size), (has, refl))
+
+-- by the files, which were opened so
+pub by_files : (known : Option (List ℕ)) (index : ProfileIndex) (listing : Listing) (choice : Choice) (machine : SampleMachine) (opened : List Opened) (files : List KnownFile) → AreFilesOf (names_functions listing) opened files
+    → (line : Line) → HoldsOf known index (λ sorted. IsListed listing choice machine files sorted index.error line)
+    → Shown known index (λ sorted line. IsOfOpened listing choice machine opened sorted index.error line) (IsRefused (format_of listing)) line
+by_files known index listing choice machine opened files are line (pieces, is, of) = inl (pieces, is, (files, are, of))
 
 module _ (listing : Listing) (choice : Choice) {Handle : Type 0} (may_open : FilePlace → Option Handle → Type 0) (remaining : Handle → Option (List ℕ)) where
   -- ---- by the files that were opened

@@ -1,20 +1,19 @@
 -- The records of an index in the order of their times.
-use Rattle.std.proofs.Common.{◌≡◌, ◌∙◌, ◌<◌, ◌+◌, ℕ, false, List, [], ◌∷◌, ◌++◌, Option, Some, None, IfSome, length, get_or, set, map, refl, sym, ap, subst, append-nil, length-append, arith}
-use Rattle.std.specs.List.{All, Contains, sum_by, swap}
+use Rattle.std.proofs.Common.{◌≡◌, ◌∙◌, ◌<◌, ℕ, false, List, [], ◌∷◌, ◌++◌, Option, Some, None, IfSome, length, get_or, set, map, refl, sym, ap, subst, append-nil, length-append, arith}
+use Rattle.std.specs.List.{All, swap}
 use Rattle.std.specs.List.Sorted.{IsPermutation, IsSortedByKey}
 use Rattle.std.specs.Ordering.{nat_cmp}
 use Rattle.std.proofs.Math.ListN.{get_or-map}
 use Rattle.std.proofs.lemmas.List.{length-map, map-set}
 use Rattle.std.proofs.lemmas.List.Concat.{length-flat_map}
 use Rattle.std.proofs.lemmas.List.Sorted.{All-permutation, Contains-permutation, IsPermutation-keeps, IsPermutation-refl, IsPermutation-swap, IsPermutation-trans, sum_by-IsPermutation}
-use Rattle.cfi_perf.specs.declared.error.PerfError.{PerfError}
 use Rattle.cfi_perf.specs.declared.index.RecordIndex.{RecordIndex}
 use Rattle.cfi_perf.specs.declared.index.RecordPlace.{RecordPlace}
 use Rattle.cfi_perf.specs.declared.windows.RecordWalk.{RecordWalk}
 use Rattle.cfi_perf.specs.Events.{Record}
 use Rattle.cfi_perf.specs.Indexes.{AreIndexed, AreIndexedSorted, kept_of, places_of}
 use Rattle.cfi_perf.specs.Records.{Records, no_records}
-use Rattle.cfi_perf.specs.Windows.{bytes_left, records_in}
+use Rattle.cfi_perf.specs.Windows.{records_in}
 use Rattle.cfi_processes.specs.Replays.{has_kernel_frames}
 use Rattle.cfi_stacks.specs.declared.profile_index.ProfileIndex.{ProfileIndex}
 use Rattle.cfi_stacks.specs.ProfileIndexes.{IsTallyOf, IsToldOf, IsIndexOf, IsKernelAt, IsOfFile, IsPieceOf, IsWholeOf, Piece, all_bytes, place_of, record_of, records_bytes}

@@ -1,12 +1,11 @@
 -- The text of a stack, part by part.
-use Rattle.std.proofs.Common.{◌≡◌, ◌∙◌, ℕ, ◌+◌, ◌<◌, ◌≤◌, ◌&&◌, Bool, true, false, true≢false, List, [], ◌∷◌, ◌++◌, length, get_or, drop, map, cond, codes, Option, refl, sym, ap, ap₂, subst, add-one}
+use Rattle.std.proofs.Common.{◌≡◌, ◌∙◌, ℕ, ◌+◌, ◌<◌, ◌≤◌, List, [], ◌∷◌, ◌++◌, length, get_or, drop, codes, Option, refl, sym, ap, subst, add-one}
 use Rattle.std.proofs.Math.Seq.{drop-cons}
 use Rattle.std.proofs.lemmas.List.{drop_all}
-use Rattle.std.specs.List.{flat_map, list_all}
+use Rattle.std.specs.List.{flat_map}
 use Rattle.cfi_names.specs.Names.{shown}
 use Rattle.cfi_programs.proofs.WrittenLemmas.{IsGiven}
 use Rattle.cfi_perf.specs.Samples.{Sample}
-use Rattle.cfi_processes.specs.Names.{is_printable}
 use Rattle.cfi_processes.specs.Sites.{Site}
 use Rattle.cfi_stacks.specs.StackTexts.{file_text, function_text, numbers_text}
 

@@ -7,7 +7,7 @@ use Rattle.cfi_perf.specs.declared.record.Event.{Event as EventOfCode}
 use Rattle.cfi_perf.specs.declared.record.Event.TheVariants as events
 use Rattle.cfi_perf.specs.declared.record.Lost.{Lost}
 use Rattle.cfi_perf.specs.declared.sample.Sample.{Sample as SampleOfCode}
-use Rattle.cfi_perf.specs.Events.{Event, Record, event_view}
+use Rattle.cfi_perf.specs.Events.{Record, event_view}
 use Rattle.cfi_perf.specs.Recordings.{copies_stack, has_samples, has_stacks, is_sample, lost_of, total}
 use Rattle.cfi_stacks.specs.declared.profile_index.Tally.{Tally}
 use Rattle.cfi_stacks.specs.ProfileIndexes.{IsTallyOf}

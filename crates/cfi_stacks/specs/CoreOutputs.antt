@@ -14,7 +14,7 @@
 use Rattle.std.specs.Prelude.{◌≡◌, ◌⊎◌, ℕ, ◌-◌, ◌==◌, ◌||◌, ◌&&◌, Bool, true, false, List, []}
 use Rattle.std.specs.Prelude.{◌∷◌, ◌++◌}
 use Rattle.std.specs.Prelude.{Option, Some, None, Result, Ok, Err, codes, drop, find, fold, map}
-use Rattle.std.specs.Prelude.{not, position, take, if◌then◌else◌}
+use Rattle.std.specs.Prelude.{length, not, position, take, if◌then◌else◌}
 use Rattle.std.specs.List.{filter, filter_map, flat_map, list_all, list_any}
 use Rattle.std.specs.Option.{is_none, is_some, option_and_then, option_map, option_map_or}
 use Rattle.std.specs.Str.{bytes_eq}
@@ -35,7 +35,9 @@ use Rattle.cfi_processes.specs.declared.sample_stack.NoFrames.{NoFrames}
 use Rattle.cfi_processes.specs.KnownFiles.{KnownFile, modules_in, site_of}
 use Rattle.cfi_processes.specs.Mappings.{mapped_over}
 use Rattle.cfi_processes.specs.Modules.{module_view}
-use Rattle.cfi_processes.specs.OpenedFiles.{AreFilesOf, AreOpened, Opened}
+use Rattle.cfi_processes.specs.declared.opened_file.OpenedFile.{OpenedFile}
+use Rattle.cfi_processes.specs.OpenedFiles.{AreFilesOf, AreOpened, IsOpenedAs, Opened}
+use Rattle.cfi_processes.specs.Registers.{register_count}
 use Rattle.cfi_processes.specs.Replays.{with_file}
 use Rattle.cfi_processes.specs.SampleStacks.{HasRoom, Room}
 use Rattle.cfi_processes.specs.Wanted.{FilePlace, Wanted}
@@ -118,12 +120,14 @@ thread_in listing files list name thread result room =
 
 module _ (listing : ThreadListing) (machine : SampleMachine) (files : List KnownFile)
     (list : List MappedCode) (memory : ℕ → ℕ → Option ℕ) (name : Option (List ℕ)) where
-  -- by the modules that are mapped, in a room for 4096 frames and a storage of 192 rules and 4 rows
+  -- by the modules that are mapped, in a room for 4096 frames and for each of the machine's
+  -- registers, and a storage of 192 rules and 4 rows
   abbrev pub IsThreadText : CoreThread → List ℕ → Type 0
   IsThreadText thread text =
       (modules : List (LoadedModule (EndianSlice RunTimeEndian))) × (old : Room)
       × (result : Result Walk NoFrames) × (new : Room)
       × (map module_view modules ≡ modules_in files list) × HasRoom old.frames
+      × (length old.caller ≡ register_count machine)
       × IsUnwound (slice_position is_big) (λ n. n) (Some 192) (Some 4) true modules machine memory
       thread old result new
       × (text ≡ thread_in listing files list name thread result new.frames)
@@ -191,6 +195,11 @@ vdso_file core =
       process = None;
       map_name = None;
     }) (image_of core.segments core.mapped vdso_name)
+
+-- what the code has of it
+abbrev pub IsVdsoAs : Option OpenedFile → Option Opened → Type 0
+IsVdsoAs None file = file ≡ None
+IsVdsoAs (Some one) file = (known : Opened) × (file ≡ Some known) × IsOpenedAs one known
 
 abbrev pub and_file : List Opened → Option Opened → List Opened
 and_file opened None = opened

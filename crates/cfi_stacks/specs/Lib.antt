@@ -9,6 +9,9 @@ pub mod ProfileErrors
 pub mod ProfileIndexes
 pub mod ProfileOutputs
 pub mod Foldings
+pub mod MissingFrames
+pub mod NullCalls
+pub mod SignalTrampolines
 pub mod ThreadStacks
 pub mod CoreOutputs
 pub mod QuickStacks

@@ -3,7 +3,7 @@
 use Rattle.std.specs.Prelude.{ℕ, List, [], ◌++◌, codes}
 use Rattle.cfi_perf.specs.declared.error.PerfError.{PerfError}
 use Rattle.cfi_perf.specs.declared.error.PerfError.TheVariants.{AttributeSize, MixedEvents}
-use Rattle.cfi_perf.specs.declared.error.PerfError.TheVariants.{Compressed}
+use Rattle.cfi_perf.specs.declared.error.PerfError.TheVariants.{Compressed, Directory}
 use Rattle.cfi_perf.specs.ErrorNames.{name_of_perf}
 use Rattle.cfi_perf.specs.ErrorTexts.{text_of_perf}
 use Rattle.cfi_programs.specs.declared.style.Format.{Format}
@@ -12,6 +12,7 @@ use Rattle.cfi_programs.specs.Lines.{Line, refused_line}
 
 abbrev pub perf_advice : PerfError → List ℕ
 perf_advice (AttributeSize size) = codes "; record with perf of Linux 3.7 or later"
+perf_advice Directory = codes "; perf record without --threads writes one file"
 perf_advice MixedEvents = codes "; record each event by itself"
 perf_advice Compressed = codes "; perf record without -z doesn't compress them"
 perf_advice _ = []

@@ -25,7 +25,7 @@ use Rattle.cfi_perf.specs.Indexes.{AreIndexed, AreIndexedSorted, IsInTimeOrder, 
 use Rattle.cfi_perf.specs.Indexes.{kept_of, places_of}
 use Rattle.cfi_perf.specs.ProfilesAround.{IsAround}
 use Rattle.cfi_perf.specs.Recordings.{has_samples, has_stacks, is_sample, lost_in}
-use Rattle.cfi_perf.specs.Records.{Records, no_records}
+use Rattle.cfi_perf.specs.Records.{no_records}
 use Rattle.cfi_perf.specs.Windows.{bytes_left, place_in, record_alone, records_in}
 use Rattle.cfi_processes.specs.Replays.{has_kernel_frames}
 use Rattle.cfi_stacks.specs.declared.profile_index.ProfileIndex.{ProfileIndex}

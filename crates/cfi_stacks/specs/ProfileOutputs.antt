@@ -15,8 +15,8 @@
 --     IsOutput listing choice may_open remaining bytes line      the output of a profile of these
 --         bytes, whose files may be opened so
 use Rattle.std.specs.Prelude.{◌≡◌, ◌⊎◌, ◌<◌, ◌^◌, ℕ, ◌==◌, Bool, true, false, List, [], ◌∷◌, ◌++◌}
-use Rattle.std.specs.Prelude.{Option, Some, None, Result, Ok, Err, codes, map, not, take, unwrap_or}
-use Rattle.std.specs.Prelude.{if◌then◌else◌}
+use Rattle.std.specs.Prelude.{Option, Some, None, Result, Ok, Err, codes, length, map, not, take}
+use Rattle.std.specs.Prelude.{unwrap_or, if◌then◌else◌}
 use Rattle.std.specs.List.{filter, flat_map}
 use Rattle.cfi_read_core.specs.declared.error.Error.TheVariants as errors
 use Rattle.cfi_read_core.specs.declared.endianity.RunTimeEndian.{RunTimeEndian}
@@ -44,7 +44,7 @@ use Rattle.cfi_processes.specs.declared.sample_stack.NoFrames.{NoFrames}
 use Rattle.cfi_processes.specs.KnownFiles.{KnownFile, kernel_site, modules_in, site_of}
 use Rattle.cfi_processes.specs.Modules.{module_view}
 use Rattle.cfi_processes.specs.OpenedFiles.{AreFilesOf, AreOpened, Opened}
-use Rattle.cfi_processes.specs.Registers.{machine_named}
+use Rattle.cfi_processes.specs.Registers.{machine_named, register_count}
 use Rattle.cfi_processes.specs.Sites.{Site}
 use Rattle.cfi_processes.specs.Replays.{after, named, replayed, wanted_of}
 use Rattle.cfi_processes.specs.ThreadNames.{names_after}
@@ -232,8 +232,8 @@ module _ {A : Type 0} (IsOf : KnownSample → List A → Type 0) where
 
 -- ---- the frames of a sample
 
--- a text of them, by the modules that are mapped, in a room for 4096 frames and a storage of 192
--- rules and 4 rows
+-- a text of them, by the modules that are mapped, in a room for 4096 frames and for each of the
+-- machine's registers, and a storage of 192 rules and 4 rows
 abbrev pub IsOfFrames :
     SampleMachine → List KnownFile → List MappedCode → Sample →
     (Result Walk NoFrames → List StackFrame → List ℕ) → List ℕ → Type 0
@@ -241,6 +241,7 @@ IsOfFrames machine files list s text_of text =
     (modules : List (LoadedModule (EndianSlice RunTimeEndian))) × (old : Room)
     × (result : Result Walk NoFrames) × (new : Room)
     × (map module_view modules ≡ modules_in files list) × HasRoom old.frames
+    × (length old.caller ≡ register_count machine)
     × IsUnwound (slice_position is_big) (λ n. n) (Some 192) (Some 4) true modules machine s.user
     old result new
     × (text ≡ text_of result new.frames)

@@ -1,29 +1,21 @@
 -- The stacks of a core file of which parts were read.
 --     line_of quick      an output of the code
---     walk_lacks found      whether a walk ended where a register or a number of the memory isn't
---         known
+--     walk_lacks machine found      whether a walk ended where a register or a number of the memory
+--         isn't known, or where a signal trampoline may be that has no call frames
 --     IsStackIn memory stack      each number of a part of the stack is that of the memory
---     IsOwedBy listing image partial opened bytes line      an output for the whole file, whose
---         files were opened so, or none
-use Rattle.std.specs.Prelude.{◌≡◌, ◌⊎◌, ℕ, Bool, true, false, List, Option, Some, Result, Ok, Err}
-use Rattle.cfi_cores.specs.declared.core_parts.PartialCore.{PartialCore}
-use Rattle.cfi_cores.specs.CoreFiles.{core_view}
+use Rattle.std.specs.Prelude.{◌≡◌, ◌||◌, ℕ, Bool, true, false, List, Option, Some, Result, Ok}
+use Rattle.std.specs.Prelude.{Err}
 use Rattle.cfi_cores.specs.CoreMemories.{number_at}
-use Rattle.cfi_cores.specs.CoreParts.{with_all}
 use Rattle.cfi_cores.specs.CoreSegments.{CoreSegment, number_of}
-use Rattle.cfi_elf.specs.Images.{Image, IsImageOf}
 use Rattle.cfi_expression.specs.declared.error.FrameError.{FrameError}
 use Rattle.cfi_expression.specs.declared.error.FrameError.TheVariants.{UnknownRegister}
 use Rattle.cfi_expression.specs.declared.error.FrameError.TheVariants.{UnreadableMemory}
-use Rattle.cfi_object.specs.FileParts.{AreLeft}
+use Rattle.cfi_processes.specs.declared.registers.SampleMachine.{SampleMachine}
+use Rattle.cfi_processes.specs.declared.registers.SampleMachine.TheVariants.{X86_64, AArch64}
 use Rattle.cfi_processes.specs.declared.sample_stack.NoFrames.{NoFrames}
-use Rattle.cfi_processes.specs.OpenedFiles.{Opened}
 use Rattle.cfi_programs.specs.Lines.{Line}
-use Rattle.cfi_programs.specs.WriterOutput.{PrintsSome}
 use Rattle.cfi_stacks.specs.declared.core_quick.Quick.{Quick}
-use Rattle.cfi_stacks.specs.declared.listing.ThreadListing.{ThreadListing}
-use Rattle.cfi_stacks.specs.CoreOutputs.{IsOfOpened}
-use Rattle.cfi_stacks.specs.ProfileOutputs.{no_memory, wrong_input_in}
+use Rattle.cfi_stacks.specs.MissingFrames.{lacks_frames}
 use Rattle.cfi_step.specs.declared.walk.End.{End}
 use Rattle.cfi_step.specs.declared.walk.End.TheVariants.{Failed}
 use Rattle.cfi_step.specs.declared.walk.Walk.{Walk}
@@ -38,13 +30,21 @@ error_lacks (UnknownRegister r) = true
 error_lacks (UnreadableMemory a) = true
 error_lacks e = false
 
-abbrev pub end_lacks : End → Bool
-end_lacks (Failed e) = error_lacks e
-end_lacks end = false
+abbrev pub misses_value : End → Bool
+misses_value (Failed e) = error_lacks e
+misses_value end = false
 
-abbrev pub walk_lacks : Result Walk NoFrames → Bool
-walk_lacks (Ok walk) = end_lacks walk.end
-walk_lacks (Err why) = false
+-- the instructions of a trampoline may be in the memory that isn't known
+abbrev pub may_be_signal : SampleMachine → End → Bool
+may_be_signal X86_64 end = false
+may_be_signal AArch64 end = lacks_frames end
+
+abbrev pub end_lacks : SampleMachine → End → Bool
+end_lacks machine end = misses_value end || may_be_signal machine end
+
+abbrev pub walk_lacks : SampleMachine → Result Walk NoFrames → Bool
+walk_lacks machine (Ok walk) = end_lacks machine walk.end
+walk_lacks machine (Err why) = false
 
 -- ---- memory
 
@@ -54,21 +54,3 @@ memory_by dumped lent = number_at (record { dumped = dumped; mapped = lent })
 abbrev pub IsStackIn : (ℕ → ℕ → Option ℕ) → CoreSegment → Type 0
 IsStackIn memory stack =
     (a size n : ℕ) → number_of a size stack ≡ Some n → memory a size ≡ Some n
-
--- ---- what is printed
-
-module _ (listing : ThreadListing) (image : Image) (partial : PartialCore)
-    (opened : List Opened) where
-  -- of a file that has the parts; memory is refused; or the file can't be read
-  abbrev pub IsOwedBy : List ℕ → Line → Type 0
-  IsOwedBy bytes line =
-      (IsImageOf image bytes
-      × IsOfOpened listing (with_all bytes (core_view partial.core) partial.places.items)
-      opened line)
-      ⊎ ((line ≡ no_memory listing.format) ⊎ (line ≡ wrong_input_in listing.format))
-
-  abbrev pub PrintsOpened :
-      {E : Type 0} → Option (List ℕ) → Option (List ℕ) → Option (List ℕ) → Result ℕ E → Type 0
-  PrintsOpened known old new result =
-      (bytes : List ℕ) × AreLeft known bytes
-      × PrintsSome (λ line. IsOwedBy bytes line) old new result

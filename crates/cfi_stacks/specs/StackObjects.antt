@@ -6,7 +6,7 @@
 --     thread_head tid signal fault name      what comes before those of a thread of a core file
 --     object_end reason      what comes behind them
 use Rattle.std.specs.Prelude.{ℕ, ◌/◌, ◌%◌, ◌==◌, Bool, true, false, List, [], ◌∷◌, ◌++◌, Option}
-use Rattle.std.specs.Prelude.{Some, None, codes, map, if◌then◌else◌}
+use Rattle.std.specs.Prelude.{Some, None, codes, if◌then◌else◌}
 use Rattle.std.specs.Fmt.{decimal}
 use Rattle.cfi_elf.specs.FunctionPlaces.{Place}
 use Rattle.cfi_cores.specs.declared.fault.Fault.{Fault}
@@ -14,7 +14,6 @@ use Rattle.cfi_perf.specs.Samples.{Sample}
 use Rattle.cfi_processes.specs.Sites.{Site}
 use Rattle.cfi_programs.specs.declared.style.Format.{Format}
 use Rattle.cfi_programs.specs.declared.style.Format.TheVariants.{Text, Json}
-use Rattle.cfi_names.specs.Names.{shown}
 use Rattle.cfi_programs.specs.JsonLines.{json_name, json_number, separated}
 use Rattle.cfi_programs.specs.Lines.{address_text}
 use Rattle.cfi_stacks.specs.Reasons.{Reason}

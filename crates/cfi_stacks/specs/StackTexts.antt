@@ -6,7 +6,7 @@
 --     site_line raw site      the line of a frame, raw or with its function
 --     core_frame_line raw a site      that of a frame of a core file, with its address
 use Rattle.std.specs.Prelude.{ℕ, ◌-◌, ◌/◌, ◌%◌, ◌==◌, Bool, List, [], ◌∷◌, ◌++◌, Option, Some, None}
-use Rattle.std.specs.Prelude.{codes, false, length, map, take, if◌then◌else◌}
+use Rattle.std.specs.Prelude.{codes, false, length, take, if◌then◌else◌}
 use Rattle.std.specs.Fmt.{decimal, digits}
 use Rattle.cfi_elf.specs.FunctionPlaces.{Place}
 use Rattle.cfi_names.specs.Names.{shown}

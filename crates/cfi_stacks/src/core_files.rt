@@ -1,15 +1,17 @@
 //! What the files of a core have of its process: the code, and the memory that the core lacks.
-ghost use Rattle.std.specs.Prelude.{◌≡◌, IfOk, OnOk, map, option_map, take};
+ghost use Rattle.std.specs.Prelude.{◌≡◌, List, IfOk, IfSome, OnOk, map, option_map, take};
+ghost use Rattle.std.specs.Prelude.{true};
 ghost use Rattle.std.specs.List.{filter_map};
 ghost use Rattle.cfi_cores.specs.CoreSegments.{AreInOrder, segment_view};
 ghost use Rattle.cfi_cores.specs.CoreFiles.{core_view};
 ghost use Rattle.cfi_cores.specs.MappedFiles.{mapping_view};
+ghost use Rattle.cfi_processes.specs.CodeParts.{is_whole};
 ghost use Rattle.cfi_processes.specs.FileModules.{AreOfFiles};
 ghost use Rattle.cfi_processes.specs.KnownFiles.{known_view, modules_in};
 ghost use Rattle.cfi_processes.specs.Modules.{module_view};
-ghost use Rattle.cfi_processes.specs.OpenedFiles.{opened_view};
+ghost use Rattle.cfi_processes.specs.OpenedFiles.{AreOpenedAs, Opened, are_whole};
 ghost use Rattle.cfi_processes.specs.Wanted.{wanted_view};
-ghost use Rattle.cfi_stacks.specs.CoreOutputs.{AreOpenedFor};
+ghost use Rattle.cfi_stacks.specs.CoreOutputs.{AreOpenedFor, IsVdsoAs};
 ghost use Rattle.cfi_stacks.specs.CoreOutputs.{AreWindows, bytes_named, code_file, code_files};
 ghost use Rattle.cfi_stacks.specs.CoreOutputs.{file_window, is_code, is_file_of_code};
 ghost use Rattle.cfi_stacks.specs.CoreOutputs.{mapped_code, mappings_of, part_of, vdso_file};
@@ -19,6 +21,7 @@ use cfi_cores::builds::{build_of, image_of};
 use cfi_cores::vdso::vdso_name;
 use cfi_cores::{Core, CoreMapping, CoreSegment};
 use cfi_elf::bytes::bytes_from;
+use cfi_processes::code_parts::CodeParts;
 use cfi_processes::mappings::{MappedCode, Mappings};
 use cfi_processes::process_code::{FileModule, ProcessCode};
 use cfi_processes::profile_files::{OpenedFile, Opener, ProfileFile, push_file, read_files};
@@ -88,18 +91,21 @@ fn is_code(segments: &[CoreSegment<'_>], mapping: &CoreMapping<'_>) -> bool
     segments.iter().all(|segment| segment.is_executable || segment.start != mapping.start)
 }
 
-/// Opens the files that are mapped as code, and puts the vdso behind them (`read_files`,
-/// `push_vdso`). Fails where memory is refused.
+/// Opens the files that are mapped as code, reads what is needed of them or all of each, and puts
+/// the vdso behind them (`read_files`, `push_vdso`). Fails where memory is refused.
 pub(crate) fn opened_files<'run, O: Opener>(
     alloc: Global,
+    whole: bool,
     opener: &O,
     core: &Core<'run>,
 ) -> Result<Vec<OpenedFile<'run>>, AllocError>
-    ensures { IfOk result (λ opened. AreOpenedFor (O.may_open opener.now) O.File.remaining
-        (core_view core.now) (map opened_view opened.items)) }
+    ensures opened { IfOk result (λ opened. (all : List Opened)
+        × AreOpenedFor (O.may_open opener.now) O.File.remaining (core_view core.now) all
+        × AreOpenedAs opened.items all) }
+    ensures whole { IfOk result (λ opened. whole ≡ true → are_whole opened.items ≡ true) }
 {
     let wanted = code_files(alloc, core.segments.as_slice(), core.mapped.as_slice())?;
-    let mut opened = read_files(alloc, opener, wanted.as_slice())?;
+    let mut opened = read_files(alloc, whole, opener, wanted.as_slice())?;
     push_vdso(alloc, core, &mut opened)?;
     Ok(opened)
 }
@@ -111,8 +117,10 @@ pub fn push_vdso<'run>(
     core: &Core<'run>,
     opened: &mut Vec<OpenedFile<'run>>,
 ) -> Result<(), AllocError>
-    ensures { OnOk result (map opened_view opened.new.items
-        ≡ with_vdso (core_view core.now) (map opened_view opened.old.items)) }
+    ensures opened { OnOk result ((all : List Opened) → AreOpenedAs opened.old.items all
+        → AreOpenedAs opened.new.items (with_vdso (core_view core.now) all)) }
+    ensures whole { OnOk result (are_whole opened.old.items ≡ true
+        → are_whole opened.new.items ≡ true) }
 {
     match vdso_file(alloc, core)? {
         Some(file) => {
@@ -125,7 +133,8 @@ pub fn push_vdso<'run>(
 
 /// The vdso as a file that was opened, if the core has it. Fails where memory is refused.
 fn vdso_file<'run>(alloc: Global, core: &Core<'run>) -> Result<Option<OpenedFile<'run>>, AllocError>
-    ensures { IfOk result (λ file. option_map opened_view file ≡ vdso_file (core_view core.now)) }
+    ensures vdso { IfOk result (λ file. IsVdsoAs file (vdso_file (core_view core.now))) }
+    ensures whole { IfOk result (λ file. IfSome file (λ one. is_whole one.code ≡ true)) }
 {
     let name = vdso_name();
     let segments = core.segments.as_slice();
@@ -136,29 +145,50 @@ fn vdso_file<'run>(alloc: Global, core: &Core<'run>) -> Result<Option<OpenedFile
     Ok(Some(OpenedFile {
         name,
         build_id: build_of(segments, mapped, name),
-        bytes: Some(image.to_vec(alloc)?),
+        code: Some(CodeParts::whole(alloc, image.to_vec(alloc)?)),
         debug: None,
         process: None,
         map_name: None,
     }))
 }
 
-/// What is mapped as code, its modules, and what the files have of the memory. Fails where memory
-/// is refused.
-pub fn core_code<'a, 'run>(
+/// What is mapped as code, its modules, and what the files have of the memory, all of which was
+/// read. Fails where memory is refused.
+pub fn whole_code<'a, 'run>(
     alloc: Global,
     core: &Core<'_>,
     opened: &'run [OpenedFile<'_>],
     files: &'a [ProfileFile<'run>],
+) -> Result<CoreCode<'a, 'run>, AllocError>
+    requires { are_whole opened.now ≡ true }
+    ensures mappings { IfOk result (λ code. code.mappings ≡ mappings_of
+        (map known_view files.now) (core_view core.now).segments (core_view core.now).mapped) }
+    ensures modules { IfOk result (λ code. map module_view code.modules.items
+        ≡ modules_in (map known_view files.now) code.mappings) }
+    ensures files { IfOk result (λ code. AreOfFiles files.now code.modules.items) }
+    ensures windows { (all : List Opened) → AreOpenedAs opened.now all
+        → IfOk result (λ code. AreWindows all (core_view core.now).mapped
+        (map segment_view code.windows.items)) }
+    ensures in_order { IfOk result (λ code. AreInOrder code.windows.items) }
+{
+    let windows = file_windows(alloc, core.mapped.as_slice(), opened)?;
+    core_code(alloc, core, files, windows)
+}
+
+/// What is mapped as code, and its modules, with these parts of the memory. Fails where memory is
+/// refused.
+pub fn core_code<'a, 'run>(
+    alloc: Global,
+    core: &Core<'_>,
+    files: &'a [ProfileFile<'run>],
+    windows: Vec<CoreSegment<'run>>,
 ) -> Result<CoreCode<'a, 'run>, AllocError>
     ensures mappings { IfOk result (λ code. code.mappings ≡ mappings_of
         (map known_view files.now) (core_view core.now).segments (core_view core.now).mapped) }
     ensures modules { IfOk result (λ code. map module_view code.modules.items
         ≡ modules_in (map known_view files.now) code.mappings) }
     ensures files { IfOk result (λ code. AreOfFiles files.now code.modules.items) }
-    ensures windows { IfOk result (λ code. AreWindows (map opened_view opened.now)
-        (core_view core.now).mapped (map segment_view code.windows.items)) }
-    ensures in_order { IfOk result (λ code. AreInOrder code.windows.items) }
+    ensures windows { IfOk result (λ code. code.windows.items ≡ windows.entry.items) }
 {
     let mappings = mapped_code(
         alloc,
@@ -167,7 +197,6 @@ pub fn core_code<'a, 'run>(
         files,
     )?;
     let modules = modules_of(alloc, mappings.as_slice(), files)?;
-    let windows = file_windows(alloc, core.mapped.as_slice(), opened)?;
     Ok(CoreCode {
         mappings,
         modules,
@@ -230,8 +259,10 @@ fn file_windows<'run>(
     mapped: &[CoreMapping<'_>],
     opened: &'run [OpenedFile<'_>],
 ) -> Result<Vec<CoreSegment<'run>>, AllocError>
-    ensures windows { IfOk result (λ windows. AreWindows (map opened_view opened.now)
-        (map mapping_view mapped.now) (map segment_view windows.items)) }
+    requires { are_whole opened.now ≡ true }
+    ensures windows { (all : List Opened) → AreOpenedAs opened.now all
+        → IfOk result (λ windows. AreWindows all (map mapping_view mapped.now)
+        (map segment_view windows.items)) }
     ensures in_order { IfOk result (λ windows. AreInOrder windows.items) }
 {
     let mut windows = mapped_windows(alloc, mapped, opened)?;
@@ -245,8 +276,10 @@ fn mapped_windows<'run>(
     mapped: &[CoreMapping<'_>],
     opened: &'run [OpenedFile<'_>],
 ) -> Result<Vec<CoreSegment<'run>>, AllocError>
-    ensures { IfOk result (λ windows. map segment_view windows.items
-        ≡ filter_map (file_window (map opened_view opened.now)) (map mapping_view mapped.now)) }
+    requires { are_whole opened.now ≡ true }
+    ensures { (all : List Opened) → AreOpenedAs opened.now all
+        → IfOk result (λ windows. map segment_view windows.items
+        ≡ filter_map (file_window all) (map mapping_view mapped.now)) }
 {
     let mut windows = Vec::new(alloc);
     for mapping in mapped {
@@ -262,8 +295,9 @@ fn file_window<'run>(
     opened: &'run [OpenedFile<'_>],
     mapping: &CoreMapping<'_>,
 ) -> Option<CoreSegment<'run>>
-    ensures { option_map segment_view result
-        ≡ file_window (map opened_view opened.now) (mapping_view mapping.now) }
+    requires { are_whole opened.now ≡ true }
+    ensures { (all : List Opened) → AreOpenedAs opened.now all
+        → option_map segment_view result ≡ file_window all (mapping_view mapping.now) }
 {
     match bytes_named(opened, mapping.name) {
         Some(bytes) => Some(part_of(mapping, bytes)),
@@ -273,14 +307,12 @@ fn file_window<'run>(
 
 /// The bytes of the file with this name, if it could be read.
 fn bytes_named<'run>(opened: &'run [OpenedFile<'_>], name: &[u8]) -> Option<&'run [u8]>
-    ensures { option_map (λ bytes. bytes.now) result
-        ≡ bytes_named (map opened_view opened.now) name.now }
+    requires { are_whole opened.now ≡ true }
+    ensures { (all : List Opened) → AreOpenedAs opened.now all
+        → option_map (λ bytes. bytes.now) result ≡ bytes_named all name.now }
 {
     let found = opened.iter().find(|one| one.name == name)?;
-    match &found.bytes {
-        Some(bytes) => Some(bytes.as_slice()),
-        None => None,
-    }
+    found.first()
 }
 
 /// What of the bytes of a file is mapped.

@@ -1,5 +1,5 @@
 //! The stacks of a core file of which parts were read.
-ghost use Rattle.std.specs.Prelude.{◌≡◌, ℕ, IfOk, IfSome, List, Option, map, true};
+ghost use Rattle.std.specs.Prelude.{◌≡◌, ℕ, IfOk, IfSome, List, Option, false, map, true};
 ghost use Rattle.std.specs.Io.KnownBytes.{Appends};
 ghost use Rattle.std.specs.List.Sorted.{IsNonDecreasingBy};
 ghost use Rattle.cfi_cores.specs.CoreFiles.{core_view};
@@ -12,29 +12,29 @@ ghost use Rattle.cfi_processes.specs.FileModules.{AreOfFiles};
 ghost use Rattle.cfi_processes.specs.KnownFiles.{known_view, modules_in};
 ghost use Rattle.cfi_processes.specs.Mappings.{AreInOrder};
 ghost use Rattle.cfi_processes.specs.Modules.{module_view};
-ghost use Rattle.cfi_processes.specs.OpenedFiles.{opened_view};
+ghost use Rattle.cfi_processes.specs.OpenedFiles.{AreOpenedAs, Opened};
 ghost use Rattle.cfi_processes.specs.SampleStacks.{HasRoom};
 ghost use Rattle.cfi_processes.specs.ThreadNames.{bytes_of};
-ghost use Rattle.cfi_programs.specs.WriterOutput.{Prints, PrintsSome};
-ghost use Rattle.cfi_stacks.specs.CoreOutputs.{IsOfFiles, IsOfOpened, IsPrinted, IsThreadText};
-ghost use Rattle.cfi_stacks.specs.CoreOutputs.{PrintsOwed, mappings_of, memory_of};
-ghost use Rattle.cfi_stacks.specs.QuickStacks.{IsOwedBy, IsStackIn, PrintsOpened, end_lacks};
-ghost use Rattle.cfi_stacks.specs.QuickStacks.{error_lacks, line_of, memory_by, walk_lacks};
+ghost use Rattle.cfi_programs.specs.WriterOutput.{Prints};
+ghost use Rattle.cfi_stacks.specs.CoreOutputs.{AreOpenedFor, IsOfFiles, IsOfOpened, IsPrinted};
+ghost use Rattle.cfi_stacks.specs.CoreOutputs.{IsThreadText, PrintsOwed, lacks_thread};
+ghost use Rattle.cfi_stacks.specs.CoreOutputs.{mappings_of, memory_of};
+ghost use Rattle.cfi_stacks.specs.QuickStacks.{IsStackIn, end_lacks, error_lacks, line_of};
+ghost use Rattle.cfi_stacks.specs.QuickStacks.{may_be_signal, memory_by, misses_value, walk_lacks};
 ghost use Rattle.cfi_stacks.specs.Rooms.{IsRoomFor, KeepsNoRows};
 
 use crate::core_files::{CoreCode, core_code, opened_files};
-use crate::core_run::{
-    is_asked_for, lacks_thread, print_opened, shown_name, write_end, write_unread,
-};
+use crate::core_run::{is_asked_for, lacks_thread, print_whole, shown_name, write_end};
 use crate::core_text::print_found;
 use crate::listing::ThreadListing;
+use crate::missing_frames::lacks_frames;
+use crate::quiet_opener::QuietOpener;
 use crate::sample_text::{REGISTERS, Room};
 use crate::thread_stack::unwind_thread;
-use cfi_cores::{CoreParts, CoreSegment, CoreThread, PartialCore, stack_at, with_memory};
+use cfi_cores::{CoreParts, CoreSegment, CoreThread, PartialCore, stack_at};
 use cfi_elf::{Image, ProgramHeader};
 use cfi_expression::{FrameError, Window};
 use cfi_object::input::FileInput;
-use cfi_object::parts::read_whole;
 use cfi_processes::Name;
 use cfi_processes::process_code::{FileModule, ProcessCode};
 use cfi_processes::profile_files::{OpenedFile, Opener, ProfileFile, profile_files};
@@ -55,7 +55,8 @@ pub(crate) struct Quick {
 }
 
 /// Opens the files of a core of which parts were read, and prints the stacks of its threads by
-/// these parts. Where a stack lacks something, the core file is read whole.
+/// these parts. Where a stack lacks something, the core file is read whole, and its files too, of
+/// which nothing is said again.
 pub(crate) fn print_partial<O: Opener, I: FileInput, W: Write>(
     alloc: Global,
     listing: ThreadListing,
@@ -74,34 +75,43 @@ pub(crate) fn print_partial<O: Opener, I: FileInput, W: Write>(
     if lacks_thread(listing, &partial.core) {
         return write_reason(output, listing.format, "no thread", 1);
     }
-    match opened_files(alloc, opener, &partial.core) {
+    match opened_files(alloc, false, opener, &partial.core) {
         Ok(opened) => {
             let opened = opened.as_slice();
-            print_by_parts(alloc, listing, parts, partial, opened, input, output)
+            print_by_parts(
+                alloc, listing, opener, parts, &partial, opened, input, output,
+            )
         }
         Err(_) => write_refusal_in(output, listing.format, Error::OutOfMemory),
     }
 }
 
 /// Prints the stacks of the threads, by files that were opened.
-fn print_by_parts<I: FileInput, W: Write>(
+fn print_by_parts<O: Opener, I: FileInput, W: Write>(
     alloc: Global,
     listing: ThreadListing,
+    opener: &O,
     parts: &CoreParts,
-    partial: PartialCore<'_>,
+    partial: &PartialCore<'_>,
     opened: &[OpenedFile<'_>],
     input: &mut I,
     output: &mut W,
 ) -> io::Result<u8>
     requires parts { AreOfInput (I.bytes input.old) (image_of parts.now) }
     requires partial { (bytes : List ℕ) → IsImageOf (image_of parts.now) bytes
-        → IsPartial bytes partial }
-    ensures { PrintsOpened listing (image_of parts.now) partial.entry (map opened_view opened.now)
-        (I.bytes input.old) (W.contents output.old) (W.contents output.new) result }
+        → IsPartial bytes partial.now }
+    requires opened { (all : List Opened) × AreOpenedFor (O.may_open opener.now) O.File.remaining
+        (core_view partial.now.core) all × AreOpenedAs opened.now all }
+    requires threads { lacks_thread listing (core_view partial.now.core) ≡ false }
+    ensures { PrintsOwed listing (O.may_open opener.now) O.File.remaining (I.bytes input.old)
+        (W.contents output.old) (W.contents output.new) result }
 {
-    match quick_opened(alloc, listing, parts.image(), &partial, opened) {
+    match quick_opened(alloc, listing, parts.image(), partial, opened) {
         Ok(Some(quick)) => write_quick(&quick, output),
-        Ok(None) => print_rest(alloc, listing, parts, partial, opened, input, output),
+        Ok(None) => {
+            let quiet = QuietOpener { opener };
+            print_whole(alloc, listing, &quiet, input, output)
+        }
         Err(_) => write_refusal_in(output, listing.format, Error::OutOfMemory),
     }
 }
@@ -112,62 +122,6 @@ fn write_quick<W: Write>(quick: &Quick, output: &mut W) -> io::Result<u8>
 {
     write_text(output, quick.text.as_slice())?;
     Ok(quick.status)
-}
-
-/// Reads the core file whole, and prints the stacks of the threads, by files that were opened.
-fn print_rest<I: FileInput, W: Write>(
-    alloc: Global,
-    listing: ThreadListing,
-    parts: &CoreParts,
-    partial: PartialCore<'_>,
-    opened: &[OpenedFile<'_>],
-    input: &mut I,
-    output: &mut W,
-) -> io::Result<u8>
-    requires parts { AreOfInput (I.bytes input.old) (image_of parts.now) }
-    requires partial { (bytes : List ℕ) → IsImageOf (image_of parts.now) bytes
-        → IsPartial bytes partial }
-    ensures { PrintsOpened listing (image_of parts.now) partial.entry (map opened_view opened.now)
-        (I.bytes input.old) (W.contents output.old) (W.contents output.new) result }
-{
-    match read_whole(alloc, input) {
-        Ok(bytes) => print_filled(
-            alloc,
-            listing,
-            parts,
-            partial,
-            bytes.as_slice(),
-            opened,
-            output,
-        ),
-        Err(error) => write_unread(output, listing.format, error),
-    }
-}
-
-/// Prints the stacks of the threads by all bytes of the core file. A file that was changed since
-/// its parts were read can't be read.
-fn print_filled<W: Write>(
-    alloc: Global,
-    listing: ThreadListing,
-    parts: &CoreParts,
-    partial: PartialCore<'_>,
-    bytes: &[u8],
-    opened: &[OpenedFile<'_>],
-    output: &mut W,
-) -> io::Result<u8>
-    requires { (bytes : List ℕ) → IsImageOf (image_of parts.now) bytes
-        → IsPartial bytes partial }
-    ensures { PrintsSome (IsOwedBy listing (image_of parts.now) partial.entry
-        (map opened_view opened.now) bytes.now)
-        (W.contents output.old) (W.contents output.new) result }
-{
-    if !parts.are_in(bytes) {
-        return write_reason(output, listing.format, "wrong input", 2);
-    }
-    match with_memory(alloc, bytes, partial) {
-        Ok(core) => print_opened(alloc, listing, &core, opened, output),
-        Err(_) => write_refusal_in(output, listing.format, Error::OutOfMemory),
-    }
 }
 
 /// The output for a core file, by the parts that were read of it and files that were opened: `None`
@@ -181,32 +135,32 @@ fn quick_opened(
 ) -> Result<Option<Quick>, AllocError>
     requires { IsNonDecreasingBy (λ (h : ProgramHeader). h.p_vaddr) partial.now.places.items }
     ensures { (bytes : List ℕ) → IsImageOf (image_view image.entry) bytes
-        → IsPartial bytes partial.now
+        → IsPartial bytes partial.now → (all : List Opened) → AreOpenedAs opened.now all
         → IfOk result (λ found. IfSome found (λ quick. IsOfOpened listing
         (with_all bytes (core_view partial.now.core) partial.now.places.items)
-        (map opened_view opened.now) (line_of quick))) }
+        all (line_of quick))) }
 {
     let files = profile_files(alloc, !listing.raw, opened)?;
-    quick_by_files(alloc, listing, image, partial, opened, files.as_slice())
+    quick_by_files(alloc, listing, image, partial, files.as_slice())
 }
 
-/// The same, by the files, which were opened so.
+/// The same, by the files.
 fn quick_by_files(
     alloc: Global,
     listing: ThreadListing,
     image: Image<'_>,
     partial: &PartialCore<'_>,
-    opened: &[OpenedFile<'_>],
     files: &[ProfileFile<'_>],
 ) -> Result<Option<Quick>, AllocError>
     requires { IsNonDecreasingBy (λ (h : ProgramHeader). h.p_vaddr) partial.now.places.items }
     ensures { (bytes : List ℕ) → IsImageOf (image_view image.entry) bytes
-        → IsPartial bytes partial.now
+        → IsPartial bytes partial.now → (all : List Opened)
         → IfOk result (λ found. IfSome found (λ quick. IsOfFiles listing
         (with_all bytes (core_view partial.now.core) partial.now.places.items)
-        (map opened_view opened.now) (map known_view files.now) (line_of quick))) }
+        all (map known_view files.now) (line_of quick))) }
 {
-    let code = core_code(alloc, &partial.core, opened, files)?;
+    // Where a walk lacks nothing in the stack, it is the walk over all of the memory.
+    let code = core_code(alloc, &partial.core, files, Vec::new(alloc))?;
     let Ok(room) = Room::new(alloc) else {
         return Err(AllocError);
     };
@@ -237,11 +191,10 @@ fn quick_threads(
     requires places { IsNonDecreasingBy (λ (h : ProgramHeader). h.p_vaddr)
         partial.now.places.items }
     ensures { (bytes : List ℕ) → IsImageOf (image_view image.entry) bytes
-        → IsPartial bytes partial.now
+        → IsPartial bytes partial.now → (windows : List Lent)
         → IfOk result (λ found. IfSome found (λ quick. IsPrinted listing
         (map known_view files.now)
-        (memory_of (with_all bytes (core_view partial.now.core) partial.now.places.items)
-        (map segment_view code.now.windows.items))
+        (memory_of (with_all bytes (core_view partial.now.core) partial.now.places.items) windows)
         (with_all bytes (core_view partial.now.core) partial.now.places.items)
         (line_of quick))) }
 {
@@ -365,7 +318,7 @@ fn quick_walk<W: Write>(
         &mut caller[..count],
         frames,
     );
-    if walk_lacks(found) {
+    if walk_lacks(machine, found) {
         return Ok(false);
     }
     print_found(
@@ -381,20 +334,28 @@ fn quick_walk<W: Write>(
     Ok(true)
 }
 
-/// Whether a walk ended where a register or a number of the memory isn't known: with more of the
+/// Whether a walk ended where a register or a number of the memory isn't known, or where no call
+/// frames have the address and it may be that a signal handler returned to it: with more of the
 /// memory it might go on.
-fn walk_lacks(found: Result<Walk, NoFrames>) -> bool
-    ensures { result ≡ walk_lacks found }
+fn walk_lacks(machine: SampleMachine, found: Result<Walk, NoFrames>) -> bool
+    ensures { result ≡ walk_lacks machine found }
 {
     match found {
-        Ok(walk) => end_lacks(walk.end),
+        Ok(walk) => end_lacks(machine, walk.end),
         Err(_) => false,
     }
 }
 
 /// The same by how it ended.
-fn end_lacks(end: End) -> bool
-    ensures { result ≡ end_lacks end }
+fn end_lacks(machine: SampleMachine, end: End) -> bool
+    ensures { result ≡ end_lacks machine end }
+{
+    misses_value(end) || may_be_signal(machine, end)
+}
+
+/// Whether a register or a number of the memory isn't known.
+fn misses_value(end: End) -> bool
+    ensures { result ≡ misses_value end }
 {
     match end {
         End::Failed(error) => error_lacks(error),
@@ -409,5 +370,15 @@ fn error_lacks(error: FrameError) -> bool
     match error {
         FrameError::UnknownRegister(_) | FrameError::UnreadableMemory(_) => true,
         _ => false,
+    }
+}
+
+/// Whether a handler may have returned there, whose trampoline has no call frames.
+fn may_be_signal(machine: SampleMachine, end: End) -> bool
+    ensures { result ≡ may_be_signal machine end }
+{
+    match machine {
+        SampleMachine::X86_64 => false,
+        SampleMachine::AArch64 => lacks_frames(end),
     }
 }

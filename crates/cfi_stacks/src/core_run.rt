@@ -1,5 +1,5 @@
 //! The stacks of a core file that a reader gives.
-ghost use Rattle.std.specs.Prelude.{◌≡◌, ◌⊎◌, ℕ, [], List, map, option_map};
+ghost use Rattle.std.specs.Prelude.{◌≡◌, ◌⊎◌, ℕ, [], List, map, option_map, true};
 ghost use Rattle.std.specs.List.{list_any};
 ghost use Rattle.cfi_cores.specs.CoreSegments.{AreInOrder, segment_view};
 ghost use Rattle.cfi_cores.specs.CoreFiles.{core_view};
@@ -9,7 +9,7 @@ ghost use Rattle.cfi_object.specs.FileParts.{AreLeft, AreOfInput};
 ghost use Rattle.cfi_processes.specs.FileModules.{AreOfFiles};
 ghost use Rattle.cfi_processes.specs.KnownFiles.{known_view, modules_in};
 ghost use Rattle.cfi_processes.specs.Modules.{module_view};
-ghost use Rattle.cfi_processes.specs.OpenedFiles.{opened_view};
+ghost use Rattle.cfi_processes.specs.OpenedFiles.{AreOpenedAs, Opened, are_whole};
 ghost use Rattle.cfi_processes.specs.SampleStacks.{HasRoom};
 ghost use Rattle.cfi_processes.specs.ThreadNames.{bytes_of};
 ghost use Rattle.cfi_programs.specs.WriterOutput.{Prints, PrintsSome};
@@ -20,7 +20,7 @@ ghost use Rattle.cfi_stacks.specs.CoreOutputs.{memory_of};
 ghost use Rattle.cfi_stacks.specs.ProfileOutputs.{no_memory, wrong_input_in};
 ghost use Rattle.cfi_stacks.specs.Rooms.{KeepsNoRows};
 
-use crate::core_files::{CoreCode, core_code, opened_files};
+use crate::core_files::{CoreCode, opened_files, whole_code};
 use crate::core_quick::print_partial;
 use crate::core_text::print_thread;
 use crate::listing::ThreadListing;
@@ -54,8 +54,9 @@ use std::io::Write;
 /// what it doesn't have of their memory is read in them. The vdso is read in the core file.
 ///
 /// Of the core file only the parts are read that are needed (`cfi_cores::read_core_parts`): the
-/// headers and notes, the first pages of files, and each stack from its pointer on. Where a stack
-/// lacks something in these, the file is read whole; one that isn't the same then can't be read.
+/// headers and notes, the first pages of files, and each stack from its pointer on; of each file of
+/// code its headers, its build, its call frames and its symbols. Where a stack lacks something in
+/// these, the core file and the files of code are read again, and whole.
 ///
 /// Status 0: all threads are printed. Status 1: the core file, or the rest of its notes, can't be
 /// read, which prints `refused` and the name of the error; no note is of the thread that is asked
@@ -105,7 +106,7 @@ fn print_parts<O: Opener, I: FileInput, W: Write>(
 }
 
 /// Reads the core file whole, and prints the stacks.
-fn print_whole<O: Opener, I: FileInput, W: Write>(
+pub(crate) fn print_whole<O: Opener, I: FileInput, W: Write>(
     alloc: Global,
     listing: ThreadListing,
     opener: &O,
@@ -207,23 +208,25 @@ fn print_read<O: Opener, W: Write>(
     if lacks_thread(listing, core) {
         return write_reason(output, listing.format, "no thread", 1);
     }
-    match opened_files(alloc, opener, core) {
+    match opened_files(alloc, true, opener, core) {
         Ok(opened) => print_opened(alloc, listing, core, opened.as_slice(), output),
         Err(_) => write_refusal_in(output, listing.format, Error::OutOfMemory),
     }
 }
 
 /// Prints the stacks of the threads, by files that were opened.
-pub(crate) fn print_opened<W: Write>(
+fn print_opened<W: Write>(
     alloc: Global,
     listing: ThreadListing,
     core: &Core<'_>,
     opened: &[OpenedFile<'_>],
     output: &mut W,
 ) -> io::Result<u8>
-    requires { AreInOrder core.now.segments.items }
-    ensures { PrintsSome (λ line. IsOfOpened listing (core_view core.now)
-        (map opened_view opened.now) line ⊎ (line ≡ no_memory listing.format))
+    requires dumped { AreInOrder core.now.segments.items }
+    requires whole { are_whole opened.now ≡ true }
+    ensures { (all : List Opened) → AreOpenedAs opened.now all
+        → PrintsSome (λ line. IsOfOpened listing (core_view core.now) all line
+        ⊎ (line ≡ no_memory listing.format))
         (W.contents output.old) (W.contents output.new) result }
 {
     match profile_files(alloc, !listing.raw, opened) {
@@ -241,13 +244,14 @@ fn print_by_files<W: Write>(
     files: &[ProfileFile<'_>],
     output: &mut W,
 ) -> io::Result<u8>
-    requires { AreInOrder core.now.segments.items }
-    ensures { PrintsSome (λ line. IsOfFiles listing (core_view core.now)
-        (map opened_view opened.now) (map known_view files.now) line
-        ⊎ (line ≡ no_memory listing.format))
+    requires dumped { AreInOrder core.now.segments.items }
+    requires whole { are_whole opened.now ≡ true }
+    ensures { (all : List Opened) → AreOpenedAs opened.now all
+        → PrintsSome (λ line. IsOfFiles listing (core_view core.now) all
+        (map known_view files.now) line ⊎ (line ≡ no_memory listing.format))
         (W.contents output.old) (W.contents output.new) result }
 {
-    match core_code(alloc, core, opened, files) {
+    match whole_code(alloc, core, opened, files) {
         Ok(code) => print_code(alloc, listing, core, files, &code, output),
         Err(_) => write_refusal_in(output, listing.format, Error::OutOfMemory),
     }

@@ -69,6 +69,7 @@ fn perf_advice(error: PerfError) -> &'static str
 {
     match error {
         PerfError::AttributeSize(_) => "; record with perf of Linux 3.7 or later",
+        PerfError::Directory => "; perf record without --threads writes one file",
         PerfError::MixedEvents => "; record each event by itself",
         PerfError::Compressed => "; perf record without -z doesn't compress them",
         _ => "",

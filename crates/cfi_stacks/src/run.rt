@@ -8,7 +8,7 @@ ghost use Rattle.cfi_perf.specs.Recordings.{is_sample};
 ghost use Rattle.cfi_perf.specs.Windows.{records_in};
 ghost use Rattle.cfi_programs.specs.WriterOutput.{Prints, PrintsSome, Writes};
 ghost use Rattle.cfi_processes.specs.KnownFiles.{known_view};
-ghost use Rattle.cfi_processes.specs.OpenedFiles.{opened_view};
+ghost use Rattle.cfi_processes.specs.OpenedFiles.{AreOpenedAs, Opened};
 ghost use Rattle.cfi_processes.specs.Replays.{AreModulesFor, HasOwnModules, files_in, files_of};
 ghost use Rattle.cfi_processes.specs.SampleStacks.{HasRoom};
 ghost use Rattle.cfi_processes.specs.Wanted.{wanted_view};
@@ -400,7 +400,7 @@ fn print_wanted<O: Opener, I: FileInput, W: Write>(
         ⊎ IsRefused (format_of listing) line)
         (W.contents output.old) (W.contents output.new) result }
 {
-    match read_files(alloc, opener, wanted) {
+    match read_files(alloc, false, opener, wanted) {
         Ok(opened) => {
             let opened = opened.as_slice();
             print_opened(
@@ -423,9 +423,9 @@ fn print_opened<I: FileInput, W: Write>(
     output: &mut W,
 ) -> io::Result<u8>
     requires { IsIndex (I.bytes input.old) index.now }
-    ensures { PrintsSome (λ line. HoldsOf (I.bytes input.old) index.now (λ sorted.
-        IsOfOpened listing (choice_view choice.now) machine
-        (map opened_view opened.now) sorted index.now.error line)
+    ensures { (all : List Opened) → AreOpenedAs opened.now all
+        → PrintsSome (λ line. HoldsOf (I.bytes input.old) index.now (λ sorted.
+        IsOfOpened listing (choice_view choice.now) machine all sorted index.now.error line)
         ⊎ IsRefused (format_of listing) line)
         (W.contents output.old) (W.contents output.new) result }
 {

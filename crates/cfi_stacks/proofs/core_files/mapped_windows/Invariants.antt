@@ -1,12 +1,12 @@
-use Rattle.std.proofs.Common.{◌≡◌, ◌++◌, drop, map}
+use Rattle.std.proofs.Common.{◌≡◌, ◌++◌, List, drop, map}
 use Rattle.std.specs.List.{filter_map}
 use Rattle.cfi_cores.specs.CoreSegments.{segment_view}
 use Rattle.cfi_cores.specs.MappedFiles.{mapping_view}
-use Rattle.cfi_processes.specs.OpenedFiles.{opened_view}
+use Rattle.cfi_processes.specs.OpenedFiles.{AreOpenedAs, Opened}
 use Rattle.cfi_stacks.specs.CoreOutputs.{file_window}
 use Rattle.cfi_stacks.proofs.core_files.mapped_windows.Given as goal
 
 abbrev pub invariant-loop-mapping : goal.invariant-loop-mapping
 invariant-loop-mapping l =
-    let window = file_window (map opened_view l.opened) in
-    map segment_view l.windows.items ++ filter_map window (map mapping_view (drop l.mapping-index l.mapped)) ≡ filter_map window (map mapping_view l.mapped)
+    (all : List Opened) → AreOpenedAs l.opened all →
+    map segment_view l.windows.items ++ filter_map (file_window all) (map mapping_view (drop l.mapping-index l.mapped)) ≡ filter_map (file_window all) (map mapping_view l.mapped)

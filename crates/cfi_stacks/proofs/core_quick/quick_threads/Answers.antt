@@ -4,7 +4,6 @@ use Rattle.cfi_elf.specs.declared.program_header.ProgramHeader.{ProgramHeader}
 use Rattle.cfi_cores.specs.CoreFiles.{core_view}
 use Rattle.cfi_cores.specs.CoreParts.{segment_at, with_all}
 use Rattle.cfi_cores.specs.declared.thread.CoreThread.{CoreThread as ThreadOfCode}
-use Rattle.cfi_cores.specs.CoreSegments.{segment_view}
 use Rattle.cfi_cores.specs.CoreThreads.{thread_view}
 use Rattle.cfi_processes.specs.FileModules.{AreOfFiles}
 use Rattle.cfi_processes.specs.KnownFiles.{known_view}
@@ -21,11 +20,11 @@ no_thread = record { tid = 0; signal = 0; fault = None; registers = record { ref
 
 pub loop-thread-init : goal.loop-thread-init
 loop-thread-init c = (
-  λ bytes of is.
+  λ bytes of is windows.
       let partial = c.args.partial.now in
       let whole = with_all bytes (core_view partial.core) partial.places.items in
       let files = map known_view c.args.files.now in
-      let memory = memory_of whole (map segment_view c.args.code.now.windows.items) in
+      let memory = memory_of whole windows in
       subst (λ (text : List ℕ). Printed c.args.listing files memory whole [] (Some []) (Some text)) (sym c.new-text.ensures.items) (none_printed c.args.listing files memory whole (Some [])),
   room_for_all c.args.files.now c.args.room c.requires.frames c.requires.rows,
 )
@@ -33,25 +32,24 @@ loop-thread-init c = (
 pub loop-thread-preserved-then-not-is_asked_for : goal.loop-thread-preserved-then-not-is_asked_for
 unfolding no_thread
 loop-thread-preserved-then-not-is_asked_for c = (
-  λ bytes of is.
+  λ bytes of is windows.
       let partial = c.args.partial.now in
       let whole = with_all bytes (core_view partial.core) partial.places.items in
       let threads = c.as_slice-threads.result.now in
       let i = c.loop-thread.thread-index in
-      one_passed c.args.listing (map known_view c.args.files.now) (memory_of whole (map segment_view c.args.code.now.windows.items)) whole (take i (map thread_view threads)) (take (i + 1) (map thread_view threads)) (thread_view (get_or threads i no_thread)) (Some []) (Some c.loop-thread.text.items)
-      (next_thread thread_view threads i no_thread c.loop-thread-test.true) (sym c.is_asked_for.ensures ∙ c.if-not-is_asked_for.true) (c.loop-thread.invariant.0 bytes of is),
+      one_passed c.args.listing (map known_view c.args.files.now) (memory_of whole windows) whole (take i (map thread_view threads)) (take (i + 1) (map thread_view threads)) (thread_view (get_or threads i no_thread)) (Some []) (Some c.loop-thread.text.items)
+      (next_thread thread_view threads i no_thread c.loop-thread-test.true) (sym c.is_asked_for.ensures ∙ c.if-not-is_asked_for.true) (c.loop-thread.invariant.0 bytes of is windows),
   c.loop-thread.invariant.1,
 )
 
 pub loop-thread-preserved : goal.loop-thread-preserved
 unfolding no_thread
 loop-thread-preserved c = (
-  λ bytes of is.
+  λ bytes of is windows.
       let partial = c.args.partial.now in
       let core = core_view partial.core in
       let whole = with_all bytes core partial.places.items in
       let files = map known_view c.args.files.now in
-      let windows = map segment_view c.args.code.now.windows.items in
       let threads = c.as_slice-threads.result.now in
       let i = c.loop-thread.thread-index in
       let t = get_or threads i no_thread in
@@ -60,19 +58,19 @@ loop-thread-preserved c = (
       let places = c.as_slice-in-loop-thread-2.result.now in
       let lent = memory_same bytes windows places partial.places.items c.as_slice-in-loop-thread-2.ensures.value in
       one_printed c.args.listing files (memory_of whole windows) whole (take i (map thread_view threads)) (take (i + 1) (map thread_view threads)) (thread_view t) (Some []) (Some c.loop-thread.text.items) (Some c.quick_thread.new.output.items) text
-      (next_thread thread_view threads i no_thread c.loop-thread-test.true) (sym c.is_asked_for.ensures ∙ c.if-not-is_asked_for.false) (c.loop-thread.invariant.0 bytes of is)
+      (next_thread thread_view threads i no_thread c.loop-thread-test.true) (sym c.is_asked_for.ensures ∙ c.if-not-is_asked_for.false) (c.loop-thread.invariant.0 bytes of is windows)
       (text_there c.args.listing core.machine files c.as_slice.result.now (mappings_of files whole.segments whole.mapped) (record { dumped = map (segment_at bytes) places; mapped = windows }) (record { dumped = whole.segments; mapped = windows }) (bytes_of c.shown_name-name.result) core.name (thread_view t) text mapped lent c.shown_name-name.ensures shows) written,
   c.in_ok-whole.ensures.cached,
 )
 
 pub returns : goal.returns
-returns c = λ bytes of is.
+returns c = λ bytes of is windows.
     let partial = c.args.partial.now in
     let whole = with_all bytes (core_view partial.core) partial.places.items in
     let threads = c.as_slice-threads.result.now in
     let i = c.loop-thread.thread-index in
-    quick_printed c.args.listing (map known_view c.args.files.now) (memory_of whole (map segment_view c.args.code.now.windows.items)) whole (take i (map thread_view threads)) c.loop-thread.text.items c.write_end.new.output.items c.in_ok-status.status
-    (all_threads thread_view threads i c.loop-thread-test.false ∙ ap (map thread_view) c.as_slice-threads.ensures.value) (c.loop-thread.invariant.0 bytes of is) c.in_ok-status.ensures
+    quick_printed c.args.listing (map known_view c.args.files.now) (memory_of whole windows) whole (take i (map thread_view threads)) c.loop-thread.text.items c.write_end.new.output.items c.in_ok-status.status
+    (all_threads thread_view threads i c.loop-thread-test.false ∙ ap (map thread_view) c.as_slice-threads.ensures.value) (c.loop-thread.invariant.0 bytes of is windows) c.in_ok-status.ensures
 
 pub quick_thread-requires-clause-files : goal.quick_thread-requires-clause-files
 quick_thread-requires-clause-files c = subst (AreOfFiles c.args.files.now) (sym c.as_slice-in-loop-thread.ensures.value) c.requires.files

@@ -20,7 +20,7 @@ returns-clause-printed g c = λ memory within whole. (
   thread_in c.args.listing (map known_view c.args.code.now.files.now) c.args.code.now.mappings.now (bytes_of c.args.name) (thread_view c.args.thread.now) c.unwind_thread-found.result c.unwind_thread-found.new.frames,
   c.in_ok-print_found.ensures,
   text_by_part c.args.listing c.args.machine (map known_view c.args.code.now.files.now) c.args.code.now.mappings.now (bytes_of c.args.name) (thread_view c.args.thread.now) (segment_view c.args.stack.now) _ c.new-bytes.ensures memory within
-      (module_list c.in-Ok.modules) _ c.unwind_thread-found.result _ (ap (map module_view) c.in-Ok.ensures.sorted.1 ∙ c.requires.modules) (ap length c.as_mut_slice-frames.ensures.value ∙ c.requires.cached.0)
+      (module_list c.in-Ok.modules) _ c.unwind_thread-found.result _ (ap (map module_view) c.in-Ok.ensures.sorted.1 ∙ c.requires.modules) (ap length c.as_mut_slice-frames.ensures.value ∙ c.requires.cached.0) (search rules)
       c.unwind_thread-found.ensures.unwound (sym c.walk_lacks.ensures ∙ c.if-walk_lacks.false),
 )
 

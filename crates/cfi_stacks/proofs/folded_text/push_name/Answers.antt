@@ -1,4 +1,4 @@
-use Rattle.std.proofs.Common.{◌∙◌, ◌++◌, ℕ, List, ap, length, map, sym}
+use Rattle.std.proofs.Common.{◌∙◌, length, sym}
 use Rattle.std.proofs.lemmas.List.{take_rest}
 use Rattle.cfi_names.specs.Names.{part_view}
 use Rattle.cfi_names.proofs.NameLemmas.{all_shown, some_left}

@@ -1,4 +1,4 @@
-use Rattle.std.proofs.Common.{◌≡◌, ◌∙◌, ◌+◌, ◌<◌, ◌≤◌, ℕ, List, Option, Result, Ok, Err, ap, arith, get_or, length, map, refl, subst, sym}
+use Rattle.std.proofs.Common.{◌∙◌, List, get_or, map, refl, subst, sym}
 use Rattle.std.proofs.lemmas.Result.{err_from_is_err_and}
 use Rattle.cfi_flame.specs.FoldedCounts.{counted_in}
 use Rattle.cfi_perf.specs.declared.index.PlaceKind.TheVariants.{InFile}

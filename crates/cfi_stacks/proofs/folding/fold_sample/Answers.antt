@@ -1,4 +1,5 @@
-use Rattle.std.proofs.Common.{◌∙◌, ◌++◌, ℕ, List, ap, length, map, rules}
+use Rattle.std.proofs.Common.{◌∙◌, ◌++◌, ℕ, List, ap, arith, length, map, rules}
+use Rattle.std.proofs.lemmas.Grind.{common_steps}
 use Rattle.std.proofs.lemmas.Result.{on_ok_weaker}
 use Rattle.cfi_step.specs.ModuleLists.{module_list}
 use Rattle.cfi_perf.specs.Samples.{sample_view}
@@ -25,6 +26,7 @@ returns-clause-folded c =
       _,
       ap (map module_view) c.in-Ok.ensures.sorted.1 ∙ c.requires.modules,
       ap length c.as_mut_slice-frames.ensures.value ∙ c.requires.cached.0,
+      grind (arith, common_steps),
       c.unwind_sample-found.ensures.unwound,
       pushed ∙ ap (λ (front : List ℕ). front ++ text) c.clear.ensures.items,
     )) c.push_stack.ensures

@@ -1,6 +1,5 @@
 use Rattle.cfi_programs.proofs.DumpSectionWritten.{first_refused, last_written}
-use Rattle.std.proofs.Common.{◌++◌, codes, map}
-use Rattle.cfi_names.specs.Names.{shown}
+use Rattle.std.proofs.Common.{◌++◌, codes}
 use Rattle.cfi_programs.specs.JsonLines.{json_name}
 use Rattle.cfi_stacks.proofs.object_lines.write_named.Goals as goal
 

@@ -1,5 +1,5 @@
 use Rattle.std.proofs.lemmas.List.{take_rest}
-use Rattle.std.proofs.Common.{◌≡◌, ◌≤◌, ◌+◌, ◌-◌, ◌∙◌, ℕ, [], List, Option, IfSome, ap, arith, drop, length, length-drop, refl, subst, sym, take}
+use Rattle.std.proofs.Common.{◌≡◌, ◌≤◌, ◌-◌, ◌∙◌, ℕ, [], List, Option, IfSome, ap, arith, drop, length, length-drop, refl, subst, sym, take}
 use Rattle.cfi_perf.specs.declared.windows.RecordWalk.{RecordWalk}
 use Rattle.cfi_stacks.specs.ProfileIndexes.{HasRecords, IsNextIn, IsPartOf, IsWindowIn}
 use Rattle.cfi_stacks.proofs.FoundLemmas.{no_window, read_on, step_on}

@@ -1,4 +1,4 @@
-use Rattle.std.proofs.Common.{◌≡◌, ◌∙◌, ◌+◌, ◌<◌, ◌≤◌, ℕ, List, Option, Result, Ok, Err, ap, arith, get_or, length, map, refl, subst, sym}
+use Rattle.std.proofs.Common.{◌∙◌, ℕ, List, Option, Result, Ok, get_or, map, refl, subst, sym}
 use Rattle.cfi_object.specs.declared.input.InputError.{InputError}
 use Rattle.cfi_perf.specs.declared.index.PlaceKind.TheVariants.{InFile}
 use Rattle.cfi_perf.specs.declared.index.RecordPlace.{RecordPlace}

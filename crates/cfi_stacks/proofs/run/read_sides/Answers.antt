@@ -1,4 +1,4 @@
-use Rattle.std.proofs.Common.{◌∙◌, ◌-◌, ℕ, List, Option, arith, subst, sym}
+use Rattle.std.proofs.Common.{◌-◌, ℕ, List, Option, arith, subst}
 use Rattle.cfi_object.specs.FileParts.{IsPartRead}
 use Rattle.cfi_stacks.proofs.AroundLemmas.{sides_read}
 use Rattle.cfi_stacks.proofs.run.read_sides.Goals as goal

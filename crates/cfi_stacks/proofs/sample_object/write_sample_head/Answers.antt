@@ -1,7 +1,6 @@
 use Rattle.cfi_programs.proofs.DumpSectionWritten.{first_refused, last_written}
-use Rattle.std.proofs.Common.{◌++◌, codes, map}
+use Rattle.std.proofs.Common.{◌++◌, codes}
 use Rattle.cfi_perf.specs.Samples.{sample_view}
-use Rattle.cfi_names.specs.Names.{shown}
 use Rattle.cfi_programs.specs.JsonLines.{json_name}
 use Rattle.cfi_processes.specs.ThreadNames.{bytes_of}
 use Rattle.cfi_stacks.specs.StackObjects.{comm_text, number_members}

@@ -24,6 +24,7 @@ returns-clause-printed g c = (
     _,
     ap (map module_view) c.in-Ok.ensures.sorted.1 ∙ c.requires.modules,
     ap length c.as_mut_slice-frames.ensures.value ∙ c.requires.cached.0,
+    search rules,
     c.unwind_sample-found.ensures.unwound,
     refl,
   ),

@@ -1,4 +1,3 @@
-use Rattle.std.proofs.Common.{map}
 use Rattle.cfi_perf.specs.Samples.{sample_view}
 use Rattle.cfi_names.specs.Names.{shown}
 use Rattle.cfi_programs.proofs.DumpSectionWritten.{first_refused, last_written}

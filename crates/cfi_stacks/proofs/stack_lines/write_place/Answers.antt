@@ -1,4 +1,4 @@
-use Rattle.std.proofs.Common.{◌++◌, codes, map}
+use Rattle.std.proofs.Common.{◌++◌, codes}
 use Rattle.cfi_names.specs.Names.{shown}
 use Rattle.cfi_programs.specs.Lines.{address_text}
 use Rattle.cfi_programs.proofs.DumpSectionWritten.{first_refused, last_written}

@@ -1,4 +1,4 @@
-use Rattle.std.proofs.Common.{◌≡◌, ◌-◌, ℕ, Some, arith, length, min, refl}
+use Rattle.std.proofs.Common.{◌≡◌, ◌-◌, Some, arith, length, min, refl}
 use Rattle.cfi_perf.specs.Events.{record_view}
 use Rattle.cfi_perf.specs.Windows.{IsWindow, bytes_left}
 use Rattle.cfi_stacks.specs.declared.profile_index.ProfileIndex.{ProfileIndex}
