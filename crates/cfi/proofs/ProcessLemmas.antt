@@ -37,7 +37,7 @@ use Rattle.cfi_programs.specs.declared.style.Format.{Format}
 use Rattle.cfi.specs.Tasks.{Names, Task, no_files, no_times, no_width, of_request, task_for, two_namings}
 use Rattle.cfi.specs.Spelled.{spelled}
 use Rattle.cfi.specs.Targets.{Target, Tree, found as found_target, named, unread}
-use Rattle.cfi.specs.Process.{AreChecked, AreChecks, AreStacks, AreTallied, AreTargets, AreThreads, Checks, ChecksStyled, Disk, Ends, IsAnswer, IsAnswerTo, IsCheck, IsCheckOf, IsPrint, IsStatusAfter, IsStatusOf, IsSummary, IsTargetCheck, MayOpenAt, MayOpenNamed, PrintsRun, WritesChecks, disk_of, kept, no_checks, nothing, tallied, tally_line, with_check}
+use Rattle.cfi.specs.Process.{AreChecked, AreChecks, AreStacks, AreTallied, AreTargets, AreThreads, Checks, ChecksStyled, Disk, Ends, IsAnswer, IsAnswerTo, IsCheck, IsCheckOf, IsPrint, IsStatusAfter, IsStatusOf, IsSummary, IsTargetCheck, MayOpenAt, MayOpenNamed, MayOpenProfile, PrintsRun, WritesChecks, disk_of, kept, no_checks, nothing, tallied, tally_line, with_check}
 
 -- ---- checks one after the other
 
@@ -197,12 +197,12 @@ pub unread_target : (E : Type 0) (disk : Disk) (style : CheckStyle) (target : Ta
 unread_target E disk style target old e =
     subst (λ (t : Target). ChecksSome {E = E} (λ finding line. IsTargetCheck disk style t finding line) old old (Ok Unreadable)) (sym e) (Unreadable, nothing, none_yet old, refl, (refl, refl))
 
-pub stacks_of : {E : Type 0} (disk : Disk) (listing : Listing) (choice : Choice) (folders : Folders) (name : Text) (file : disk.Handle) (old new : Option (List ℕ)) (r : Result ℕ E) → MayOpenNamed disk name (Some file) →
-    ((bytes : List ℕ) × AreLeft (disk.bytes_of file) bytes × PrintsSome (λ line. IsOwedOfProfile listing choice (MayOpenAt disk folders) disk.bytes_of bytes line) old new r) → PrintsSome (λ line. AreStacks disk listing choice folders name line) old new r
-stacks_of disk listing choice folders name file old new r may (bytes, left, (printed, prints, owed)) = (printed, prints, (Some file, may, (bytes, left, owed)))
+pub stacks_of : {E : Type 0} (disk : Disk) (tree : Tree) (listing : Listing) (choice : Choice) (folders : Folders) (name : Text) (file : disk.Handle) (old new : Option (List ℕ)) (r : Result ℕ E) → MayOpenProfile disk tree name (Some file) →
+    ((bytes : List ℕ) × AreLeft (disk.bytes_of file) bytes × PrintsSome (λ line. IsOwedOfProfile listing choice (MayOpenAt disk folders) disk.bytes_of bytes line) old new r) → PrintsSome (λ line. AreStacks disk tree listing choice folders name line) old new r
+stacks_of disk tree listing choice folders name file old new r may (bytes, left, (printed, prints, owed)) = (printed, prints, (Some file, may, (bytes, left, owed)))
 
-pub no_stacks : (E : Type 0) (disk : Disk) (listing : Listing) (choice : Choice) (folders : Folders) (name : Text) (old : Option (List ℕ)) → MayOpenNamed disk name None → PrintsSome {E = E} (λ line. AreStacks disk listing choice folders name line) old old (Ok 2)
-no_stacks E disk listing choice folders name old may = (nothing, (none_yet old, refl), (None, may, refl))
+pub no_stacks : (E : Type 0) (disk : Disk) (tree : Tree) (listing : Listing) (choice : Choice) (folders : Folders) (name : Text) (old : Option (List ℕ)) → MayOpenProfile disk tree name None → PrintsSome {E = E} (λ line. AreStacks disk tree listing choice folders name line) old old (Ok 2)
+no_stacks E disk tree listing choice folders name old may = (nothing, (none_yet old, refl), (None, may, refl))
 
 pub threads_of : {E : Type 0} (disk : Disk) (listing : ThreadListing) (folders : Folders) (name : Text) (file : disk.Handle) (old new : Option (List ℕ)) (r : Result ℕ E) → MayOpenNamed disk name (Some file) →
     ((bytes : List ℕ) × AreLeft (disk.bytes_of file) bytes × PrintsSome (λ line. IsOwedOfCore listing (MayOpenAt disk folders) disk.bytes_of bytes line) old new r) → PrintsSome (λ line. AreThreads disk listing folders name line) old new r
@@ -321,10 +321,10 @@ pub wordless : (disk : Disk) (tree : Tree) (old : Option (List ℕ)) → PrintsR
 wordless disk tree old = (nothing, refl, ([], none_yet old, inl (refl, refl)))
 
 -- what is right by the bytes that are left of each file is right by its bytes
-pub same_stacks : {Handle E : Type 0} (may_open : FileKind → Text → Option Handle → Type 0) (left known : Handle → Option (List ℕ)) → ((file : Handle) → left file ≡ known file) → (listing : Listing) (choice : Choice) (folders : Folders) (name : Text) (old new : Option (List ℕ)) (r : Result ℕ E) →
-    PrintsSome (λ line. AreStacks (disk_of may_open left) listing choice folders name line) old new r → PrintsSome (λ line. AreStacks (disk_of may_open known) listing choice folders name line) old new r
-same_stacks {Handle = Handle} may_open left known same listing choice folders name old new r =
-    subst (λ (bytes_of : Handle → Option (List ℕ)). PrintsSome (λ line. AreStacks (disk_of may_open bytes_of) listing choice folders name line) old new r) (λ i file. same file i)
+pub same_stacks : {Handle E : Type 0} (may_open : FileKind → Text → Option Handle → Type 0) (left known : Handle → Option (List ℕ)) → ((file : Handle) → left file ≡ known file) → (tree : Tree) (listing : Listing) (choice : Choice) (folders : Folders) (name : Text) (old new : Option (List ℕ)) (r : Result ℕ E) →
+    PrintsSome (λ line. AreStacks (disk_of may_open left) tree listing choice folders name line) old new r → PrintsSome (λ line. AreStacks (disk_of may_open known) tree listing choice folders name line) old new r
+same_stacks {Handle = Handle} may_open left known same tree listing choice folders name old new r =
+    subst (λ (bytes_of : Handle → Option (List ℕ)). PrintsSome (λ line. AreStacks (disk_of may_open bytes_of) tree listing choice folders name line) old new r) (λ i file. same file i)
 
 pub same_threads : {Handle E : Type 0} (may_open : FileKind → Text → Option Handle → Type 0) (left known : Handle → Option (List ℕ)) → ((file : Handle) → left file ≡ known file) → (listing : ThreadListing) (folders : Folders) (name : Text) (old new : Option (List ℕ)) (r : Result ℕ E) →
     PrintsSome (λ line. AreThreads (disk_of may_open left) listing folders name line) old new r → PrintsSome (λ line. AreThreads (disk_of may_open known) listing folders name line) old new r

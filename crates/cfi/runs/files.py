@@ -98,6 +98,12 @@ def piped(whole):
     return struct.pack("<8sQ", b"PERFILE2", 16) + event + architecture + whole[start:start + size]
 
 
+def of_a_folder(whole):
+    """The profile, which says that its samples are in other files (HEADER_DIR_FORMAT)."""
+    features, = struct.unpack_from("<Q", whole, 72)
+    return whole[:72] + struct.pack("<Q", features | 1 << 24) + whole[80:]
+
+
 STACK_OF_INNER = [1, 2, 3, IN_OUTER, 0x7FE0, IN_START, 0]
 
 of_calls = profile(
@@ -283,6 +289,16 @@ of_fault = core(
     (WRITABLE, 0x7000, 4096, STACK_OF_INNER),
 )
 
+# Inner called the address 0, and would go on at the second byte behind its prologue.
+of_null_call = core(
+    thread(8, 11, 0x7020, 0x6FF8, 0)
+    + process(b"calls")
+    + fault(11, 1, 0)
+    + files((0x400000, 0x401000, 0, b"calls")),
+    CODE,
+    (WRITABLE, 0x6FF8, 4096, [IN_INNER + 1] + STACK_OF_INNER),
+)
+
 data = Path(__file__).resolve().parent.parent / "data"
 
 # Inner of the program built runs; so does that of calls, which has no build, where its first page has one; and that of
@@ -332,7 +348,13 @@ mislinked = bytearray((data / "linked").read_bytes())
 assert mislinked[0x94:0xA4] == b"bare.debug\0\0" + struct.pack("<I", zlib.crc32((data / "bare.debug").read_bytes()))
 mislinked[0xA3] += 1
 
+# Of calls, with the symbol of inner as one of a function that says which one is called (STT_GNU_IFUNC), of GNU.
+indirect = bytearray((data / "calls").read_bytes())
+indirect[7] = 3
+indirect[indirect.index(struct.pack("<BBHQQ", 2, 0, 1, 0x4000C2, 10))] = 10
+
 (data / "mislinked").write_bytes(mislinked)
+(data / "indirect").write_bytes(indirect)
 (data / "linked.perf").write_bytes(of_linked)
 (data / "linked.core").write_bytes(of_linked_thread)
 (data / "unfaithful").write_bytes(calls)
@@ -342,6 +364,7 @@ mislinked[0xA3] += 1
 (data / "names.perf").write_bytes(of_names)
 (data / "calls.perf").write_bytes(of_calls)
 (data / "piped.perf").write_bytes(piped(of_calls))
+(data / "several.perf").write_bytes(of_a_folder(of_calls))
 (data / "others.perf").write_bytes(of_others)
 (data / "large.perf").write_bytes(of_large)
 (data / "builds.perf").write_bytes(of_builds)
@@ -351,3 +374,4 @@ mislinked[0xA3] += 1
 (data / "cut.core").write_bytes(cut_off)
 (data / "builds.core").write_bytes(of_mapped_builds)
 (data / "fault.core").write_bytes(of_fault)
+(data / "null.core").write_bytes(of_null_call)

@@ -3,7 +3,7 @@
 --         were opened, and by what folders were listed with
 --     IsOutput disk tree words printed      the output for the words of the process
 --     PrintsRun disk tree words old new status      what a run writes, and its status
-use Rattle.std.specs.Prelude.{◌≡◌, ◌⊎◌, ℕ, Bool, List, [], ◌∷◌, ◌++◌, length, Option, Some}
+use Rattle.std.specs.Prelude.{◌≡◌, ◌⊎◌, ℕ, Bool, true, List, [], ◌∷◌, ◌++◌, length, Option, Some}
 use Rattle.std.specs.Prelude.{None, Result, Vec, IsNone, MatchResult, IfOk, codes, map}
 use Rattle.std.specs.Prelude.{if◌then◌else◌}
 use Rattle.std.specs.Borrow.{Bor}
@@ -35,11 +35,13 @@ use Rattle.cfi.specs.Forms.{format_names}
 use Rattle.cfi.specs.Openings.{FileKind, of_any_kind, path_of, regular}
 use Rattle.cfi.specs.FlameOutputs.{IsOwed as IsOwedOfFolded, OfStacks, graph, table}
 use Rattle.cfi.specs.declared.files.CheckStyle.{CheckStyle}
+use Rattle.cfi.specs.declared.system.Kind.{Kind}
+use Rattle.cfi.specs.declared.system.Kind.TheVariants.{File, Folder, Other}
 use Rattle.cfi.specs.Findings.{greatest_status, is_left_out, of_elf_alone, tally_in}
 use Rattle.cfi_programs.specs.declared.style.Format.{Format}
 use Rattle.cfi.specs.Spelled.{spelled}
 use Rattle.cfi.specs.Targets.{AreFilesOf, AreListed, Target, Tree, found as found_in_folder}
-use Rattle.cfi.specs.Targets.{named, unread}
+use Rattle.cfi.specs.Targets.{named, path_in, unread}
 use Rattle.cfi.specs.Tasks.{Names, OfRequest, Task, check, flame, no_files, no_times, no_width}
 use Rattle.cfi.specs.Tasks.{of_files, of_list, of_request, print, report, stack, task_for}
 use Rattle.cfi.specs.Tasks.{two_namings, unwind}
@@ -196,9 +198,21 @@ AreStacksOf disk listing choice folders (Some file) printed =
     (bytes : List ℕ) × AreLeft (disk.bytes_of file) bytes
     × IsOwedOfProfile listing choice (MayOpenAt disk folders) disk.bytes_of bytes printed
 
-abbrev pub AreStacks : Disk → Listing → Choice → Folders → Text → Line → Type 0
-AreStacks disk listing choice folders name printed =
-    (opened : Option disk.Handle) × MayOpenNamed disk name opened
+-- of a folder the file `data` in it, or none where there is no memory for its path
+abbrev pub MayOpenIn : (disk : Disk) → Kind → Text → Option disk.Handle → Type 0
+MayOpenIn disk Folder path opened =
+    IsNone opened ⊎ disk.MayOpen of_any_kind (path_in path (codes "data")) opened
+MayOpenIn disk File path opened = disk.MayOpen of_any_kind path opened
+MayOpenIn disk Other path opened = disk.MayOpen of_any_kind path opened
+
+-- a profile that the words name, which may be a folder
+abbrev pub MayOpenProfile : (disk : Disk) → Tree → Text → Option disk.Handle → Type 0
+MayOpenProfile disk tree name opened =
+    (kind : Kind) × tree.MayBe true (path_of name) kind × MayOpenIn disk kind (path_of name) opened
+
+abbrev pub AreStacks : Disk → Tree → Listing → Choice → Folders → Text → Line → Type 0
+AreStacks disk tree listing choice folders name printed =
+    (opened : Option disk.Handle) × MayOpenProfile disk tree name opened
     × AreStacksOf disk listing choice folders opened printed
 
 abbrev pub AreThreadsOf :
@@ -234,7 +248,7 @@ IsAnswer disk tree (check names recursive style) printed =
 IsAnswer disk tree no_files printed = printed ≡ nothing
 IsAnswer disk tree two_namings printed = printed ≡ nothing
 IsAnswer disk tree (unwind listing choice folders name) printed =
-    AreStacks disk listing choice folders name printed
+    AreStacks disk tree listing choice folders name printed
 IsAnswer disk tree (stack listing folders name) printed =
     AreThreads disk listing folders name printed
 IsAnswer disk tree (no_times text) printed = printed ≡ nothing

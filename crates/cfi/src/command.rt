@@ -397,7 +397,7 @@ fn row<'w>(alloc: Global, formats: &'w [&'w str]) -> Result<clap::Command<'w>, A
     clap::Command::new(alloc, "row")
         .about("Prints the row of each address: its range, the CFA and the rule of each register")
         .arg(raw_flag(alloc))?
-        .arg(format_flag(alloc, formats))?
+        .arg(format_option(alloc, formats))?
         .arg(file(alloc))?
         .arg(addresses(alloc))
 }
@@ -409,7 +409,7 @@ fn rows<'w>(alloc: Global, formats: &'w [&'w str]) -> Result<clap::Command<'w>, 
     clap::Command::new(alloc, "rows")
         .about("Prints the rows of every function, or of the one at an address")
         .arg(raw_flag(alloc))?
-        .arg(format_flag(alloc, formats))?
+        .arg(format_option(alloc, formats))?
         .arg(file(alloc))?
         .arg(address(alloc))
 }
@@ -431,7 +431,7 @@ fn check<'w>(alloc: Global, formats: &'w [&'w str]) -> Result<clap::Command<'w>,
     clap::Command::new(alloc, "check")
         .about("Checks that the table of .eh_frame_hdr lists the entries of .eh_frame faithfully")
         .arg(quiet_flag(alloc))?
-        .arg(format_flag(alloc, formats))?
+        .arg(format_option(alloc, formats))?
         .arg(recursive_flag(alloc))?
         .arg(list_option(alloc))?
         .arg(files(alloc))
@@ -454,7 +454,7 @@ fn unwind<'w>(alloc: Global, formats: &'w [&'w str]) -> Result<clap::Command<'w>
     let command = clap::Command::new(alloc, "unwind")
         .about("Prints the stack of each sample of a profile: perf record --call-graph dwarf")
         .arg(places_flag(alloc))?
-        .arg(format_flag(alloc, formats))?;
+        .arg(format_option(alloc, formats))?;
     let command = with_samples(alloc, command)?;
     with_folders(alloc, command)?.arg(profile(alloc))
 }
@@ -466,7 +466,7 @@ fn stack<'w>(alloc: Global, formats: &'w [&'w str]) -> Result<clap::Command<'w>,
     let command = clap::Command::new(alloc, "stack")
         .about("Prints the stack of each thread of a core file")
         .arg(places_flag(alloc))?
-        .arg(format_flag(alloc, formats))?
+        .arg(format_option(alloc, formats))?
         .arg(thread_option(alloc))?;
     with_folders(alloc, command)?.arg(core_file(alloc))
 }
@@ -489,7 +489,7 @@ fn report<'w>(alloc: Global, formats: &'w [&'w str]) -> Result<clap::Command<'w>
 {
     clap::Command::new(alloc, "report")
         .about("Prints the functions of folded stacks, by their samples")
-        .arg(format_flag(alloc, formats))?
+        .arg(format_option(alloc, formats))?
         .arg(folded_file(alloc))
 }
 
@@ -693,7 +693,7 @@ fn thread_option<'w>(alloc: Global) -> Arg<'w>
 }
 
 /// Returns the option `--format`, with the names of the formats.
-fn format_flag<'w>(alloc: Global, names: &'w [&'w str]) -> Arg<'w>
+fn format_option<'w>(alloc: Global, names: &'w [&'w str]) -> Arg<'w>
     ensures rule { rule_of result ≡ format_rule names.entry }
     ensures local { result.global ≡ false }
 {
@@ -760,7 +760,7 @@ fn address<'w>(alloc: Global) -> Arg<'w>
     ensures local { result.global ≡ false }
 {
     Arg::new(alloc, "ADDRESS").help(
-        "Decimal, hexadecimal with 0x, a symbol or section, or NAME+NUMBER",
+        "Decimal, hexadecimal with 0x, a symbol, NAME@plt, a section, or NAME+NUMBER",
     )
 }
 
@@ -770,7 +770,7 @@ fn addresses<'w>(alloc: Global) -> Arg<'w>
     ensures local { result.global ≡ false }
 {
     Arg::new(alloc, "ADDRESS")
-        .help("Decimal, hexadecimal with 0x, a symbol or section, or NAME+NUMBER")
+        .help("Decimal, hexadecimal with 0x, a symbol, NAME@plt, a section, or NAME+NUMBER")
         .required(true)
         .num_args(1..)
 }

@@ -47,7 +47,7 @@ pub fn open_named<S: System>(system: &S, name: &str) -> Option<S::File>
 }
 
 /// Returns the path of a file that a command names: for `-` that of standard input.
-fn path_of(name: &str) -> &str
+pub fn path_of(name: &str) -> &str
     ensures { result.now ≡ path_of name.now }
 {
     if name == "-" { "/dev/stdin" } else { name }

@@ -23,6 +23,7 @@ mod flames;
 mod folders;
 mod function_objects;
 mod profile;
+mod profile_file;
 mod spelled;
 mod system;
 mod targets;
@@ -39,6 +40,7 @@ use files::{
 use flames::{Summary, print_folded};
 use folders::Folders;
 use profile::ProfileOpener;
+use profile_file::open_profile;
 use spelled::spelled;
 use std::alloc::AllocGlobal;
 use std::convert::AsStr;
@@ -181,6 +183,7 @@ fn print_stacks<S: System, W: Write>(
     output: &mut W,
 ) -> io::Result<u8>
     ensures { PrintsSome (λ line. AreStacks (disk_of (S.may_open system.now) S.File.bytes)
+        (tree_of (S.may_be system.now) (S.may_list system.now))
         listing (choice_view choice.now) (folders_view folders.entry) file.now line)
         (W.contents output.old) (W.contents output.new) result }
 {
@@ -189,7 +192,7 @@ fn print_stacks<S: System, W: Write>(
         folders,
         path: file,
     };
-    match open_named(system, file) {
+    match open_profile(system, file) {
         Some(mut input) => {
             let alloc = system.alloc();
             list_profile(alloc, listing, choice, &opener, &mut input, output)

@@ -272,7 +272,7 @@ fn is_above(name: &[u8]) -> bool
 }
 
 /// Returns the path of a name in a folder.
-fn path_in(alloc: Global, folder: &str, name: &[u8]) -> Result<Vec<u8>, AllocError>
+pub fn path_in(alloc: Global, folder: &str, name: &[u8]) -> Result<Vec<u8>, AllocError>
     ensures { IfOk result (λ path. path.items ≡ path_in folder.now name.now) }
 {
     let mut path = folder.as_bytes().to_vec(alloc)?;

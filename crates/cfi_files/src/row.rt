@@ -283,7 +283,7 @@ fn print_row<W: Write>(
     match sections.eh_frame {
         None => match debug_frame {
             None => write_no_frames(output, style.format),
-            Some(part) => print_part_row(style, part, address, context, output),
+            Some(part) => print_debug_frame_row(style, part, address, context, output),
         },
         Some(Ok(frames)) => print_eh_frame_row(
             style,
@@ -357,12 +357,12 @@ fn print_otherwise<W: Write>(
     }
     match debug_frame {
         None => write_refusal_behind(output, style.format, error),
-        Some(part) => print_part_row(style, part, address, context, output),
+        Some(part) => print_debug_frame_row(style, part, address, context, output),
     }
 }
 
 /// Prints the row in `.debug_frame` by a scan, or the error in the place of the section.
-fn print_part_row<W: Write>(
+fn print_debug_frame_row<W: Write>(
     style: Style,
     part: Result<SectionSource<'_>, ElfError>,
     address: u64,

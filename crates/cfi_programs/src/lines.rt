@@ -221,12 +221,16 @@ pub fn write_refusal_behind<W: Write>(
     ensures { Prints (refusal_behind format error)
         (W.contents output.old) (W.contents output.new) result }
 {
-    write_told_behind(output, format, error)?;
+    write_refusal_words_behind(output, format, error)?;
     Ok(1)
 }
 
 /// Writes the end of the line.
-fn write_told_behind<W: Write>(output: &mut W, format: Format, error: Error) -> io::Result<()>
+fn write_refusal_words_behind<W: Write>(
+    output: &mut W,
+    format: Format,
+    error: Error,
+) -> io::Result<()>
     ensures { Writes (W.contents output.old) (W.contents output.new) result
         (refusal_behind format error).text }
 {

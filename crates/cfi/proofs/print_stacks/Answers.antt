@@ -3,6 +3,7 @@ use Rattle.cfi_object.specs.FileParts.{AreLeft}
 use Rattle.cfi_stacks.specs.Choices.{choice_view}
 use Rattle.cfi.specs.Folders.{folders_view}
 use Rattle.cfi.specs.Process.{disk_of}
+use Rattle.cfi.specs.Targets.{tree_of}
 use Rattle.cfi.proofs.ProcessLemmas.{no_stacks, same_stacks, stacks_of}
 use Rattle.cfi.proofs.print_stacks.Goals as goal
 
@@ -10,12 +11,13 @@ pub returns-in-Some : goal.returns-in-Some
 returns-in-Some g c =
     let may_open = g.S.System.may_open c.args.system.now in
     let left = g.S.File.Read.remaining in
+    let tree = tree_of (g.S.System.may_be c.args.system.now) (g.S.System.may_list c.args.system.now) in
     let old = g.W.Write.contents c.args.output.now in
     let (bytes, are, prints) = c.list_profile.ensures in
-    same_stacks may_open left g.S.File.FileInput.bytes g.met.S.System.same_bytes c.args.listing (choice_view c.args.choice.now) (folders_view c.args.folders) c.args.file.now old _ c.list_profile.result
-    (stacks_of (disk_of may_open left) c.args.listing (choice_view c.args.choice.now) (folders_view c.args.folders) c.args.file.now _ old _ c.list_profile.result
+    same_stacks may_open left g.S.File.FileInput.bytes g.met.S.System.same_bytes tree c.args.listing (choice_view c.args.choice.now) (folders_view c.args.folders) c.args.file.now old _ c.list_profile.result
+    (stacks_of (disk_of may_open left) tree c.args.listing (choice_view c.args.choice.now) (folders_view c.args.folders) c.args.file.now _ old _ c.list_profile.result
     c.in-Some.ensures (bytes, subst (λ (known : Option (List ℕ)). AreLeft known bytes) (sym (g.met.S.System.same_bytes c.in-Some.input)) are, prints))
 
 pub returns-in-None : goal.returns-in-None
 returns-in-None g c =
-    no_stacks ℕ (disk_of (g.S.System.may_open c.args.system.now) g.S.File.FileInput.bytes) c.args.listing (choice_view c.args.choice.now) (folders_view c.args.folders) c.args.file.now (g.W.Write.contents c.args.output.now) c.in-None.ensures
+    no_stacks ℕ (disk_of (g.S.System.may_open c.args.system.now) g.S.File.FileInput.bytes) (tree_of (g.S.System.may_be c.args.system.now) (g.S.System.may_list c.args.system.now)) c.args.listing (choice_view c.args.choice.now) (folders_view c.args.folders) c.args.file.now (g.W.Write.contents c.args.output.now) c.in-None.ensures

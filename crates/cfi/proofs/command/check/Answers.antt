@@ -15,7 +15,7 @@ returns c =
     let list : App = with_rule recursive (text_rule (codes "files0-from")) in
     let start : IsApp none c.about.result = search rules in
     let with_quiet = adds_rule _ c.in_ok-arg.field-0 c.quiet_flag.result quiet_rule none start c.quiet_flag.ensures.rule c.quiet_flag.ensures.local c.in_ok-arg.ensures in
-    let with_format = adds_rule _ c.in_ok-arg-2.field-0 c.format_flag.result (format_rule c.args.formats) quiet with_quiet c.format_flag.ensures.rule c.format_flag.ensures.local c.in_ok-arg-2.ensures in
+    let with_format = adds_rule _ c.in_ok-arg-2.field-0 c.format_option.result (format_rule c.args.formats) quiet with_quiet c.format_option.ensures.rule c.format_option.ensures.local c.in_ok-arg-2.ensures in
     let with_recursive = adds_rule _ c.in_ok-arg-3.field-0 c.recursive_flag.result recursive_rule format with_format c.recursive_flag.ensures.rule c.recursive_flag.ensures.local c.in_ok-arg-3.ensures in
     let with_list = adds_rule _ c.in_ok-arg-4.field-0 c.list_option.result (text_rule (codes "files0-from")) recursive with_recursive c.list_option.ensures.rule c.list_option.ensures.local c.in_ok-arg-4.ensures in
     IfOk-weaker c.arg-5.result _ _ (λ new h. adds_rule _ new c.files.result files_rule list with_list c.files.ensures.rule c.files.ensures.local h) c.arg-5.ensures

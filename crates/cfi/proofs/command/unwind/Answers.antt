@@ -17,7 +17,7 @@ returns c =
     let start : IsApp none c.about.result = search rules in
     let with_raw = adds_rule _ c.in_ok-arg.field-0 c.places_flag.result raw_rule none start c.places_flag.ensures.rule c.places_flag.ensures.local c.in_ok-arg.ensures in
     let with_format =
-    adds_rule _ c.in_ok-command.command c.format_flag.result (format_rule c.args.formats) raw with_raw c.format_flag.ensures.rule c.format_flag.ensures.local c.in_ok-command.ensures in
+    adds_rule _ c.in_ok-command.command c.format_option.result (format_rule c.args.formats) raw with_raw c.format_option.ensures.rule c.format_option.ensures.local c.in_ok-command.ensures in
     let with_samples = adds_options sample_options _ c.in_ok-command-2.command format with_format c.in_ok-command-2.ensures in
     let with_folders = adds_options folder_options _ c.in_ok-with_folders.field-0 samples with_samples c.in_ok-with_folders.ensures in
     IfOk-weaker c.arg-3.result _ _ (λ new h. adds_rule _ new c.profile.result file_rule folders with_folders c.profile.ensures.rule c.profile.ensures.local h) c.arg-3.ensures
