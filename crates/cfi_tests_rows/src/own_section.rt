@@ -2,7 +2,7 @@
 ghost use Rattle.std.specs.Prelude.{◌≡◌, ◌==◌};
 ghost use Rattle.gimli_cfi.specs.Words.{cie_id, has_sizes, id_width, width_of, zero_length_ends};
 
-use crate::rows::{R7_8, RETURNS, Shown, row_of_section, shown};
+use crate::rows::{R7_8, RETURNS, Shown, row_of_section, shown_if_found};
 use gimli_cfi::{
     _UnwindSectionPrivate, BaseAddresses, CieOffsetEncoding, CommonInformationEntry, DebugFrame,
     Error, Format, Reader, UnwindContext, UnwindContextStorage, UnwindSection, Vendor,
@@ -113,10 +113,7 @@ fn by_cies<R: Reader<Offset = usize>, C: UnwindContextStorage<usize>>(
         asked = asked.saturating_add(1);
         from.cie_from_offset(bases, offset)
     });
-    let row = match found {
-        Ok(row) => Ok(shown(row)),
-        Err(refusal) => Err(refusal),
-    };
+    let row = shown_if_found(found);
     (row, cies.get())
 }
 

@@ -10,9 +10,9 @@ use crate::reuse::{
 };
 use crate::rows::{
     R6_16, R7_8, R7_16, RETURNS, SAVED, Shown, TWO_CIES, a_get_cie_that_changes_or_refuses,
-    row_of_section, rows_one_by_one, the_bytes_of_an_expression,
+    row_of_section, the_bytes_of_an_expression,
 };
-use crate::worked::worked_rows_one_by_one;
+use crate::worked::rows_one_by_one;
 use arrayvec::ArrayVec;
 use cfi_tests_bytes::THREE_ROWS;
 use gimli_cfi::{
@@ -137,8 +137,7 @@ where
     S: UnwindContextStorage<usize>,
     N: UnwindContextStorage<u32>,
 {
-    rows_one_by_one(rt, eight);
-    worked_rows_one_by_one(rt, eight)?;
+    rows_one_by_one(rt, eight)?;
     a_get_cie_that_changes_or_refuses(rt, of[1], eight);
     a_section_that_counts_its_cies(rt, of[1], eight);
     a_narrow_reader_answers_alike(rt, three_rows, four);

@@ -1,7 +1,8 @@
 //! The order in which the registers of a row are iterated, and copies of rows.
+use crate::rows::scanned;
 use gimli_cfi::{
-    ArrayLike, BaseAddresses, CopyList, DebugFrame, Error, Reader, Register, RegisterRule,
-    UnwindContext, UnwindContextStorage, UnwindTableRow, row_by_scan,
+    ArrayLike, CopyList, DebugFrame, Error, Reader, Register, RegisterRule, UnwindContext,
+    UnwindContextStorage, UnwindTableRow,
 };
 use std::process::Abort;
 
@@ -49,8 +50,7 @@ fn seen<R: Reader<Offset = usize>, S: UnwindContextStorage<usize>>(
     context: &mut UnwindContext<usize, S>,
     address: u64,
 ) -> Result<Seen, Error> {
-    let section = DebugFrame::from(reader);
-    match row_by_scan(&section, &BaseAddresses::default(), context, address) {
+    match scanned(&DebugFrame::from(reader), context, address) {
         Ok(row) => Ok((walked(row), copied_row(row))),
         Err(refusal) => Err(refusal),
     }

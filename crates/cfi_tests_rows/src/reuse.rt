@@ -2,11 +2,11 @@
 ghost use Rattle.std.specs.Prelude.{IfOk};
 ghost use Rattle.gimli_cfi.specs.Words.{IsCieOf};
 
-use crate::rows::{R7_8, RETURNS, Shown, row_of_section, shown};
+use crate::rows::{R7_8, RETURNS, Shown, row_of_section, scanned, shown_if_found};
 use cfi_tests_bytes::THREE_ROWS;
 use gimli_cfi::{
     BaseAddresses, DebugFrame, DebugFrameOffset, EndianSlice, Error, LittleEndian, Reader,
-    ReaderOffsetId, UnwindContext, UnwindContextStorage, UnwindSection, Vendor, row_by_scan,
+    ReaderOffsetId, UnwindContext, UnwindContextStorage, UnwindSection, Vendor,
 };
 use std::process::Abort;
 use std::test::Fail;
@@ -62,8 +62,7 @@ fn row_of_the_fde<R: Reader<Offset = usize>, S: UnwindContextStorage<usize>>(
             from.cie_from_offset(bases, offset)
         },
     )?;
-    let row = fde.unwind_info_for_address(&section, &bases, context, address)?;
-    Ok(shown(row))
+    shown_if_found(fde.unwind_info_for_address(&section, &bases, context, address))
 }
 
 /// Whether two contexts are equal.
@@ -161,9 +160,8 @@ fn compared<R: Reader<Offset = usize>, S: UnwindContextStorage<usize>>(
     one: &mut UnwindContext<usize, S>,
     other: &mut UnwindContext<usize, S>,
 ) -> Result<(bool, bool), Error> {
-    let bases = BaseAddresses::default();
-    let row = row_by_scan(&DebugFrame::from(first), &bases, one, 0x1000)?;
-    let other_row = row_by_scan(&DebugFrame::from(second), &bases, other, 0x1000)?;
+    let row = scanned(&DebugFrame::from(first), one, 0x1000)?;
+    let other_row = scanned(&DebugFrame::from(second), other, 0x1000)?;
     Ok((*row == *other_row, *row != *other_row))
 }
 

@@ -207,7 +207,7 @@ fn a_pipe_in_both_orders(rt: HostRuntime) -> Result<(), Fail> {
 /// A case, the bytes that are changed, and the error.
 type Changed = (&'static str, &'static [(usize, u8)], PerfError);
 
-const ERRORS: [Changed; 14] = [
+const ERRORS: [Changed; 15] = [
     ("no profile", &[(7, 0x31)], PerfError::NotPerf),
     ("the header of a pipe", &[(8, 16)], PerfError::NoEvents),
     (
@@ -215,6 +215,7 @@ const ERRORS: [Changed; 14] = [
         &[(8, 72)],
         PerfError::HeaderSize(72),
     ),
+    ("samples in other files", &[(75, 1)], PerfError::Directory),
     (
         "events of 111 bytes",
         &[(16, 111)],
@@ -331,11 +332,15 @@ fn cut_records(rt: HostRuntime) -> Result<(), Fail> {
     Ok(())
 }
 
-const SENTENCES: [(PerfError, &str); 13] = [
+const SENTENCES: [(PerfError, &str); 14] = [
     (PerfError::NotPerf, "not a profile of perf record"),
     (PerfError::PipeMode, "a pipe whose events don't stand first"),
     (PerfError::HeaderCut, "the profile ends in its header"),
     (PerfError::HeaderSize(5), "a header of size 5"),
+    (
+        PerfError::Directory,
+        "the samples are in other files of the folder",
+    ),
     (PerfError::AttributeSize(64), "events of size 64"),
     (
         PerfError::AttributesOutOfBounds,

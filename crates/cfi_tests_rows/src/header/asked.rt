@@ -2,7 +2,8 @@
 //!
 //! The contracts of calls that take the closure by value say nothing of its last state, so the
 //! counts are tested here.
-use crate::header::searches::{HEADER, SECTION, Shown, bases, read_header, shown, table_of};
+use crate::header::searches::{HEADER, SECTION, Shown, read_header, shown, table_of};
+use crate::rows::{ShownIn, bases, shown_if_found};
 use gimli_cfi::{
     BaseAddresses, CommonInformationEntry, DebugFrame, DebugFrameOffset, EhFrame, EhHdrTable,
     EndianSlice, Error, FrameDescriptionEntry, LittleEndian, Reader, ReaderOffsetId, UnwindContext,
@@ -97,6 +98,13 @@ fn for_address<R: Reader<Offset = usize>>(
     (offset_of(found), asked)
 }
 
+fn first_address(row: Result<ShownIn<usize>, Error>) -> Result<u64, Error> {
+    match row {
+        Ok(row) => Ok(row.0),
+        Err(refusal) => Err(refusal),
+    }
+}
+
 /// `UnwindSection::unwind_info_for_address`: the start address of the row.
 fn row_for_address<R: Reader<Offset = usize>, S: UnwindContextStorage<usize>>(
     context: &mut UnwindContext<usize, S>,
@@ -113,11 +121,8 @@ fn row_for_address<R: Reader<Offset = usize>, S: UnwindContextStorage<usize>>(
         }
         from.cie_from_offset(bases, offset)
     });
-    let start = match found {
-        Ok(row) => Ok(row.start_address()),
-        Err(refusal) => Err(refusal),
-    };
-    (start, asked)
+    let row = shown_if_found(found);
+    (first_address(row), asked)
 }
 
 /// Both calls for an address.

@@ -3,11 +3,15 @@ ghost use Rattle.std.specs.Ordering.{on};
 ghost use Rattle.std.specs.Cmp.{on_per, on_equiv};
 
 use crate::header::asked::{fde_by_table, row_by_cies};
-use crate::header::searches::{HEADER, Listed, SECTION, Slice, bases, read_header, table_of};
+use crate::header::faithful::checked_row;
+use crate::header::searches::{
+    HEADER, Listed, SECTION, Slice, read_header, row_by_source, table_of,
+};
+use crate::rows::bases;
 use gimli_cfi::{
     EhFrame, EhFrameHdr, EhFrameOffset, EhHdrTable, EndianSlice, Error, FaithfulTable,
     LittleEndian, Reader, StartSource, TableStarts, UnwindContext, UnwindContextStorage,
-    UnwindSection, row_by_header, row_by_table,
+    UnwindSection, row_by_header,
 };
 use std::alloc::{AllocError, Global};
 use std::cell::Cell;
@@ -163,11 +167,10 @@ fn by_source<R: Reader<Offset = usize>, S: UnwindContextStorage<usize>, I: Start
     context: &mut UnwindContext<usize, S>,
     address: u64,
 ) -> [Reads; 2] {
-    let bases = bases();
     let _before = of.counts.since();
-    let _target = of.table.lookup_in(starts, address, &bases);
+    let _target = of.table.lookup_in(starts, address, &bases());
     let looked_up = of.counts.since();
-    let _row = row_by_table(&of.table, starts, of.frame, &bases, context, address);
+    let _row = row_by_source(&of.table, starts, of.frame, context, address);
     [looked_up, of.counts.since()]
 }
 
@@ -204,7 +207,7 @@ fn by_checked_table<R: Reader<Offset = usize>, S: UnwindContextStorage<usize>>(
         return None;
     };
     let _before = of.counts.since();
-    let _row = checked.row(context, address);
+    let _row = checked_row(&checked, context, address);
     Some(of.counts.since())
 }
 
@@ -395,29 +398,39 @@ fn most_in_rows<S: UnwindContextStorage<usize>>(
 /// A header with one row.
 const ONE_ROW: [u8; 20] = [1, 3, 3, 3, 0, 0, 0, 0, 1, 0, 0, 0, 0, 1, 0, 0, 0, 2, 0, 0];
 
-const FEW: ([Result<(u32, u32), Error>; 4], bool, bool) = (
-    [Ok((1, 1)), Ok((3, 3)), Ok((2, 2)), Ok((2, 2))],
-    true,
-    true,
-);
+/// The length that a header of three rows is cut to, an address, and how many numbers are read: two
+/// starts and the target; the start of the second row, which is the address, and the target; and
+/// the same where the table ends after the second row.
+const OF_THREE: [(usize, u64, Result<(u32, u32), Error>); 3] = [
+    (36, 0x1018, Ok((3, 3))),
+    (36, 0x1010, Ok((2, 2))),
+    (28, 0x1010, Ok((2, 2))),
+];
 
-/// Checks how often the starts of one row and of three are read, also where the table ends after
-/// the second, and that no search in a thousand reads more than the eleven numbers that halving
-/// needs, whether their starts are in order or go up and down.
+/// Checks how often the starts of one row and of three are read.
+fn starts_of_few_rows<S: UnwindContextStorage<usize>>(
+    rt: &impl Abort,
+    context: &mut UnwindContext<usize, S>,
+) {
+    let of_one = reads_for(&ONE_ROW, context, 0x180);
+    assert_eq!(rt; of_one, Ok((1, 1)));
+    for (length, address, reads) in &OF_THREE {
+        let header = HEADER.get(..*length).unwrap_or_default();
+        let found = reads_for(header, context, *address);
+        assert_eq!(rt; found, *reads, "{length}: {address}");
+    }
+}
+
+/// Checks those numbers, and that no search in a thousand rows reads more than the eleven that
+/// halving needs, whether their starts are in order or go up and down.
 pub(crate) fn starts_are_read_by_halving<S: UnwindContextStorage<usize>>(
     rt: &(impl Abort + AllocGlobal),
     context: &mut UnwindContext<usize, S>,
 ) -> Result<(), Fail> {
-    let few = [
-        reads_for(&ONE_ROW, context, 0x180),
-        // Two starts and the target.
-        reads_for(&HEADER, context, 0x1018),
-        // The start of the second row, which is the address, and the target.
-        reads_for(&HEADER, context, 0x1010),
-        reads_for(&HEADER[..28], context, 0x1010),
-    ];
-    let in_order = most_in_rows(rt.alloc(), context, 16)?;
-    let up_and_down = most_in_rows(rt.alloc(), context, 40503)?;
-    assert_eq!(rt; (few, in_order <= 11, up_and_down <= 11), FEW);
+    starts_of_few_rows(rt, context);
+    for factor in [16, 40503] {
+        let most = most_in_rows(rt.alloc(), context, factor)?;
+        assert!(rt; most <= 11, "{factor}: {most}");
+    }
     Ok(())
 }

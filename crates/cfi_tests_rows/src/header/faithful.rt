@@ -1,6 +1,7 @@
 //! Tables of `.eh_frame_hdr` that list the FDEs of their section faithfully, and the faults of
 //! others.
-use crate::header::searches::{Shown, bases, read_header, shown, table_of};
+use crate::header::searches::{Shown, read_header, shown, table_of};
+use crate::rows::bases;
 use cfi_tests_bytes::joined;
 use gimli_cfi::{
     DwEhPe, EhFrame, EndianSlice, Error, FaithfulTable, LittleEndian, ParsedEhFrameHdr, Reader,
@@ -273,7 +274,16 @@ fn faithful_tables_and_faults(rt: HostRuntime) -> Result<(), Fail> {
     Ok(())
 }
 
-/// The row for an address by a checked table.
+/// The row for an address by a table that is faithful.
+pub(crate) fn checked_row<R: Reader<Offset = usize>, S: UnwindContextStorage<usize>>(
+    checked: &FaithfulTable<'_, R>,
+    context: &mut UnwindContext<usize, S>,
+    address: u64,
+) -> Result<Shown, Error> {
+    shown(checked.row(context, address))
+}
+
+/// The row for an address by a table that is checked first.
 pub(crate) fn row_by_checked_table<R: Reader<Offset = usize>, S: UnwindContextStorage<usize>>(
     parsed: &ParsedEhFrameHdr<R>,
     frame: &EhFrame<R>,
@@ -281,7 +291,7 @@ pub(crate) fn row_by_checked_table<R: Reader<Offset = usize>, S: UnwindContextSt
     address: u64,
 ) -> Result<Shown, Error> {
     match FaithfulTable::new(&table_of(parsed)?, frame, &bases()) {
-        Ok(checked) => shown(checked.row(context, address)),
+        Ok(checked) => checked_row(&checked, context, address),
         Err(_) => Err(Error::UnsupportedOffset),
     }
 }

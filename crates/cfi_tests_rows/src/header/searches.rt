@@ -4,11 +4,12 @@ ghost use Rattle.gimli_cfi.specs.Words.{NoUnwindInfoForAddress};
 
 use crate::header::asked::row_by_cies;
 use crate::header::faithful::row_by_checked_table;
+use crate::rows::{addresses_of, bases, scanned};
 use gimli_cfi::{
     ArrayLike, BaseAddresses, CallCount, CfaRule, EhFrame, EhFrameHdr, EhFrameOffset, EhHdrTable,
     EndianSlice, Error, LittleEndian, ParsedEhFrameHdr, Pointer, Reader, Register, RegisterRule,
-    StartSource, TableStarts, UnwindContext, UnwindContextStorage, UnwindTableRow, row_by_scan,
-    row_by_table, search_starts,
+    StartSource, TableStarts, UnwindContext, UnwindContextStorage, UnwindTableRow, row_by_table,
+    search_starts,
 };
 use std::process::Abort;
 
@@ -28,12 +29,6 @@ pub(crate) const HEADER: [u8; 36] = [
     1, 0x1b, 0x03, 0x3b, 0xfc, 0, 0, 0, 3, 0, 0, 0, 0, 0xf1, 0xff, 0xff, 0x18, 1, 0, 0, 0x10, 0xf1,
     0xff, 0xff, 0x2c, 1, 0, 0, 0x20, 0xf1, 0xff, 0xff, 0x40, 1, 0, 0,
 ];
-
-pub(crate) fn bases() -> BaseAddresses {
-    BaseAddresses::default()
-        .set_eh_frame_hdr(0x1f00)
-        .set_eh_frame(0x2000)
-}
 
 /// Parses a header, in one place for all tests, since the contract of `parse` makes each check
 /// longer.
@@ -65,17 +60,36 @@ pub(crate) fn shown<A: ArrayLike<Item = (Register, RegisterRule<usize>)>>(
     found: Result<&UnwindTableRow<usize, A>, Error>,
 ) -> Result<Shown, Error> {
     let row = found?;
-    let offset = match *row.cfa() {
+    let (start, end) = addresses_of(row);
+    Ok((start, end, offset_of(row.cfa())))
+}
+
+fn offset_of(cfa: &CfaRule<usize>) -> Option<i64> {
+    match *cfa {
         CfaRule::RegisterAndOffset {
             register: Register(7),
             offset,
         } => Some(offset),
         _ => None,
-    };
-    Ok((row.start_address(), row.end_address(), offset))
+    }
 }
 
-/// The row for an address by a table and its starts.
+/// The row for an address by a table and a source of starts.
+pub(crate) fn row_by_source<
+    R: Reader<Offset = usize>,
+    S: UnwindContextStorage<usize>,
+    I: StartSource,
+>(
+    table: &EhHdrTable<'_, R>,
+    starts: &mut I,
+    frame: &EhFrame<R>,
+    context: &mut UnwindContext<usize, S>,
+    address: u64,
+) -> Result<Shown, Error> {
+    shown(row_by_table(table, starts, frame, &bases(), context, address))
+}
+
+/// The same by the table's own starts.
 fn row_by_starts<R: Reader<Offset = usize>, S: UnwindContextStorage<usize>>(
     table: &EhHdrTable<'_, R>,
     frame: &EhFrame<R>,
@@ -84,7 +98,7 @@ fn row_by_starts<R: Reader<Offset = usize>, S: UnwindContextStorage<usize>>(
 ) -> Result<Shown, Error> {
     let bases = bases();
     let mut starts = TableStarts::new(table, &bases)?;
-    shown(row_by_table(table, &mut starts, frame, &bases, context, address))
+    row_by_source(table, &mut starts, frame, context, address)
 }
 
 /// The row for an address by a scan.
@@ -93,7 +107,7 @@ fn by_scan<R: Reader<Offset = usize>, S: UnwindContextStorage<usize>>(
     context: &mut UnwindContext<usize, S>,
     address: u64,
 ) -> Result<Shown, Error> {
-    shown(row_by_scan(frame, &bases(), context, address))
+    shown(scanned(frame, context, address))
 }
 
 /// The row for an address by the table, by the table with a `get_cie`, by a scan, and by the
@@ -284,27 +298,6 @@ impl StartSource for Listed<'_> {
     }
 }
 
-/// A source in which the start of each row is the row's index.
-#[derive(Drop)]
-struct Itself {
-    made: u32,
-    calls: CallCount,
-}
-
-impl StartSource for Itself {
-    ghost use Rattle.std.specs.Prelude.{Ok};
-
-    ghost answer = { λ s i. Ok i };
-
-    ghost calls = { λ s. s.calls.calls };
-
-    fn start(&mut self, index: u64) -> Result<u64, Error> {
-        self.calls = self.calls.next();
-        self.made = self.made.saturating_add(1);
-        Ok(index)
-    }
-}
-
 /// The row that a search finds, and the number of calls.
 type Searched = (Result<u64, Error>, u32);
 
@@ -318,55 +311,11 @@ fn searched_in(starts: &[u64], count: u64, address: u64) -> Searched {
     (row, source.made)
 }
 
-/// A search in a list, which must have a start.
-fn searched(starts: &[u64], address: u64) -> Searched {
-    searched_in(starts, starts.len() as u64, address)
-}
-
-/// A search in the greatest number of rows.
-fn searched_in_all(address: u64) -> Searched {
-    let mut source = Itself {
-        made: 0,
-        calls: CallCount::none(),
-    };
-    let row = search_starts(&mut source, u64::MAX, address);
-    (row, source.made)
-}
-
-/// The results of searches in lists, then the row that one in all rows finds, and whether it makes
-/// no more calls than halving needs.
-const SEARCHED: ([Searched; 7], Result<u64, Error>, bool) = (
-    [
-        (Ok(0), 1),
-        (Ok(1), 2),
-        (Ok(2), 2),
-        (Ok(1), 2),
-        (Ok(2), 2),
-        (Ok(0), 0),
-        (Ok(3), 3),
-    ],
-    Ok(12345),
-    true,
-);
-
-#[test]
-fn searches_by_halving(rt: HostRuntime) {
-    let found = [
-        searched(&[10, 20, 30], 5),
-        searched(&[10, 20, 30], 25),
-        searched(&[10, 20, 30], 30),
-        searched(&[30, 10, 20], 15),
-        searched(&[30, 10, 20], 35),
-        searched(&[10], 5),
-        searched(&[1, 3, 5, 7, 9], 8),
-    ];
-    let (row, made) = searched_in_all(12345);
-    assert_eq!(rt; (found, row, made <= 64), SEARCHED);
-}
-
-/// Five starts that repeat or don't rise, an address, and what a search finds: while more than one
-/// row is left it asks for the start of the one in the middle, and one at the address ends it.
-const EQUAL_STARTS: [([u64; 5], u64, Searched); 8] = [
+/// Five starts, of which most repeat or don't rise, an address, and what a search finds: while more
+/// than one row is left it asks for the start of the one in the middle, and one at the address ends
+/// it.
+const FIVE_STARTS: [([u64; 5], u64, Searched); 9] = [
+    ([1, 3, 5, 7, 9], 8, (Ok(3), 3)),
     ([5, 5, 5, 5, 5], 4, (Ok(0), 2)),
     ([5, 5, 5, 5, 5], 5, (Ok(2), 1)),
     ([5, 5, 5, 5, 5], 6, (Ok(4), 3)),
@@ -377,9 +326,15 @@ const EQUAL_STARTS: [([u64; 5], u64, Searched); 8] = [
     ([1, 2, 3, 5, 1], 5, (Ok(3), 2)),
 ];
 
-/// Three starts, how many rows are searched, of which the others have no start, an address, and
-/// what the search finds.
-const FEWER_STARTS: [([u64; 3], u64, u64, Searched); 8] = [
+/// Three starts, how many rows are searched, of which those behind the third have no start, an
+/// address, and what the search finds.
+const THREE_STARTS: [([u64; 3], u64, u64, Searched); 14] = [
+    ([10, 20, 30], 3, 5, (Ok(0), 1)),
+    ([10, 20, 30], 3, 25, (Ok(1), 2)),
+    ([10, 20, 30], 3, 30, (Ok(2), 2)),
+    ([30, 10, 20], 3, 15, (Ok(1), 2)),
+    ([30, 10, 20], 3, 35, (Ok(2), 2)),
+    ([10, 20, 30], 1, 5, (Ok(0), 0)),
     ([5, 5, 5], 3, 5, (Ok(1), 1)),
     ([5, 5, 5], 3, 6, (Ok(2), 2)),
     ([1, 5, 2], 3, 5, (Ok(1), 1)),
@@ -391,11 +346,11 @@ const FEWER_STARTS: [([u64; 3], u64, u64, Searched); 8] = [
 ];
 
 #[test]
-fn equal_starts_end_a_search(rt: HostRuntime) {
-    for (starts, address, found) in &EQUAL_STARTS {
-        assert_eq!(rt; searched(starts, *address), *found, "for {address}");
+fn searches_in_lists(rt: HostRuntime) {
+    for (starts, address, found) in &FIVE_STARTS {
+        assert_eq!(rt; searched_in(starts, 5, *address), *found, "for {address}");
     }
-    for (starts, count, address, found) in &FEWER_STARTS {
+    for (starts, count, address, found) in &THREE_STARTS {
         assert_eq!(rt;
             searched_in(starts, *count, *address),
             *found,

@@ -1,5 +1,6 @@
 //! Rows of sections whose kind is known only when the program runs, with a header and without one.
-use crate::header::searches::{HEADER, SECTION, Shown, bases, shown};
+use crate::header::searches::{HEADER, SECTION, Shown, shown};
+use crate::rows::bases;
 use cfi_tests_bytes::THREE_ROWS;
 use gimli_cfi::{
     AddressSize, Error, RunTimeEndian, SectionKind, SectionSource, UnwindContext,
@@ -88,8 +89,26 @@ fn both<S: UnwindContextStorage<usize>>(
     context: &mut UnwindContext<usize, S>,
     address: u64,
 ) -> Both {
-    let by_header = shown(source.row(context, address));
-    (by_header, shown(source.row_by_scan(context, address)))
+    (
+        by_header(source, context, address),
+        by_scan(source, context, address),
+    )
+}
+
+fn by_header<S: UnwindContextStorage<usize>>(
+    source: &SectionSource<'_>,
+    context: &mut UnwindContext<usize, S>,
+    address: u64,
+) -> Result<Shown, Error> {
+    shown(source.row(context, address))
+}
+
+fn by_scan<S: UnwindContextStorage<usize>>(
+    source: &SectionSource<'_>,
+    context: &mut UnwindContext<usize, S>,
+    address: u64,
+) -> Result<Shown, Error> {
+    shown(source.row_by_scan(context, address))
 }
 
 fn check<S: UnwindContextStorage<usize>>(
