@@ -54,7 +54,7 @@ pub(crate) fn walk_fdes<
     for piece in pieces {
         take_gap(sink, end, piece.from, outside)?;
         let fde = &fdes[piece.of];
-        walk_fde(sink, section, bases, context, fde, piece.from, piece.to)?;
+        take_fde(sink, section, bases, context, fde, piece.from, piece.to)?;
         end = piece.to;
     }
     sink.error(end, outside)?;
@@ -91,7 +91,7 @@ fn take_refusal<K: StepSink>(sink: &mut K, from: u64, refusal: Error) -> Result<
 }
 
 /// Takes the steps of an FDE, from an address of it up to another.
-fn walk_fde<
+fn take_fde<
     R: Reader<Offset = usize>,
     S: UnwindSection<R>,
     K: StepSink,

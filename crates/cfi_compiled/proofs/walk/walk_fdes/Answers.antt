@@ -34,38 +34,38 @@ bounds-fdes-piece g c =
     let there = drop_more c.args.pieces.now c.loop-piece.piece-index nothing c.loop-piece-test.true in
     simp length-map at (of_within _ _ _ _ c.requires.owner _ _ _ c.loop-piece.invariant.so_far piece _ there)
 
-pub walk_fde-requires-clause-own : goal.walk_fde-requires-clause-own
-walk_fde-requires-clause-own g c =
+pub take_fde-requires-clause-own : goal.take_fde-requires-clause-own
+take_fde-requires-clause-own g c =
     let piece = get_or c.args.pieces.now c.loop-piece.piece-index nothing in
     let there = drop_more c.args.pieces.now c.loop-piece.piece-index nothing c.loop-piece-test.true in
     let within = simp length-map at (of_within _ _ _ _ c.requires.owner _ _ _ c.loop-piece.invariant.so_far piece _ there) in
     holds_of (fde_view g.R.Reader.position (λ (n : ℕ). n)) c.args.fdes.now piece.of c.index-fdes-piece.result within c.index-fdes-piece.is
     (λ (fde : FdeFields g.row.R.Denot ℕ). IsOf (g.R.Reader.position fde.instructions) (g.S._UnwindSectionPrivate.view c.args.section.now).position) c.requires.own
 
-pub walk_fde-requires-clause-cie : goal.walk_fde-requires-clause-cie
-walk_fde-requires-clause-cie g c =
+pub take_fde-requires-clause-cie : goal.take_fde-requires-clause-cie
+take_fde-requires-clause-cie g c =
     let piece = get_or c.args.pieces.now c.loop-piece.piece-index nothing in
     let there = drop_more c.args.pieces.now c.loop-piece.piece-index nothing c.loop-piece-test.true in
     let within = simp length-map at (of_within _ _ _ _ c.requires.owner _ _ _ c.loop-piece.invariant.so_far piece _ there) in
     holds_of (fde_view g.R.Reader.position (λ (n : ℕ). n)) c.args.fdes.now piece.of c.index-fdes-piece.result within c.index-fdes-piece.is
     (λ (fde : FdeFields g.row.R.Denot ℕ). IsOf (g.R.Reader.position fde.cie.initial_instructions) (g.S._UnwindSectionPrivate.view c.args.section.now).position) c.requires.cie
 
-pub walk_fde-requires-clause-start : goal.walk_fde-requires-clause-start
-walk_fde-requires-clause-start g c =
+pub take_fde-requires-clause-start : goal.take_fde-requires-clause-start
+take_fde-requires-clause-start g c =
     let view = fde_view g.R.Reader.position (λ (n : ℕ). n) in
     let piece = get_or c.args.pieces.now c.loop-piece.piece-index nothing in
     let there = drop_more c.args.pieces.now c.loop-piece.piece-index nothing c.loop-piece-test.true in
     let within = simp length-map at (of_within _ _ _ _ c.requires.owner _ _ _ c.loop-piece.invariant.so_far piece _ there) in
     starts _ _ _ _ c.requires.owner _ _ _ c.loop-piece.invariant.so_far piece _ there (view c.index-fdes-piece.result) (at_there view c.args.fdes.now piece.of c.index-fdes-piece.result within c.index-fdes-piece.is)
 
-pub walk_fde-requires-clause-some : goal.walk_fde-requires-clause-some
-walk_fde-requires-clause-some g c =
+pub take_fde-requires-clause-some : goal.take_fde-requires-clause-some
+take_fde-requires-clause-some g c =
     let piece = get_or c.args.pieces.now c.loop-piece.piece-index nothing in
     let there = drop_more c.args.pieces.now c.loop-piece.piece-index nothing c.loop-piece-test.true in
     contains _ _ _ _ c.requires.owner _ _ _ c.loop-piece.invariant.so_far piece _ there
 
-pub walk_fde-requires-clause-last : goal.walk_fde-requires-clause-last
-walk_fde-requires-clause-last g c =
+pub take_fde-requires-clause-last : goal.take_fde-requires-clause-last
+take_fde-requires-clause-last g c =
     let view = fde_view g.R.Reader.position (λ (n : ℕ). n) in
     let piece = get_or c.args.pieces.now c.loop-piece.piece-index nothing in
     let there = drop_more c.args.pieces.now c.loop-piece.piece-index nothing c.loop-piece-test.true in
@@ -79,9 +79,9 @@ loop-piece-preserved g c =
     let there = drop_more c.args.pieces.now c.loop-piece.piece-index nothing c.loop-piece-test.true in
     let within = simp length-map at (of_within _ _ _ _ c.requires.owner _ _ _ c.loop-piece.invariant.so_far piece _ there) in
     record {
-      free = c.in_ok-walk_fde.ensures.free;
+      free = c.in_ok-take_fde.ensures.free;
       so_far = taken_next _ _ _ _ c.requires.owner _ _ _ c.loop-piece.invariant.so_far piece _ there (view c.index-fdes-piece.result) (at_there view c.args.fdes.now piece.of c.index-fdes-piece.result within c.index-fdes-piece.is)
-          _ _ c.in_ok-take_gap.ensures.before c.in_ok-take_gap.ensures.within c.in_ok-walk_fde.ensures.before c.in_ok-walk_fde.ensures.within;
+          _ _ c.in_ok-take_gap.ensures.before c.in_ok-take_gap.ensures.within c.in_ok-take_fde.ensures.before c.in_ok-take_fde.ensures.within;
     }
 
 pub returns : goal.returns

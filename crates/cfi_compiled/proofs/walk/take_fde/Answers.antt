@@ -4,7 +4,7 @@ use Rattle.cfi_unwind.specs.FdeViews.{fde_view}
 use Rattle.cfi_unwind.specs.UnwindTableViews.{table_state}
 use Rattle.cfi_compiled.specs.FrameParts.{facts_of, frame_of_row}
 use Rattle.cfi_compiled.proofs.FdeAnswers.{by_rows, by_refusal, same_frame, consecutive_at, start_at, last_at}
-use Rattle.cfi_compiled.proofs.walk.walk_fde.Goals as goal
+use Rattle.cfi_compiled.proofs.walk.take_fde.Goals as goal
 
 pub walk_rows-requires-clause-start : goal.walk_rows-requires-clause-start
 walk_rows-requires-clause-start g c =
