@@ -1,5 +1,5 @@
 -- What the check of a file writes, in a style.
-use Rattle.std.proofs.Common.{◌≡◌, ◌∙◌, ◌&&◌, ◌++◌, ℕ, Bool, true, false, List, [], Option, Some, Result, Ok, Err, IfOk, refl, sym, ap, ap₂, subst, cond}
+use Rattle.std.proofs.Common.{◌≡◌, ◌∙◌, ◌++◌, ℕ, Bool, true, false, List, [], Option, Some, Result, Ok, Err, IfOk, refl, sym, ap, subst, cond}
 use Rattle.std.specs.Io.KnownBytes.{Appends}
 use Rattle.std.specs.Result.{IsErr}
 use Rattle.clap.specs.Words.{Text}

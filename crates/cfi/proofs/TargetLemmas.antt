@@ -1,5 +1,5 @@
 -- The files that a check is of, name by name.
-use Rattle.std.proofs.Common.{◌≡◌, ◌∙◌, ◌<◌, ◌+◌, ◌-◌, ℕ, suc, zero, arith, false, refl, sym, ap, subst, map, get_or, length, append_assoc, append-nil, List, [], ◌∷◌, ◌++◌, Option, Some, None}
+use Rattle.std.proofs.Common.{◌≡◌, ◌∙◌, ◌<◌, ◌+◌, ◌-◌, ℕ, suc, zero, arith, false, refl, sym, ap, subst, map, get_or, append_assoc, append-nil, List, [], ◌∷◌, ◌++◌, Option}
 use Rattle.std.proofs.lemmas.List.{get_or-map, length-map, map-append}
 use Rattle.std.proofs.lemmas.List.Sorted.{IsPermutation-map}
 use Rattle.std.specs.Borrow.{Bor}
@@ -11,7 +11,7 @@ use Rattle.std.specs.Ordering.{nat_cmp, is_lt}
 use Rattle.clap.specs.Words.{Text}
 use Rattle.cfi.specs.Process.{AreTargets, Disk, IsListRead}
 use Rattle.cfi.specs.Tasks.{Names, of_files, of_list}
-use Rattle.cfi.specs.Targets.{Adds, AreEach, AreFilesOf, AreIn, AreInOrder, AreListed, AreOf, AreOfList, Entry, Target, Tree, found, names_of, rest_of, target_view, unread, with_rest}
+use Rattle.cfi.specs.Targets.{Adds, AreEach, AreFilesOf, AreIn, AreInOrder, AreListed, AreOf, AreOfList, Entry, Target, Tree, found, rest_of, target_view, with_rest}
 use Rattle.cfi.specs.declared.targets.Target.{Target as TargetOfCode}
 use Rattle.cfi.proofs.ProcessLemmas.{text_of}
 

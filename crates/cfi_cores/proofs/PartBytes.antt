@@ -1,16 +1,15 @@
 -- Bytes of a file that its parts have.
-use Rattle.std.proofs.Common.{◌≡◌, ◌∙◌, ◌≤◌, ◌<◌, ◌+◌, ◌-◌, ◌==◌, ℕ, Bool, true, false, List, [], ◌∷◌, ◌++◌, length, take, drop, get_or, map, min, Option, Some, None, IfSome, refl, sym, ap, subst, arith, add-one, length-drop, suc}
+use Rattle.std.proofs.Common.{◌≡◌, ◌∙◌, ◌≤◌, ◌<◌, ◌+◌, ◌-◌, ℕ, Bool, true, false, List, [], ◌∷◌, length, take, drop, get_or, min, Option, Some, None, IfSome, refl, sym, ap, subst, arith, add-one, length-drop, suc}
 use Rattle.std.specs.Prelude.{nat_le, slice_range, if◌then◌else◌, option_map}
-use Rattle.std.specs.List.{cons_option, filter_map}
 use Rattle.std.specs.Borrow.{Bor}
-use Rattle.std.proofs.Math.Seq.{drop-cons, take-suc}
+use Rattle.std.proofs.Math.Seq.{drop-cons}
 use Rattle.std.proofs.lemmas.Bool.{leb-true}
 use Rattle.std.proofs.lemmas.Bool.Decides.{nat_tests}
 use Rattle.std.proofs.lemmas.List.{drop-drop, drop-take, drop_all, length-take, take-take, take_all}
 use Rattle.cfi_elf.specs.declared.image.FilePart.{FilePart}
 use Rattle.cfi_elf.specs.declared.program_header.ProgramHeader.{ProgramHeader}
 use Rattle.cfi_elf.specs.Fields.{part}
-use Rattle.cfi_elf.specs.Images.{ArePartsOf, Image, IsImageOf, IsPartOf, Part, in_part, in_parts, part_view, parts_view}
+use Rattle.cfi_elf.specs.Images.{ArePartsOf, IsPartOf, Part, in_part, in_parts, part_view, parts_view}
 use Rattle.cfi_elf.specs.Options.{or_else}
 use Rattle.cfi_elf.proofs.ImageParts.{part_of_part}
 use Rattle.cfi_cores.specs.CoreParts.{IsAt}

@@ -1,5 +1,5 @@
 -- A number in a part of a segment's bytes is that in all of them.
-use Rattle.std.proofs.Common.{◌≡◌, ◌∙◌, ◌≤◌, ◌<◌, ◌+◌, ◌-◌, ◌==◌, ℕ, zero, suc, Bool, true, false, List, [], ◌∷◌, length, take, drop, get_or, map, Option, Some, None, Result, Ok, Err, refl, sym, ap, subst, arith, length-drop, lit≤, slice_get}
+use Rattle.std.proofs.Common.{◌≡◌, ◌∙◌, ◌≤◌, ◌<◌, ◌+◌, ◌-◌, ◌==◌, ℕ, zero, suc, Bool, true, false, List, [], ◌∷◌, length, take, drop, get_or, map, Option, Some, None, Result, Ok, Err, refl, sym, ap, subst, arith, length-drop, lit≤}
 use Rattle.std.specs.Prelude.{nat_le, nat_lt, slice_range, if◌then◌else◌}
 use Rattle.std.specs.Int.{Width, w8, w16, w32, w64, byte_len}
 use Rattle.std.specs.Option.{option_and_then}
@@ -11,7 +11,7 @@ use Rattle.cfi_read_core.specs.declared.error.Error.{Error}
 use Rattle.cfi_read_core.specs.declared.error.Error.TheVariants.{UnsupportedOffset}
 use Rattle.cfi_read_core.specs.Addresses.{address, address_width, of_width}
 use Rattle.cfi_read_core.specs.Numbers.{number_of, unsigned}
-use Rattle.cfi_read_core.specs.ReadFunctions.{Extent, Outcome, Read, Source, ◌>>=◌, ◌>>◌, bytes_of, give, refuse, skip, unexpected_eof}
+use Rattle.cfi_read_core.specs.ReadFunctions.{Extent, Read, Source, ◌>>=◌, ◌>>◌, bytes_of, give, refuse, skip, unexpected_eof}
 use Rattle.cfi_read_core.specs.SliceReaders.{slice_over}
 use Rattle.cfi_expression.specs.Windows.{behind, given, number_in}
 use Rattle.cfi_elf.specs.declared.program_header.ProgramHeader.{ProgramHeader}

@@ -1,5 +1,5 @@
 -- The pairs of an auxiliary vector, one after the other.
-use Rattle.std.proofs.Common.{◌≡◌, ◌∙◌, ◌==◌, ◌+◌, ℕ, Bool, true, false, List, Option, Some, None, ap, ap₂, drop, slice_get, if◌then◌else◌, refl, sym}
+use Rattle.std.proofs.Common.{◌≡◌, ◌∙◌, ◌==◌, ◌+◌, ℕ, Bool, true, false, List, Some, None, ap, ap₂, drop, slice_get, if◌then◌else◌, refl, sym}
 use Rattle.std.specs.Int.{w64}
 use Rattle.cfi_elf.specs.Fields.{number_at}
 use Rattle.cfi_elf.proofs.EntrySteps.{next_left}

@@ -1,16 +1,15 @@
 -- A small core of x86-64 by computation: its mapped files, its memory, a thread and its registers, as readelf -n and gdb print them.
 use Rattle.std.proofs.Common.{◌≡◌, ℕ, ◌-◌, ◌+◌, ◌*◌, List, [], ◌∷◌, ◌++◌, codes, true, false, Option, Some, None, Ok, Err, refl}
 use Rattle.std.specs.Prelude.{nat_lt, if◌then◌else◌, take, drop, option_map}
-use Rattle.cfi_read_core.specs.Addresses.{address}
 use Rattle.cfi_elf.specs.ElfFiles.{any_file, core_file, elf_file_of, file_by, header_bytes, identification}
 use Rattle.cfi_elf.specs.Fields.{entries}
 use Rattle.cfi_elf.specs.Images.{bytes_at}
 use Rattle.cfi_elf.specs.Notes.{build_id, build_id_of, first_note, notes_up_to}
 use Rattle.cfi_elf.specs.SegmentLists.{segments}
 use Rattle.cfi_elf.specs.Segments.{program_table, segment_count}
-use Rattle.cfi_elf.specs.declared.error.ElfError.TheVariants.{NotCore, NotElf}
+use Rattle.cfi_elf.specs.declared.error.ElfError.TheVariants.{NotCore}
 use Rattle.cfi_processes.specs.declared.registers.SampleMachine.TheVariants.{X86_64, AArch64}
-use Rattle.cfi_cores.specs.declared.error.CoreError.TheVariants.{Elf, UnknownMachine, NoteCut, ThreadCut, FilesCut}
+use Rattle.cfi_cores.specs.declared.error.CoreError.TheVariants.{Elf, UnknownMachine, NoteCut, ThreadCut}
 use Rattle.cfi_cores.specs.Builds.{build_of, image_of}
 use Rattle.cfi_cores.specs.Contents.{followed_by, of_note, of_segment}
 use Rattle.cfi_cores.specs.CoreFiles.{core_of}

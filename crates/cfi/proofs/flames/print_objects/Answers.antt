@@ -1,5 +1,4 @@
-use Rattle.std.proofs.Common.{ℕ, List, ap, inl, inr, map, refl, subst, sym, ◌∙◌}
-use Rattle.cfi_flame.specs.FoldedStacks.{plain}
+use Rattle.std.proofs.Common.{ℕ, List, inl, inr, refl, subst, ◌∙◌}
 use Rattle.cfi_flame.specs.declared.folded.FoldedError.TheVariants as folded
 use Rattle.cfi_programs.specs.WriterOutput.{PrintsSome}
 use Rattle.cfi_programs.specs.declared.style.Format.TheVariants.{Json}

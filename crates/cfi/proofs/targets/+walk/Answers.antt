@@ -1,8 +1,8 @@
-use Rattle.std.proofs.Common.{◌≡◌, ◌∙◌, ◌-◌, ◌++◌, [], ◌∷◌, ℕ, List, Bor, Some, None, arith, get_or, map, refl, string_bytes, subst, sym, ap, take, rules}
+use Rattle.std.proofs.Common.{◌≡◌, ◌-◌, [], ◌∷◌, ℕ, List, Bor, Some, None, arith, get_or, map, refl, string_bytes, subst, sym, take, rules}
 use Rattle.std.proofs.lemmas.List.{take_all}
 use Rattle.std.proofs.lemmas.Result.{on_ok_weaker}
 use Rattle.clap.specs.Words.{Text}
-use Rattle.cfi.specs.Targets.{Adds, AreEach, AreIn, AreOf, IsEntry, Target, entry_view, found, target_view, tree_of, unread}
+use Rattle.cfi.specs.Targets.{Adds, AreEach, AreIn, AreOf, IsEntry, entry_view, found, target_view, tree_of, unread}
 use Rattle.cfi.proofs.ProcessLemmas.{names_more, text_of}
 use Rattle.cfi.proofs.TargetLemmas.{adds_one, listed_folder, one_more, too_deep}
 use Rattle.cfi.proofs.targets.+walk.Goals as goal

@@ -1,5 +1,5 @@
-use Rattle.std.proofs.Common.{◌<◌, ◌-◌, arith, map}
-use Rattle.cfi_cores.specs.CoreParts.{IsStackOf, IsWindowIn, segment_at}
+use Rattle.std.proofs.Common.{◌<◌, arith, map}
+use Rattle.cfi_cores.specs.CoreParts.{IsStackOf, segment_at}
 use Rattle.cfi_cores.specs.CoreSegments.{segment_view}
 use Rattle.cfi_cores.specs.declared.segments.CoreSegment.{CoreSegment as SegmentOfCode}
 use Rattle.cfi_cores.proofs.PartBytes.{if_some}

@@ -1,4 +1,4 @@
-use Rattle.std.proofs.Common.{◌≡◌, ◌≤◌, ◌+◌, ◌-◌, ◌∙◌, ℕ, List, ap, arith, length, min, subst, sym, take}
+use Rattle.std.proofs.Common.{◌≡◌, ◌≤◌, ◌+◌, ◌∙◌, ℕ, List, ap, arith, length, min, subst, sym, take}
 use Rattle.std.proofs.lemmas.List.{length-take}
 use Rattle.cfi_cores.specs.CoreParts.{IsAt}
 use Rattle.cfi_cores.proofs.PartBytes.{fewer_at, of_segment}

@@ -1,4 +1,4 @@
-use Rattle.std.proofs.Common.{arith, sym}
+use Rattle.std.proofs.Common.{sym}
 use Rattle.cfi_cores.proofs.StackWindows.{from_there, past_them}
 use Rattle.cfi_cores.proofs.core_parts.start_from.Goals as goal
 

@@ -1,9 +1,8 @@
-use Rattle.std.proofs.Common.{◌≡◌, ◌∙◌, List, ap, ap₂, map, refl}
+use Rattle.std.proofs.Common.{◌∙◌, List, ap₂, map, refl}
 use Rattle.std.proofs.lemmas.List.Sorted.{IsNonDecreasingBy-from_sort}
 use Rattle.cfi_elf.specs.declared.program_header.ProgramHeader.{ProgramHeader}
 use Rattle.cfi_cores.specs.CoreFiles.{core_with}
 use Rattle.cfi_cores.specs.CoreParts.{head_in}
-use Rattle.cfi_cores.specs.CoreSegments.{segment_view}
 use Rattle.cfi_cores.specs.MappedFiles.{mapping_view}
 use Rattle.cfi_cores.specs.declared.mapped_files.CoreMapping.{CoreMapping}
 use Rattle.cfi_cores.proofs.PartBytes.{some_there}
