@@ -5,7 +5,8 @@ use Rattle.std.specs.Cmp.Lexicographic.{pointwise}
 use Rattle.cfi_elf.specs.declared.error.ElfError.TheVariants.{Compressed}
 use Rattle.cfi_elf.specs.declared.section_header.SectionHeader.{SectionHeader}
 use Rattle.cfi_elf.specs.ElfFiles.{File}
-use Rattle.cfi_elf.specs.Sections.{debug_frame, header_named, is_named, name_at, section_named, unless_compressed}
+use Rattle.cfi_elf.specs.Sections.{debug_frame, header_named, is_named, section_named, unless_compressed}
+use Rattle.cfi_elf.specs.StringTables.{name_at}
 use Rattle.cfi_elf.specs.Results.{if_found}
 use Rattle.cfi_elf.proofs.Chains.{ok_then}
 

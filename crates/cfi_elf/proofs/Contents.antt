@@ -5,7 +5,7 @@ use Rattle.cfi_elf.specs.declared.error.ElfError.TheVariants.{SectionOutOfBounds
 use Rattle.cfi_elf.specs.declared.section_header.SectionHeader.{SectionHeader}
 use Rattle.cfi_elf.specs.ElfFiles.{File}
 use Rattle.cfi_elf.specs.Images.{bytes_at}
-use Rattle.cfi_elf.specs.Sections.{contents}
+use Rattle.cfi_elf.specs.SectionContents.{contents}
 
 pub compressed : (file : File) (header : SectionHeader) → (header.sh_type ≡ 8 → ⊥) → (bit_and header.sh_flags 0x800 ≡ 0 → ⊥) → contents file header ≡ Err Compressed
 unfolding contents

@@ -13,7 +13,8 @@ use Rattle.cfi_elf.specs.Images.{Image, IsImageOf, IsRead, bytes_at, if_read, wh
 use Rattle.cfi_elf.specs.Options.{meaning, or_else}
 use Rattle.cfi_elf.specs.Results.{and_then, if_found, or_missing}
 use Rattle.cfi_elf.specs.ElfFiles.{File, any_file, byte_orders, classes, elf_file, elf_file_of, file_by, header_bytes, ident, identification, magic, with_addresses}
-use Rattle.cfi_elf.specs.Sections.{Section, address_of, contents, header_named, section_address, section_named, section_of}
+use Rattle.cfi_elf.specs.Sections.{Section, header_named, section_address, section_named, section_by_header}
+use Rattle.cfi_elf.specs.SectionContents.{address_of, contents}
 use Rattle.cfi_elf.proofs.SameResults.{Same, ok_read, same_err, same_if, same_ok, same_or_missing, same_then, then_read}
 use Rattle.cfi_elf.proofs.Images.{in_whole, same_bytes_at}
 
@@ -174,7 +175,7 @@ module _ (bytes : List ℕ) (file : File) where
   abbrev all : File
   all = in_whole bytes file
 
-  address_of_header : (found : Option SectionHeader) → if_found (address_of all) found ≡ and_then (if_found (section_of all) found) address_found
+  address_of_header : (found : Option SectionHeader) → if_found (address_of all) found ≡ and_then (if_found (section_by_header all) found) address_found
   unfolding address_of contents bytes_at
   address_of_header None = refl
   address_of_header (Some header) =
@@ -186,4 +187,4 @@ module _ (bytes : List ℕ) (file : File) where
   unfolding section_address section_named
   address_of_section name =
       then_each (header_named all name) (if_found (address_of all)) _ address_of_header
-      ∙ sym (then_regrouped (header_named all name) (if_found (section_of all)) address_found)
+      ∙ sym (then_regrouped (header_named all name) (if_found (section_by_header all)) address_found)

@@ -9,7 +9,10 @@ use Rattle.cfi_elf.specs.ElfFiles.{File}
 use Rattle.cfi_elf.specs.FoundSections.{HasName, IsFirst, IsFoundIn}
 use Rattle.cfi_elf.specs.Results.{and_then}
 use Rattle.cfi_elf.specs.Searches.{first_by, if_passed}
-use Rattle.cfi_elf.specs.Sections.{Section, contents, header_named, is_named, name_at, section_headers, section_names, section_table}
+use Rattle.cfi_elf.specs.Sections.{Section, header_named, is_named}
+use Rattle.cfi_elf.specs.SectionContents.{contents}
+use Rattle.cfi_elf.specs.StringTables.{name_at, section_names}
+use Rattle.cfi_elf.specs.SectionTables.{section_headers, section_table}
 
 -- ---- the first that passes
 
@@ -73,9 +76,9 @@ named_by names name header (Ok found) false so kind is =
     let same : pointwise nat_eq found name ≡ true = cc in
     ((λ null. true≢false (sym (ap (λ (n : ℕ). n == 0) null) ∙ kind)), so ∙ ap Ok ((bytes_eq-Decides found name).0 same))
 
-pub has_name : (names name : List ℕ) (header : SectionHeader) → is_named names name header ≡ Ok true → HasName names name header
+pub defines_name : (names name : List ℕ) (header : SectionHeader) → is_named names name header ≡ Ok true → HasName names name header
 unfolding is_named
-has_name names name header is = named_by names name header (name_at names header.sh_name) (header.sh_type == 0) refl refl is
+defines_name names name header is = named_by names name header (name_at names header.sh_name) (header.sh_type == 0) refl refl is
 
 pub other_name : (names name : List ℕ) (header : SectionHeader) → is_named names name header ≡ Ok false → HasName names name header → ⊥
 unfolding is_named
@@ -100,7 +103,7 @@ module _ (file : File) (table names name : List ℕ) (tables : section_table fil
         index = first.index;
         header = header;
         at_index = first.there;
-        named = has_name names name header first.passes;
+        named = defines_name names name header first.passes;
         none_before = λ j other less there. other_name names name other (first.before j other less there);
         address_is = address;
         bytes_are = sym bytes;

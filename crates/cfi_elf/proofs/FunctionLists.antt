@@ -6,11 +6,11 @@ use Rattle.std.specs.List.Sorted.{IsStableByKey, ties}
 use Rattle.std.specs.Ordering.{is_lt, nat_cmp}
 use Rattle.std.proofs.lemmas.Bool.{cond-true, cond-false, cases_lt, lt-ltb, le-ltb}
 use Rattle.std.proofs.lemmas.List.{map_push}
-use Rattle.cfi_elf.specs.declared.symbols.Function.{Function as FunctionOfCode}
-use Rattle.cfi_elf.specs.SymbolTables.{Function, function_view}
+use Rattle.cfi_elf.specs.declared.functions.Function.{Function as FunctionOfCode}
+use Rattle.cfi_elf.specs.Functions.{Function, function_view}
 use Rattle.cfi_elf.specs.BestNames.{best}
 use Rattle.cfi_elf.specs.FunctionNames.{best_at, best_name, first_at, nearest, place_among, place_at}
-use Rattle.cfi_elf.specs.FunctionPlaces.{place_of}
+use Rattle.cfi_elf.specs.FunctionPlaces.{place_in_function}
 
 -- ---- gathered
 
@@ -155,7 +155,7 @@ module _ (a : ℕ) (old new : List FunctionOfCode) (all : List Function) (is : m
 pub placed_as_before : (a : ℕ) (old new : List FunctionOfCode) (all : List Function) → map function_view old ≡ all → IsStableByKey (λ (f : FunctionOfCode). f.address) nat_cmp old new → place_among (map function_view new) a ≡ place_among all a
 placed_as_before a old new all is stable =
     let same : first_at (map function_view new) ≡ first_at all = λ i t. first_as_before t old new all is stable i in
-    let alike : place_at (map function_view new) a ≡ place_at all a = λ i f. option_and_then (place_of a) (best_as_before f.address old new all is stable i) in
+    let alike : place_at (map function_view new) a ≡ place_at all a = λ i f. option_and_then (place_in_function a) (best_as_before f.address old new all is stable i) in
     λ i. option_and_then (alike i) (nearest (same i) a)
 
 -- ---- found by halving

@@ -4,7 +4,7 @@ use Rattle.std.specs.Prelude.{nat_le, slice_range, if◌then◌else◌}
 use Rattle.std.proofs.lemmas.Bool.{le-leb, leb-true, lt-leb}
 use Rattle.cfi_elf.specs.declared.error.ElfError.{ElfError}
 use Rattle.std.proofs.lemmas.List.{drop-drop, drop-take, take-take}
-use Rattle.cfi_elf.specs.Images.{ArePartsOf, Image, IsImageOf, IsPartOf, IsRead, Part, bytes_at, if_read, in_part, in_parts, part_of, whole}
+use Rattle.cfi_elf.specs.Images.{ArePartsOf, Image, IsImageOf, IsPartOf, IsRead, Part, bytes_at, if_read, in_part, in_parts, image_part, whole}
 use Rattle.cfi_elf.specs.Fields.{part}
 use Rattle.cfi_elf.specs.Options.{or_else}
 use Rattle.cfi_elf.proofs.SameResults.{Same, ok_read}
@@ -89,11 +89,11 @@ found_read : (b : Bool) (offset size : ℕ) (found : List ℕ) → IsRead (if b 
 found_read true offset size found = ok_read (Some found)
 found_read false offset size found = ok_read None
 
-pub whole_read : (bytes : List ℕ) (offset size : ℕ) → IsRead (part_of (whole bytes) offset size)
+pub whole_read : (bytes : List ℕ) (offset size : ℕ) → IsRead (image_part (whole bytes) offset size)
 whole_read bytes offset size = found_read (nat_le (offset + size) (length bytes)) offset size (slice_range bytes offset (offset + size))
 
 module _ {image : Image} {bytes : List ℕ} (of : IsImageOf image bytes) where
-  pub same_part : (offset size : ℕ) → Same (part_of image offset size) (part_of (whole bytes) offset size)
+  pub same_part : (offset size : ℕ) → Same (image_part image offset size) (image_part (whole bytes) offset size)
   same_part offset size = record {
     same = λ read.
         same_found (nat_le (offset + size) image.length) offset size (or_else (part image.first offset size) (in_parts offset size image.parts)) (part bytes offset size)

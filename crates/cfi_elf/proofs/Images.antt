@@ -13,13 +13,20 @@ use Rattle.cfi_elf.specs.Images.{Image, IsImageOf, IsRead, bytes_at, whole}
 use Rattle.cfi_elf.specs.Fields.{before_zero}
 use Rattle.cfi_elf.specs.Headers.{program_header_bytes, section_header_bytes}
 use Rattle.cfi_elf.specs.ElfFiles.{File, class_of_file}
-use Rattle.cfi_elf.specs.Sections.{Section, address_of, by_type, contents, debug_frame, first_section_header, header_named, is_named, name_at, name_section, names_at, or_by_first, section_address, section_count, section_headers, section_named, section_names, section_of, section_table, unless_compressed}
-use Rattle.cfi_elf.specs.Segments.{address_of_offset, bytes_after, eh_frame_hdr_segment, loaded_bytes, program_table, segment_bytes, segment_count, segment_of, wanted_segment}
+use Rattle.cfi_elf.specs.Sections.{Section, debug_frame, header_named, is_named, section_address, section_named, section_by_header, unless_compressed}
+use Rattle.cfi_elf.specs.SectionContents.{address_of, by_type, contents}
+use Rattle.cfi_elf.specs.SectionTables.{first_section_header, or_by_first, section_count, section_headers, section_table}
+use Rattle.cfi_elf.specs.StringTables.{name_at, name_section, names_at, section_names}
+use Rattle.cfi_elf.specs.Segments.{address_of_offset, bytes_after, eh_frame_hdr_segment, loaded_bytes, segment_of, wanted_segment}
+use Rattle.cfi_elf.specs.SegmentLists.{program_table, segment_bytes, segment_count}
 use Rattle.cfi_elf.specs.Symbols.{is_function_at}
 use Rattle.cfi_elf.specs.FunctionEntries.{function_descriptors, has_descriptors}
-use Rattle.cfi_elf.specs.SymbolTables.{Function, SymbolTable, function_at, function_of, is_symbol_named, symbol_address, symbol_section, symbol_table, symbols, symbols_in, symbols_of}
+use Rattle.cfi_elf.specs.Functions.{Function, function_at, read_function}
+use Rattle.cfi_elf.specs.SymbolTables.{SymbolTable, symbol_section, symbol_table, symbols, symbols_in, symbols_if_any}
+use Rattle.cfi_elf.specs.SymbolAddresses.{is_symbol_named, symbol_address}
 use Rattle.cfi_elf.specs.SymbolAddresses.{symbol_addresses}
-use Rattle.cfi_elf.specs.FunctionNames.{best_name, function_name, function_place, functions_in, named_functions, place_among}
+use Rattle.cfi_elf.specs.FunctionNames.{best_name, function_name, function_place, place_among}
+use Rattle.cfi_elf.specs.Functions.{functions_in, named_functions}
 use Rattle.cfi_elf.proofs.SameResults.{Same, is_not_read, same_err, same_first_by, same_if, same_if_found, same_ok, same_or_missing, same_then}
 use Rattle.cfi_elf.proofs.ImageParts.{same_part}
 
@@ -97,7 +104,7 @@ module _ {bytes : List ℕ} (file : File) (of : IsImageOf file.image bytes) wher
       same_then (same_section_names table) (λ names.
       same_first_by (is_named names name) (λ header. (same_is_named names name header).read) (section_headers file table)))
 
-  same_section_of : (header : SectionHeader) → Same (section_of file header) (section_of all header)
+  same_section_of : (header : SectionHeader) → Same (section_by_header file header) (section_by_header all header)
   same_section_of header = same_then (same_contents header) (λ bytes. same_ok _)
 
   pub same_section_named : (name : List ℕ) → Same (section_named file name) (section_named all name)
@@ -173,7 +180,7 @@ module _ {bytes : List ℕ} (file : File) (of : IsImageOf file.image bytes) wher
   unfolding symbols_in
   same_symbols_in table header = same_then (same_contents header) (λ bytes. same_then (same_names_at table header.sh_link) (λ names. same_then same_function_descriptors (λ descriptors. same_ok _)))
 
-  same_symbols_of : (table : List ℕ) (found : Option SectionHeader) → Same (symbols_of file table found) (symbols_of all table found)
+  same_symbols_of : (table : List ℕ) (found : Option SectionHeader) → Same (symbols_if_any file table found) (symbols_if_any all table found)
   same_symbols_of table None = same_ok _
   same_symbols_of table (Some header) = same_symbols_in table header
 
@@ -195,7 +202,7 @@ module _ {bytes : List ℕ} (file : File) (of : IsImageOf file.image bytes) wher
   unfolding symbol_addresses
   same_symbol_addresses name = same_then same_symbol_table (λ table. same_ok _)
 
-  same_function_of : (names : List ℕ) (s : Symbol) → Same (function_of names s) (function_of names s)
+  same_function_of : (names : List ℕ) (s : Symbol) → Same (read_function names s) (read_function names s)
   same_function_of names s = same_then (same_name_at names s.st_name) (λ name. same_ok _)
 
   pub same_function_at : (address : ℕ) → Same (function_at file address) (function_at all address)

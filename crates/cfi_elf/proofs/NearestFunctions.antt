@@ -4,13 +4,13 @@ use Rattle.std.proofs.Common.{◌≡◌, ℕ, zero, suc, ◌-◌, ◌<◌, ◌�
 use Rattle.std.specs.Prelude.{find}
 use Rattle.std.specs.List.Sorted.{IsNonDecreasingBy}
 use Rattle.std.proofs.lemmas.Bool.{cases_lt, eqb-true}
-use Rattle.cfi_elf.specs.declared.symbols.Function.{Function as FunctionOfCode}
+use Rattle.cfi_elf.specs.declared.functions.Function.{Function as FunctionOfCode}
 use Rattle.cfi_elf.specs.Options.{or_else}
-use Rattle.cfi_elf.specs.SymbolTables.{Function, function_view}
+use Rattle.cfi_elf.specs.Functions.{Function, function_view}
 use Rattle.std.specs.List.{filter, fold}
 use Rattle.cfi_elf.specs.BestNames.{better_of, is_better}
 use Rattle.cfi_elf.specs.FunctionNames.{best_at, first_at, nearest, place_among, place_at}
-use Rattle.cfi_elf.specs.FunctionPlaces.{place_of}
+use Rattle.cfi_elf.specs.FunctionPlaces.{place_in_function}
 use Rattle.cfi_elf.proofs.FunctionLists.{begins_at, find_nowhere, first_at_is}
 
 -- ---- going down from an address
@@ -107,14 +107,14 @@ module _ (fs : List FunctionOfCode) (a k : ℕ)
         ∙ some_found (begins_at x.address) fs (k - 1) x (omega (arith, some, inside)) (eq-eqb (get_or fs (k - 1) x).address x.address at_x))
 
     -- so the one that gives the name there is the one by which the address is
-    pub placed : (found : Option Function) → found ≡ best_at (map function_view fs) x.address → option_and_then (place_of a) found ≡ place_among (map function_view fs) a
+    pub placed : (found : Option Function) → found ≡ best_at (map function_view fs) x.address → option_and_then (place_in_function a) found ≡ place_among (map function_view fs) a
     placed found is = by (first x.address) refl some_begins ∙ sym (ap (option_and_then (place_at (map function_view fs) a)) (nearest_is first x.address a begins_before none_between some_begins))
       where
-        by : (o : Option Function) → first x.address ≡ o → IsSome o → option_and_then (place_of a) found ≡ option_and_then (place_at (map function_view fs) a) o
+        by : (o : Option Function) → first x.address ≡ o → IsSome o → option_and_then (place_in_function a) found ≡ option_and_then (place_at (map function_view fs) a) o
         by None e some = absurd (true≢false (sym some))
         by (Some g) e some =
             let at : g.address ≡ x.address = begins (map function_view fs) x.address g (sym e) in
-            ap (option_and_then (place_of a)) (is ∙ ap (best_at (map function_view fs)) (sym at))
+            ap (option_and_then (place_in_function a)) (is ∙ ap (best_at (map function_view fs)) (sym at))
 
 -- ---- the best of those at an address begins there
 

@@ -6,8 +6,9 @@ use Rattle.std.proofs.lemmas.Bool.{ltb-false}
 use Rattle.std.proofs.lemmas.List.{length-drop}
 use Rattle.cfi_elf.specs.declared.error.ElfError.{ElfError}
 use Rattle.cfi_elf.specs.declared.notes.NoteHeader.{NoteHeader}
-use Rattle.cfi_elf.specs.Fields.{first_bytes}
-use Rattle.cfi_elf.specs.Notes.{First, Note, Notes, cut_item, first_note, is_build_id, items, name_in, no_notes, note_by, note_header, notes_of, notes_up_to, notes_with, padded, with_first}
+use Rattle.cfi_elf.specs.Fields.{first_bytes, until_zero}
+use Rattle.cfi_elf.specs.Notes.{First, Note, Notes, cut_item, first_note, items, no_notes, note_by, note_header, notes_of, notes_up_to, notes_with, padded, with_first}
+use Rattle.cfi_elf.specs.BuildIds.{is_build_id}
 
 -- ---- a note takes a byte at least
 
@@ -32,7 +33,7 @@ by_fewer : (header : NoteHeader) (names : List ℕ) (found : First) → note_by 
 by_fewer header names found is =
     let descs = drop (padded header.n_namesz) names in
     let others = drop (padded header.n_descsz) descs in
-    let same = same_others (first_bytes header.n_namesz names) (first_bytes header.n_descsz descs) (λ name desc. record { name = name_in name; kind = header.n_type; desc = desc }) others found is in
+    let same = same_others (first_bytes header.n_namesz names) (first_bytes header.n_descsz descs) (λ name desc. record { name = until_zero name; kind = header.n_type; desc = desc }) others found is in
     let count : length others ≡ length found.others = ap length same in
     let less = length-drop (padded header.n_descsz) descs in
     let less' = length-drop (padded header.n_namesz) names in

@@ -3,7 +3,8 @@
 use Rattle.std.proofs.Common.{ℕ, List, codes}
 use Rattle.cfi_elf.specs.ElfFiles.{File}
 use Rattle.cfi_elf.specs.Images.{IsImageOf}
-use Rattle.cfi_elf.specs.PltAddresses.{plt_addresses, plt_parts, section_or_empty, slots, stubs}
+use Rattle.cfi_elf.specs.PltAddresses.{plt_addresses}
+use Rattle.cfi_elf.specs.PltSections.{plt_parts, section_or_empty, got_relocations, plt_sections}
 use Rattle.cfi_elf.proofs.Images.{in_whole, same_section_named}
 use Rattle.cfi_elf.proofs.SameResults.{Same, same_ok, same_then}
 
@@ -15,24 +16,24 @@ module _ {bytes : List ℕ} (file : File) (of : IsImageOf file.image bytes) wher
   unfolding section_or_empty
   same_or_empty name = same_then (same_section_named file of name) (λ found. same_ok _)
 
-  same_slots : Same (slots file) (slots all)
-  unfolding slots
-  same_slots =
-      same_then (same_or_empty (codes ".dynsym")) (λ symbols.
-      same_then (same_or_empty (codes ".dynstr")) (λ names.
-      same_then (same_or_empty (codes ".rela.plt")) (λ of_plt.
-      same_then (same_or_empty (codes ".rela.dyn")) (λ others. same_ok _))))
+  same_got : Same (got_relocations file) (got_relocations all)
+  unfolding got_relocations
+  same_got =
+      same_then (same_or_empty (codes ".dynsym")) (λ dynsym.
+      same_then (same_or_empty (codes ".dynstr")) (λ dynstr.
+      same_then (same_or_empty (codes ".rela.plt")) (λ rela_plt.
+      same_then (same_or_empty (codes ".rela.dyn")) (λ rela_dyn. same_ok _))))
 
-  same_stubs : Same (stubs file) (stubs all)
-  unfolding stubs
-  same_stubs =
+  same_plt : Same (plt_sections file) (plt_sections all)
+  unfolding plt_sections
+  same_plt =
       same_then (same_or_empty (codes ".plt")) (λ plt.
-      same_then (same_or_empty (codes ".plt.sec")) (λ second.
-      same_then (same_or_empty (codes ".plt.got")) (λ bound. same_ok _)))
+      same_then (same_or_empty (codes ".plt.sec")) (λ plt_sec.
+      same_then (same_or_empty (codes ".plt.got")) (λ plt_got. same_ok _)))
 
   pub same_plt_parts : Same (plt_parts file) (plt_parts all)
   unfolding plt_parts
-  same_plt_parts = same_then same_slots (λ slots. same_then same_stubs (λ stubs. same_ok _))
+  same_plt_parts = same_then same_got (λ got. same_then same_plt (λ plt. same_ok _))
 
   pub same_plt_addresses : (name : List ℕ) → Same (plt_addresses file name) (plt_addresses all name)
   unfolding plt_addresses

@@ -9,12 +9,18 @@ use Rattle.cfi_elf.specs.Results.{and_then}
 use Rattle.cfi_elf.specs.Headers.{file_header, program_header, section_header, symbol}
 use Rattle.cfi_elf.specs.ElfFiles.{File, any_file, core_file, elf_file, elf_file_of, file_by, header_bytes, identification}
 use Rattle.cfi_elf.specs.Images.{Image, Part, bytes_at, whole}
-use Rattle.cfi_elf.specs.Sections.{first_section_header, section_count, section_table, contents, name_at, name_section, names_at, section_names, is_named, header_named, section_named, address_of, section_address, debug_frame}
-use Rattle.cfi_elf.specs.Segments.{segment_count, program_table, wanted_segment, loaded_bytes, eh_frame_hdr_segment, address_of_offset}
+use Rattle.cfi_elf.specs.SectionTables.{first_section_header, section_count, section_table}
+use Rattle.cfi_elf.specs.SectionContents.{contents, address_of}
+use Rattle.cfi_elf.specs.StringTables.{name_at, name_section, names_at, section_names}
+use Rattle.cfi_elf.specs.Sections.{is_named, header_named, section_named, section_address, debug_frame}
+use Rattle.cfi_elf.specs.SegmentLists.{segment_count, program_table}
+use Rattle.cfi_elf.specs.Segments.{wanted_segment, loaded_bytes, eh_frame_hdr_segment, address_of_offset}
 use Rattle.cfi_elf.specs.SegmentLists.{segments}
-use Rattle.cfi_elf.specs.Notes.{build_id, build_id_in, build_id_of, first_note, notes_of, notes_up_to}
-use Rattle.cfi_elf.specs.SymbolTables.{Function}
-use Rattle.cfi_elf.specs.FunctionNames.{best_name, named_function, place_among}
+use Rattle.cfi_elf.specs.BuildIds.{build_id, build_id_in, build_id_of}
+use Rattle.cfi_elf.specs.Notes.{first_note, notes_of, notes_up_to}
+use Rattle.cfi_elf.specs.Functions.{Function}
+use Rattle.cfi_elf.specs.FunctionNames.{best_name, place_among}
+use Rattle.cfi_elf.specs.Functions.{named_function}
 
 -- to name it on an `unfolding` line is to open all these
 unfoldable computing : ℕ

@@ -4,9 +4,11 @@ use Rattle.std.specs.Int.{w32}
 use Rattle.cfi_elf.specs.declared.error.ElfError.TheVariants.{RelocationOutOfBounds}
 use Rattle.cfi_elf.specs.declared.file_header.Class.TheVariants.{Elf32, Elf64}
 use Rattle.cfi_elf.specs.declared.relocation_kind.Formula.TheVariants.{LowSix, LowSixSubtracted, Relative}
-use Rattle.cfi_elf.specs.declared.relocation_kind.PlaceWidth.TheVariants.{Word}
+use Rattle.cfi_elf.specs.declared.relocation_kind.FieldWidth.TheVariants.{Word}
 use Rattle.cfi_elf.specs.RelocationKinds.{kinds_of}
-use Rattle.cfi_elf.specs.Relocations.{relocated_number, relocation, with_number}
+use Rattle.cfi_elf.specs.RelocatedFiles.{relocated_number}
+use Rattle.cfi_elf.specs.Relocations.{relocation}
+use Rattle.cfi_elf.specs.RelocatedFields.{write_number}
 use Rattle.cfi_elf.specs.Options.{meaning}
 
 -- x86-64, by readelf -r: offset 4c, info 100000002, R_X86_64_PC32 of .text + 7
@@ -31,10 +33,10 @@ entry_without_addend : relocation Elf32 false false (0x20 ∷ 0 ∷ 0 ∷ 0 ∷ 
 entry_without_addend = refl
 
 -- .text is at 0x40 and .eh_frame at 0x60: 0x47 - 0xac
-place_of_object : with_number false w32 1 (relocated_number Relative (0x40 + 7) 0 (0x60 + 0x4c)) (1 ∷ 2 ∷ 3 ∷ 4 ∷ 5 ∷ 6 ∷ []) ≡ Ok (1 ∷ 0x9b ∷ 0xff ∷ 0xff ∷ 0xff ∷ 6 ∷ [])
+place_of_object : write_number false w32 1 (relocated_number Relative (0x40 + 7) 0 (0x60 + 0x4c)) (1 ∷ 2 ∷ 3 ∷ 4 ∷ 5 ∷ 6 ∷ []) ≡ Ok (1 ∷ 0x9b ∷ 0xff ∷ 0xff ∷ 0xff ∷ 6 ∷ [])
 place_of_object = refl
 
-place_cut : with_number false w32 3 0 (1 ∷ 2 ∷ 3 ∷ 4 ∷ 5 ∷ 6 ∷ []) ≡ Err RelocationOutOfBounds
+place_cut : write_number false w32 3 0 (1 ∷ 2 ∷ 3 ∷ 4 ∷ 5 ∷ 6 ∷ []) ≡ Err RelocationOutOfBounds
 place_cut = refl
 
 -- R_RISCV_SET6 and R_RISCV_SUB6 keep the high two bits: an advance by 0x12, and then by 0x12 less 0x10

@@ -6,7 +6,7 @@ use Rattle.std.specs.Prelude.{ℕ, Bool, not, List, length, Option, Some, None, 
 use Rattle.std.specs.Prelude.{if◌then◌else◌, position}
 use Rattle.std.specs.List.{fold}
 use Rattle.cfi_elf.specs.Options.{or_this}
-use Rattle.cfi_elf.specs.SymbolTables.{Function}
+use Rattle.cfi_elf.specs.Functions.{Function}
 
 -- the smaller is better
 abbrev pub decided : ℕ → ℕ → Bool → Bool

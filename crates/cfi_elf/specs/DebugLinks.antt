@@ -24,12 +24,12 @@ abbrev pub link_view : DebugLink → Link
 link_view link = record { name = link.name.now; checksum = link.checksum }
 
 -- a name without a folder
-abbrev pub is_file_name : List ℕ → Bool
-is_file_name name = not (length name == 0) && list_all (λ byte. not (byte == 47)) name
+abbrev pub is_base_name : List ℕ → Bool
+is_base_name name = not (length name == 0) && list_all (λ byte. not (byte == 47)) name
 
 abbrev pub named_link : List ℕ → ℕ → Option Link
 named_link name checksum =
-    if is_file_name name then Some (record { name = name; checksum = checksum }) else None
+    if is_base_name name then Some (record { name = name; checksum = checksum }) else None
 
 abbrev pub checksum_in : Bool → List ℕ → ℕ
 checksum_in big bytes = number_at big bytes 0 w32

@@ -1,5 +1,5 @@
 -- What an error says, in a sentence, with the number that it carries.
---     text_of_elf error      the sentence, and the number behind it if there is one
+--     text_of_elf error      the sentence, and the number after it if there is one
 use Rattle.std.specs.Prelude.{ℕ, List, [], ◌++◌, Option, Some, None, codes}
 use Rattle.std.specs.Fmt.{decimal}
 use Rattle.cfi_elf.specs.declared.error.ElfError.{ElfError}

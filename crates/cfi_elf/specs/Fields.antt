@@ -2,6 +2,7 @@
 --     part bytes offset size      size bytes from an offset on, if there are so many
 --     first_bytes n bytes      the first n bytes, if there are so many
 --     before_zero bytes      the bytes before the first zero, if there is one
+--     until_zero bytes      the same, or all where there is none
 --     number_at big bytes offset width      the number that so many bytes from an offset on are
 --     field big bytes fields name      the number in the field of this name
 --     entries size bytes      the records of one size in a table, as many as fit it whole
@@ -11,6 +12,7 @@ use Rattle.std.specs.Prelude.{sum_by, if◌then◌else◌}
 use Rattle.std.specs.Int.{Width, byte_len}
 use Rattle.std.specs.List.{range_with_len}
 use Rattle.cfi_read_core.specs.Numbers.{number_of}
+use Rattle.cfi_elf.specs.Options.{or_this}
 
 abbrev pub part : List ℕ → ℕ → ℕ → Option (List ℕ)
 part bytes offset size =
@@ -24,6 +26,10 @@ first_bytes n bytes = if nat_le n (length bytes) then Some (take n bytes) else N
 abbrev pub before_zero : List ℕ → Option (List ℕ)
 before_zero bytes = option_map (λ n. take n bytes) (position (λ x. x == 0) bytes)
 
+-- the same, or all where there is none
+abbrev pub until_zero : List ℕ → List ℕ
+until_zero bytes = or_this bytes (before_zero bytes)
+
 -- ---- records
 
 -- Where a field is in its record: how many bytes are before it, and how many it has.
@@ -36,16 +42,16 @@ abbrev pub number_at : Bool → List ℕ → ℕ → Width → ℕ
 number_at big bytes offset width =
     number_of width big (slice_range bytes offset (offset + byte_len width))
 
-abbrev pub number_in : Bool → List ℕ → Option Field → ℕ
-number_in big bytes None = 0
-number_in big bytes (Some f) = number_at big bytes f.offset f.width
+abbrev pub number_of_field : Bool → List ℕ → Option Field → ℕ
+number_of_field big bytes None = 0
+number_of_field big bytes (Some f) = number_at big bytes f.offset f.width
 
 abbrev pub field : Bool → List ℕ → List Field → List ℕ → ℕ
-field big bytes fields name = number_in big bytes (find (λ f. bytes_eq f.name name) fields)
+field big bytes fields name = number_of_field big bytes (find (λ f. bytes_eq f.name name) fields)
 
 -- the bytes of a record, which has nothing between its fields
-abbrev pub size_of : List Field → ℕ
-size_of fields = sum_by (λ f. byte_len f.width) fields
+abbrev pub record_size : List Field → ℕ
+record_size fields = sum_by (λ f. byte_len f.width) fields
 
 -- ---- tables
 

@@ -6,8 +6,10 @@
 use Rattle.std.specs.Prelude.{◌≡◌, ◌≢◌, ◌<◌, ℕ, List, Option, Some, None, Ok, slice_get}
 use Rattle.cfi_elf.specs.declared.section_header.SectionHeader.{SectionHeader}
 use Rattle.cfi_elf.specs.ElfFiles.{File}
-use Rattle.cfi_elf.specs.Sections.{Section, contents, name_at, section_headers, section_names}
-use Rattle.cfi_elf.specs.Sections.{section_table}
+use Rattle.cfi_elf.specs.Sections.{Section}
+use Rattle.cfi_elf.specs.SectionContents.{contents}
+use Rattle.cfi_elf.specs.StringTables.{name_at, section_names}
+use Rattle.cfi_elf.specs.SectionTables.{section_headers, section_table}
 
 -- SHT_NULL is 0
 abbrev pub HasName : List ℕ → List ℕ → SectionHeader → Type 0

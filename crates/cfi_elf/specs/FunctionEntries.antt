@@ -1,7 +1,7 @@
 -- The address of a function, by the value of its symbol and the machine.
 --     function_descriptors file      the section of the descriptors of functions, if there is one
---     entry_of file descriptors s      the address of the first instruction of the function that a
---         symbol is, or the value of any other symbol
+--     located_value file descriptors s      the address of the first instruction of the function
+--         that a symbol is, or the value of any other symbol
 --     located file descriptors s      the symbol with that for its value
 use Rattle.std.specs.Prelude.{ℕ, ◌+◌, ◌-◌, ◌%◌, Bool, not, ◌&&◌, Option, Some, None, Result, Ok}
 use Rattle.std.specs.Prelude.{codes, length, nat_le, ◌==◌, if◌then◌else◌}
@@ -43,14 +43,14 @@ abbrev pub function_entry : File → Option Section → ℕ → ℕ
 function_entry file descriptors value =
     if is_arm file then value - value % 2 else described (is_big_file file) descriptors value
 
-abbrev pub entry_of : File → Option Section → Symbol → ℕ
-entry_of file descriptors s =
+abbrev pub located_value : File → Option Section → Symbol → ℕ
+located_value file descriptors s =
     if has_type_of_function s then function_entry file descriptors s.st_value else s.st_value
 
 abbrev pub located : File → Option Section → Symbol → Symbol
 located file descriptors s = record {
   st_name = s.st_name;
-  st_value = entry_of file descriptors s;
+  st_value = located_value file descriptors s;
   st_size = s.st_size;
   st_info = s.st_info;
   st_shndx = s.st_shndx;

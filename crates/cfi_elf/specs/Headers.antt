@@ -5,9 +5,9 @@ use Rattle.cfi_elf.specs.declared.file_header.FileHeader.{FileHeader}
 use Rattle.cfi_elf.specs.declared.section_header.SectionHeader.{SectionHeader}
 use Rattle.cfi_elf.specs.declared.program_header.ProgramHeader.{ProgramHeader}
 use Rattle.cfi_elf.specs.declared.symbol.Symbol.{Symbol}
-use Rattle.cfi_elf.specs.Fields.{field, size_of}
-use Rattle.cfi_elf.specs.Layouts.{file_header_fields, section_header_fields}
-use Rattle.cfi_elf.specs.Layouts.{program_header_fields, symbol_fields}
+use Rattle.cfi_elf.specs.Fields.{field, record_size}
+use Rattle.cfi_elf.specs.Layouts.{file_header_fields, section_header_fields, program_header_fields}
+use Rattle.cfi_elf.specs.Layouts.{symbol_fields}
 
 abbrev pub file_header : Class → Bool → List ℕ → FileHeader
 file_header class big bytes =
@@ -68,13 +68,13 @@ symbol class big bytes =
 -- ---- sizes in bytes
 
 abbrev pub file_header_bytes : Class → ℕ
-file_header_bytes class = size_of (file_header_fields class)
+file_header_bytes class = record_size (file_header_fields class)
 
 abbrev pub section_header_bytes : Class → ℕ
-section_header_bytes class = size_of (section_header_fields class)
+section_header_bytes class = record_size (section_header_fields class)
 
 abbrev pub program_header_bytes : Class → ℕ
-program_header_bytes class = size_of (program_header_fields class)
+program_header_bytes class = record_size (program_header_fields class)
 
 abbrev pub symbol_bytes : Class → ℕ
-symbol_bytes class = size_of (symbol_fields class)
+symbol_bytes class = record_size (symbol_fields class)

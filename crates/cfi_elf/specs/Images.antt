@@ -54,8 +54,8 @@ if_read offset size (Some bytes) = Ok (Some bytes)
 if_read offset size None = Err (NotRead offset size)
 
 -- none where the file has fewer
-abbrev pub part_of : Image → ℕ → ℕ → Result (Option (List ℕ)) ElfError
-part_of image offset size =
+abbrev pub image_part : Image → ℕ → ℕ → Result (Option (List ℕ)) ElfError
+image_part image offset size =
     if nat_le (offset + size) image.length
     then if_read offset size
     (or_else (part image.first offset size) (in_parts offset size image.parts))
@@ -63,7 +63,7 @@ part_of image offset size =
 
 -- this error where the file has fewer
 unfoldable pub bytes_at : Image → ℕ → ℕ → ElfError → Result (List ℕ) ElfError
-bytes_at image offset size error = and_then (part_of image offset size) (or_missing error)
+bytes_at image offset size error = and_then (image_part image offset size) (or_missing error)
 
 -- ---- what an image tells of the file
 

@@ -2,12 +2,9 @@
 --     notes_of big bytes      the notes of these bytes in order, and whether bytes follow them that
 --         are no whole note
 --     notes_left walk      those that an iterator of the code has left
---     build_id file      what the first note says that has an identification of the file
-use Rattle.std.specs.Prelude.{◌≡◌, ℕ, ◌+◌, ◌*◌, ◌/◌, zero, suc, Bool, true, false, ◌&&◌, List, []}
-use Rattle.std.specs.Prelude.{◌∷◌, ◌++◌, length, drop, map, find, codes, Option, Some, None}
-use Rattle.std.specs.Prelude.{Result, Ok, Err, option_map, nat_eq, nat_lt, ◌==◌}
-use Rattle.std.specs.Prelude.{if◌then◌else◌}
-use Rattle.std.specs.Cmp.Lexicographic.{pointwise}
+use Rattle.std.specs.Prelude.{◌≡◌, ℕ, ◌+◌, ◌*◌, ◌/◌, zero, suc, Bool, true, false, List, [], ◌∷◌}
+use Rattle.std.specs.Prelude.{◌++◌, length, drop, map, codes, Option, Some, None, Result, Ok, Err}
+use Rattle.std.specs.Prelude.{option_map, nat_lt, ◌==◌, if◌then◌else◌}
 use Rattle.std.specs.Option.{option_and_then}
 use Rattle.cfi_elf.specs.declared.error.ElfError.{ElfError}
 use Rattle.cfi_elf.specs.declared.error.ElfError.TheVariants.{NoteCut}
@@ -15,14 +12,8 @@ use Rattle.cfi_elf.specs.declared.notes.First.{First as FirstOfCode}
 use Rattle.cfi_elf.specs.declared.notes.Note.{Note as NoteOfCode}
 use Rattle.cfi_elf.specs.declared.notes.NoteHeader.{NoteHeader}
 use Rattle.cfi_elf.specs.declared.notes.Notes.{Notes as NotesOfCode}
-use Rattle.cfi_elf.specs.declared.program_header.ProgramHeader.{ProgramHeader}
-use Rattle.cfi_elf.specs.ElfFiles.{File, is_big_file}
-use Rattle.cfi_elf.specs.Fields.{before_zero, field, first_bytes}
+use Rattle.cfi_elf.specs.Fields.{until_zero, field, first_bytes}
 use Rattle.cfi_elf.specs.Layouts.{note_header_fields}
-use Rattle.cfi_elf.specs.Options.{or_this}
-use Rattle.cfi_elf.specs.Results.{and_then}
-use Rattle.cfi_elf.specs.SegmentLists.{segments}
-use Rattle.cfi_elf.specs.Segments.{segment_bytes}
 
 -- ---- one note
 
@@ -48,10 +39,6 @@ note_header big bytes =
 abbrev pub padded : ℕ → ℕ
 padded n = (n + 3) / 4 * 4
 
--- a name ends before its first zero, if it has one
-abbrev pub name_in : List ℕ → List ℕ
-name_in bytes = or_this bytes (before_zero bytes)
-
 -- The first note, and the bytes that follow.
 pub record First : Type 0 where
   pub note : Note
@@ -65,7 +52,7 @@ abbrev pub note_by : NoteHeader → List ℕ → Option First
 note_by header names =
     let descs = drop (padded header.n_namesz) names in
     option_and_then (λ name. option_map (λ desc. record {
-      note = record { name = name_in name; kind = header.n_type; desc = desc };
+      note = record { name = until_zero name; kind = header.n_type; desc = desc };
       others = drop (padded header.n_descsz) descs;
     }) (first_bytes header.n_descsz descs)) (first_bytes header.n_namesz names)
 
@@ -124,34 +111,3 @@ Meets (Ok None) old new = (old ≡ no_notes false) × (new ≡ no_notes false)
 Meets (Ok (Some note)) old new = old ≡ with_first note new
 Meets (Err e) old new =
     (e ≡ NoteCut) × (old ≡ no_notes true) × (new ≡ no_notes false)
-
--- ---- the identification of a file's build
-
--- whether a note is named GNU, and of type NT_GNU_BUILD_ID (3)
-abbrev pub is_build_id : Note → Bool
-is_build_id note = (note.kind == 3) && pointwise nat_eq note.name (codes "GNU")
-
-abbrev pub build_id_in : Bool → List ℕ → Option (List ℕ)
-build_id_in big bytes = option_map (λ note. note.desc) (find is_build_id (notes_of big bytes).notes)
-
--- that of one segment; PT_NOTE is 4
-unfoldable pub build_id_of : File → ProgramHeader → Result (Option (List ℕ)) ElfError
-build_id_of file header =
-    if header.p_type == 4
-    then and_then (segment_bytes file header) (λ bytes. Ok (build_id_in (is_big_file file) bytes))
-    else Ok None
-
--- this, or what the others give
-abbrev pub or_others :
-    Option (List ℕ) → Result (Option (List ℕ)) ElfError → Result (Option (List ℕ)) ElfError
-or_others (Some id) others = Ok (Some id)
-or_others None others = others
-
--- the first, or the first error before it
-abbrev pub build_id_among : File → List ProgramHeader → Result (Option (List ℕ)) ElfError
-build_id_among file [] = Ok None
-build_id_among file (header ∷ headers) =
-    and_then (build_id_of file header) (λ found. or_others found (build_id_among file headers))
-
-unfoldable pub build_id : File → Result (Option (List ℕ)) ElfError
-build_id file = and_then (segments file) (build_id_among file)

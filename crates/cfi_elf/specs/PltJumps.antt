@@ -2,8 +2,8 @@
 -- entry of the global offset table (System V psABI for x86-64, "Procedure Linkage Table"; Intel 64
 -- and IA-32 Architectures Software Developer's Manual, "JMP", "ENDBR64"; Arm Architecture Reference
 -- Manual for A-profile, "ADRP", "LDR (immediate)", "BTI").
---     slot_read e_machine address bytes      the address of the entry that is read by the jump with
---         which these bytes at an address begin
+--     jump_slot e_machine address bytes      the address of the entry, the slot, that is read by
+--         the jump with which these bytes at an address begin
 use Rattle.std.specs.Prelude.{ℕ, ◌+◌, ◌-◌, ◌*◌, ◌/◌, ◌%◌, ◌^◌, Bool, false, ◌&&◌, List, [], ◌∷◌}
 use Rattle.std.specs.Prelude.{length, drop, find, nat_eq, nat_lt, option_and_then, option_map}
 use Rattle.std.specs.Prelude.{Option, Some, None, ◌==◌, if◌then◌else◌}
@@ -11,14 +11,14 @@ use Rattle.std.specs.Int.{w32}
 use Rattle.std.specs.List.{starts_with}
 use Rattle.cfi_elf.specs.Fields.{number_at, part}
 use Rattle.cfi_elf.specs.Relocations.{sign_extended}
-use Rattle.cfi_elf.specs.Segments.{minus, plus}
+use Rattle.cfi_elf.specs.Modular.{minus, plus}
 
 -- ---- x86-64
 
 -- JMP r/m64 is ff /4; with the byte 25 its operand is at a distance of 32 bits from the end of the
 -- instruction. Before it may stand the prefix f2 (BND), and before that ENDBR64, f3 0f 1e fa
-abbrev pub jumps : List (List ℕ)
-jumps =
+abbrev pub indirect_jumps : List (List ℕ)
+indirect_jumps =
     (0xff ∷ 0x25 ∷ [])
     ∷ (0xf2 ∷ 0xff ∷ 0x25 ∷ [])
     ∷ (0xf3 ∷ 0x0f ∷ 0x1e ∷ 0xfa ∷ 0xff ∷ 0x25 ∷ [])
@@ -26,16 +26,16 @@ jumps =
     ∷ []
 
 -- by how many bytes are before the distance
-abbrev pub slot_behind : ℕ → List ℕ → ℕ → Option ℕ
-slot_behind address bytes size =
+abbrev pub slot_after : ℕ → List ℕ → ℕ → Option ℕ
+slot_after address bytes size =
     option_map
     (λ distance. plus (plus address (size + 4)) (sign_extended (number_at false distance 0 w32)))
     (part bytes size 4)
 
 abbrev pub x86_64_slot : ℕ → List ℕ → Option ℕ
 x86_64_slot address bytes =
-    option_and_then (λ jump. slot_behind address bytes (length jump))
-    (find (λ jump. starts_with nat_eq bytes jump) jumps)
+    option_and_then (λ jump. slot_after address bytes (length jump))
+    (find (λ jump. starts_with nat_eq bytes jump) indirect_jumps)
 
 -- ---- AArch64
 
@@ -89,8 +89,8 @@ aarch64_slot address bytes =
 
 -- ---- by machine: EM_X86_64 is 62, EM_AARCH64 is 183
 
-abbrev pub slot_read : ℕ → ℕ → List ℕ → Option ℕ
-slot_read e_machine address bytes =
+abbrev pub jump_slot : ℕ → ℕ → List ℕ → Option ℕ
+jump_slot e_machine address bytes =
     if e_machine == 62 then x86_64_slot address bytes
     else if e_machine == 183 then aarch64_slot address bytes
     else None

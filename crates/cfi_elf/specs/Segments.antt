@@ -1,49 +1,16 @@
 -- What a file has loaded at an address, by its program headers (System V ABI chapter 5, "Program
 -- Header", "Program Loading").
-use Rattle.std.specs.Prelude.{ℕ, ◌-◌, ◌+◌, ◌*◌, ◌%◌, ◌^◌, Bool, not, ◌&&◌, bit_and, option_map}
-use Rattle.std.specs.Prelude.{List, [], Option, Result, Ok, Err, drop, find, map, nat_le, nat_lt}
-use Rattle.std.specs.Prelude.{◌==◌, if◌then◌else◌}
+use Rattle.std.specs.Prelude.{ℕ, ◌-◌, ◌+◌, ◌%◌, Bool, not, ◌&&◌, bit_and, option_map, List, Option}
+use Rattle.std.specs.Prelude.{Result, Ok, drop, find, nat_le, nat_lt, ◌==◌}
 use Rattle.cfi_elf.specs.declared.error.ElfError.{ElfError}
-use Rattle.cfi_elf.specs.declared.error.ElfError.TheVariants.{ProgramEntrySize}
-use Rattle.cfi_elf.specs.declared.error.ElfError.TheVariants.{ProgramTableOutOfBounds}
-use Rattle.cfi_elf.specs.declared.error.ElfError.TheVariants.{SegmentOutOfBounds}
 use Rattle.cfi_elf.specs.declared.program_header.ProgramHeader.{ProgramHeader}
 use Rattle.cfi_elf.specs.declared.segments.Wanted.{Wanted}
 use Rattle.cfi_elf.specs.declared.segments.Wanted.TheVariants.{OfType, LoadedAt, CodeAt}
-use Rattle.cfi_elf.specs.ElfFiles.{File, class_of_file, is_big_file}
-use Rattle.cfi_elf.specs.Fields.{entries}
-use Rattle.cfi_elf.specs.Headers.{program_header, program_header_bytes}
-use Rattle.cfi_elf.specs.Images.{bytes_at}
+use Rattle.cfi_elf.specs.ElfFiles.{File}
 use Rattle.cfi_elf.specs.Results.{and_then, if_found}
-use Rattle.cfi_elf.specs.Sections.{Section, or_by_first}
-
--- ---- the program header table
-
--- e_phnum, or where it is PN_XNUM and there are section headers sh_info of section 0
-unfoldable pub segment_count : File → Result ℕ ElfError
-segment_count file =
-    let e_phnum = file.header.sizes.e_phnum in
-    or_by_first file e_phnum ((e_phnum == 0xffff) && not (file.header.offsets.e_shoff == 0))
-    (λ first. first.sh_info)
-
--- its bytes; none where e_phoff is 0
-unfoldable pub program_table : File → Result (List ℕ) ElfError
-program_table file =
-    let offset = file.header.offsets.e_phoff in
-    let size = program_header_bytes (class_of_file file) in
-    if offset == 0 then Ok []
-    else if not (file.header.sizes.e_phentsize == size) then Err
-    (ProgramEntrySize file.header.sizes.e_phentsize)
-    else and_then (segment_count file)
-    (λ count. bytes_at file.image offset (count * size) ProgramTableOutOfBounds)
-
--- the program headers of a table, in their order
-abbrev pub program_headers : File → List ℕ → List ProgramHeader
-program_headers file table =
-    map (program_header (class_of_file file) (is_big_file file))
-    (entries (program_header_bytes (class_of_file file)) table)
-
--- ---- segments
+use Rattle.cfi_elf.specs.Sections.{Section}
+use Rattle.cfi_elf.specs.SegmentLists.{program_headers, program_table, segment_bytes}
+use Rattle.cfi_elf.specs.Modular.{plus, minus}
 
 -- whether a segment is loaded (PT_LOAD is 1), and the address is that of one of its bytes in the
 -- file
@@ -77,11 +44,6 @@ wanted_segment file wanted =
     and_then (program_table file)
     (λ table. Ok (find (is_wanted wanted) (program_headers file table)))
 
--- the bytes of a segment in the file
-abbrev pub segment_bytes : File → ProgramHeader → Result (List ℕ) ElfError
-segment_bytes file header =
-    bytes_at file.image header.p_offset header.p_filesz SegmentOutOfBounds
-
 -- a segment's address and bytes
 abbrev pub segment_of : File → ProgramHeader → Result Section ElfError
 segment_of file header =
@@ -105,13 +67,6 @@ loaded_bytes file address =
     and_then (wanted_segment file (LoadedAt address)) (if_found (bytes_after file address))
 
 -- ---- the address of a byte of the file
-
--- sums and differences of addresses are modulo 2 ^ 64
-abbrev pub plus : ℕ → ℕ → ℕ
-plus a b = (a + b) % 2 ^ 64
-
-abbrev pub minus : ℕ → ℕ → ℕ
-minus a b = (a + (2 ^ 64 - b)) % 2 ^ 64
 
 -- that of the byte at an offset, by the segment's address and offset
 abbrev pub loaded_address : ℕ → ProgramHeader → ℕ

@@ -2,13 +2,10 @@
 ghost use Rattle.std.specs.Prelude.{◌≡◌, ◌==◌, map, not, option_map, position};
 ghost use Rattle.cfi_elf.specs.BestNames.{best, better_of, binding_order, is_better, underscores};
 ghost use Rattle.cfi_elf.specs.BestNames.{bytes_order, decided};
-ghost use Rattle.cfi_elf.specs.SymbolTables.{function_view};
+ghost use Rattle.cfi_elf.specs.Functions.{function_view};
 
-use crate::symbols::Function;
-
-const STB_GLOBAL: u8 = 1;
-
-const STB_WEAK: u8 = 2;
+use crate::constants::{STB_GLOBAL, STB_WEAK};
+use crate::functions::Function;
 
 /// The function with the best name, of several the first; `None` where there are no functions.
 pub(crate) fn best_of<'input>(functions: &[Function<'input>]) -> Option<Function<'input>>

@@ -3,6 +3,7 @@ ghost use Rattle.std.specs.Prelude.{◌≡◌, ◌+◌, ◌*◌, ◌<◌, ◌≤
 ghost use Rattle.std.specs.Prelude.{length, option_map, position, slice_get};
 ghost use Rattle.std.specs.Int.{w8, w16, w32, w64};
 ghost use Rattle.cfi_elf.specs.Fields.{before_zero, entries, first_bytes, number_at, part};
+ghost use Rattle.cfi_elf.specs.Fields.{until_zero};
 
 /// The `size` bytes from the offset on, or `None` where there are fewer.
 #[inline(always)]
@@ -48,6 +49,16 @@ pub fn before_zero(bytes: &[u8]) -> Option<&[u8]>
     Some(&bytes[..length])
 }
 
+/// The bytes before the first zero, or all where there is none.
+pub fn until_zero(bytes: &[u8]) -> &[u8]
+    ensures { result.now ≡ until_zero bytes.now }
+{
+    match before_zero(bytes) {
+        Some(found) => found,
+        None => bytes,
+    }
+}
+
 /// The index of the first zero.
 fn first_zero(bytes: &[u8]) -> Option<usize>
     ensures value { result ≡ position (λ x. x == 0) bytes.now }
@@ -75,7 +86,8 @@ pub fn entry(table: &[u8], size: u64, index: usize) -> Option<&[u8]>
 pub fn size_of(count: u64, size: u64, length: u64) -> Option<u64>
     ensures { MatchOption result (length < count * size) (λ n. n ≡ count * size) }
 {
-    count.checked_mul(size)
+    let all = count.checked_mul(size)?;
+    if all <= length { Some(all) } else { None }
 }
 
 /// The bytes of a record, and their order.

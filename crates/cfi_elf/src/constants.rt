@@ -7,6 +7,9 @@ pub const ET_REL: u16 = 1;
 /// A core file (`e_type`).
 pub const ET_CORE: u16 = 4;
 
+/// The version of the format (`EI_VERSION`, `e_version`).
+pub const EV_CURRENT: u32 = 1;
+
 /// SPARC (`e_machine`).
 pub const EM_SPARC: u16 = 2;
 
@@ -52,6 +55,15 @@ pub const PT_NOTE: u32 = 4;
 /// The segment of `.eh_frame_hdr` (`p_type`; LSB Core).
 pub const PT_GNU_EH_FRAME: u32 = 0x6474_e550;
 
+/// The segment can be executed (`p_flags`).
+pub const PF_X: u32 = 1;
+
+/// The number of program headers is in section 0 (`e_phnum`).
+pub const PN_XNUM: u16 = 0xffff;
+
+/// The identification of a file's build (`n_type` of the name `GNU`).
+pub const NT_GNU_BUILD_ID: u32 = 3;
+
 /// A section header that is of no section (`sh_type`).
 pub const SHT_NULL: u32 = 0;
 
@@ -69,6 +81,21 @@ pub const SHT_REL: u32 = 9;
 
 /// The symbol table for dynamic linking (`sh_type`).
 pub const SHT_DYNSYM: u32 = 11;
+
+/// No section (`st_shndx`, `sh_link`).
+pub const SHN_UNDEF: u16 = 0;
+
+/// The index of the section is elsewhere (`e_shstrndx`, `st_shndx`).
+pub const SHN_XINDEX: u16 = 0xffff;
+
+/// No symbol (the index in `r_info`).
+pub const STN_UNDEF: u32 = 0;
+
+/// A symbol that all files see (the binding in `st_info`).
+pub const STB_GLOBAL: u8 = 1;
+
+/// A symbol that all files see where no global one has its name (the binding in `st_info`).
+pub const STB_WEAK: u8 = 2;
 
 /// A symbol that is a function (the type in `st_info`).
 pub const STT_FUNC: u8 = 2;

@@ -2,7 +2,7 @@
 ghost use Rattle.std.specs.Prelude.{◌≡◌, ◌≤◌, ◌==◌, length, not, option_map};
 ghost use Rattle.std.specs.List.{list_all};
 ghost use Rattle.cfi_read_core.specs.ReaderCalls.{map_ok};
-ghost use Rattle.cfi_elf.specs.DebugLinks.{checksum_in, debug_link, is_file_name, link_in};
+ghost use Rattle.cfi_elf.specs.DebugLinks.{checksum_in, debug_link, is_base_name, link_in};
 ghost use Rattle.cfi_elf.specs.DebugLinks.{link_view, named_link};
 ghost use Rattle.cfi_elf.specs.ElfFiles.{file_view};
 
@@ -63,7 +63,7 @@ fn checksum_in(bytes: &[u8], big_endian: bool) -> u32
 fn named_link(name: &[u8], checksum: u32) -> Option<DebugLink<'_>>
     ensures { option_map link_view result ≡ named_link name.now checksum }
 {
-    if is_file_name(name) {
+    if is_base_name(name) {
         Some(DebugLink { name, checksum })
     } else {
         None
@@ -71,8 +71,8 @@ fn named_link(name: &[u8], checksum: u32) -> Option<DebugLink<'_>>
 }
 
 /// Whether this is the name of a file, without a folder.
-fn is_file_name(name: &[u8]) -> bool
-    ensures { result ≡ is_file_name name.now }
+fn is_base_name(name: &[u8]) -> bool
+    ensures { result ≡ is_base_name name.now }
 {
     !name.is_empty() && has_no_slash(name)
 }

@@ -8,15 +8,13 @@ ghost use Rattle.cfi_elf.specs.ElfFiles.{vendor_of, with_addresses};
 ghost use Rattle.cfi_elf.specs.Images.{image_view};
 
 use crate::bytes::Record;
-use crate::constants::{EM_AARCH64, ET_CORE, ET_REL};
+use crate::constants::{EM_AARCH64, ET_CORE, ET_REL, EV_CURRENT};
 use crate::error::ElfError;
 use crate::file_header::{
     Class, FileHeader, Identification, file_header_size, parse_file_header, read_identification,
 };
 use crate::image::Image;
 use cfi_read_core::{Endianity, RunTimeEndian, Vendor};
-
-const EV_CURRENT: u32 = 1;
 
 /// The bytes of the header of a 64-bit file.
 const LONGEST_HEADER: u64 = 64;
@@ -229,14 +227,4 @@ fn with_addresses(file: ElfFile<'_>) -> Result<ElfFile<'_>, ElfError>
         ET_CORE => Err(ElfError::Core),
         _ => Ok(file),
     }
-}
-
-/// A section, or the file's bytes of a segment: its address and its bytes, which are part of the
-/// file.
-#[derive(Clone, Copy, Debug)]
-pub struct Section<'input> {
-    /// The address of the first byte (`sh_addr`, `p_vaddr`).
-    pub address: u64,
-    /// The bytes.
-    pub bytes: &'input [u8],
 }

@@ -1,5 +1,5 @@
 //! The file header (System V ABI chapter 4, "ELF Header").
-ghost use Rattle.std.specs.Prelude.{◌≡◌, ◌≤◌, IfOk, length};
+ghost use Rattle.std.specs.Prelude.{◌≡◌, ◌≤◌, length};
 ghost use Rattle.cfi_elf.specs.declared.error.ElfError.TheVariants.{UnknownClass};
 ghost use Rattle.cfi_elf.specs.declared.error.ElfError.TheVariants.{UnknownDataEncoding};
 ghost use Rattle.cfi_elf.specs.declared.file_header.Class.TheVariants.{Elf32, Elf64};
@@ -9,13 +9,12 @@ ghost use Rattle.cfi_elf.specs.Options.{meaning};
 ghost use Rattle.cfi_elf.specs.Results.{or_missing};
 
 use crate::bytes::Record;
+use crate::constants::EV_CURRENT;
 use crate::error::ElfError;
 use cfi_read_core::RunTimeEndian;
 
 /// The number of bytes of `e_ident` (`EI_NIDENT`).
 const EI_NIDENT: usize = 16;
-
-const EV_CURRENT: u8 = 1;
 
 /// The size of addresses and offsets in the file (`EI_CLASS`).
 #[derive(Clone, Copy, Debug, PartialEq, Eq)]
@@ -87,9 +86,9 @@ pub(crate) fn read_identification(bytes: &[u8]) -> Result<Identification, ElfErr
     };
     let class = class_of(fields.byte(4))?;
     let data = data_of(fields.byte(5))?;
-    let version = fields.byte(6);
+    let version = u32::from(fields.byte(6));
     if version != EV_CURRENT {
-        return Err(ElfError::UnknownVersion(u32::from(version)));
+        return Err(ElfError::UnknownVersion(version));
     }
     Ok(Identification { class, data })
 }

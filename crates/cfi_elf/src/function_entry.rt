@@ -3,16 +3,16 @@
 ghost use Rattle.std.specs.Prelude.{◌≡◌, Some, option_map};
 ghost use Rattle.cfi_read_core.specs.ReaderCalls.{map_ok};
 ghost use Rattle.cfi_elf.specs.ElfFiles.{file_view};
-ghost use Rattle.cfi_elf.specs.FunctionEntries.{described, entry_of, function_descriptors};
+ghost use Rattle.cfi_elf.specs.FunctionEntries.{described, located_value, function_descriptors};
 ghost use Rattle.cfi_elf.specs.FunctionEntries.{function_entry, has_descriptors, located};
 ghost use Rattle.cfi_elf.specs.Sections.{section_view};
 
 use crate::bytes::{Record, part};
 use crate::constants::{EM_ARM, EM_PPC64, ET_REL};
-use crate::elf_file::{ElfFile, Section};
+use crate::elf_file::ElfFile;
 use crate::error::ElfError;
-use crate::symbol::Symbol;
-use crate::symbols::has_type_of_function;
+use crate::sections::Section;
+use crate::symbol::{Symbol, has_type_of_function};
 use cfi_read_core::Endianity;
 
 /// The bytes of a doubleword.
@@ -46,14 +46,14 @@ impl<'input> ElfFile<'input> {
             symbol.now }
     {
         let mut located = *symbol;
-        located.st_value = self.entry_of(descriptors, symbol);
+        located.st_value = self.located_value(descriptors, symbol);
         located
     }
 
     /// The address of the function that a symbol is, or the value of any other symbol.
-    fn entry_of(&self, descriptors: Option<Section<'input>>, symbol: &Symbol) -> u64
-        ensures { result ≡ entry_of (file_view self.now) (option_map section_view descriptors.entry)
-            symbol.now }
+    fn located_value(&self, descriptors: Option<Section<'input>>, symbol: &Symbol) -> u64
+        ensures { result ≡ located_value (file_view self.now)
+            (option_map section_view descriptors.entry) symbol.now }
     {
         if has_type_of_function(symbol) {
             self.function_entry(descriptors, symbol.st_value)

@@ -3,8 +3,8 @@ ghost use Rattle.std.specs.List.Sorted.{IsNonDecreasingBy};
 
 use crate::best_name::best_of;
 use crate::elf_file::ElfFile;
-use crate::function_place::{FunctionPlace, place_of};
-use crate::symbols::Function;
+use crate::function_place::{FunctionPlace, place_in_function};
+use crate::functions::Function;
 use std::alloc::{AllocError, Global};
 
 /// The names of the functions of a file, by the addresses at which these begin.
@@ -18,9 +18,9 @@ impl<'input> FunctionNames<'input> {
     ghost use Rattle.std.specs.Prelude.{◌≡◌, ℕ, None, IfOk, option_map};
     ghost use Rattle.cfi_elf.specs.ElfFiles.{file_view};
     ghost use Rattle.cfi_elf.specs.FunctionNames.{best_in, function_name, function_place, name_in};
-    ghost use Rattle.cfi_elf.specs.FunctionNames.{place_in};
+    ghost use Rattle.cfi_elf.specs.FunctionNames.{place_by_names};
     ghost use Rattle.cfi_elf.specs.FunctionPlaces.{place_view};
-    ghost use Rattle.cfi_elf.specs.SymbolTables.{function_view};
+    ghost use Rattle.cfi_elf.specs.Functions.{function_view};
 
     /// The names of the functions of `ElfFile::functions`. Of several functions that begin at one
     /// address, one with bytes gives the name, then one whose name is global, then one whose name
@@ -32,7 +32,7 @@ impl<'input> FunctionNames<'input> {
         ensures names { (address : ℕ) → IfOk result (λ names.
             name_in names address ≡ function_name (file_view file.now) address) }
         ensures places { (address : ℕ) → IfOk result (λ names.
-            place_in names address ≡ function_place (file_view file.now) address) }
+            place_by_names names address ≡ function_place (file_view file.now) address) }
     {
         let mut functions = file.functions(alloc)?;
         functions.sort_by_key(|function| function.address)?;
@@ -42,7 +42,7 @@ impl<'input> FunctionNames<'input> {
     /// No names. Does not allocate.
     pub fn none(alloc: Global) -> Self
         ensures names { (address : ℕ) → name_in result address ≡ None }
-        ensures places { (address : ℕ) → place_in result address ≡ None }
+        ensures places { (address : ℕ) → place_by_names result address ≡ None }
     {
         FunctionNames {
             functions: Vec::new(alloc),
@@ -59,12 +59,12 @@ impl<'input> FunctionNames<'input> {
 
     /// The address by the function that begins at it, or else nearest before it. Of several
     /// functions that begin there, it is the one that gives the name. Returns `None` where there is
-    /// none, and where the address is behind the function's last byte: a function of size 0 has no
+    /// none, and where the address is after the function's last byte: a function of size 0 has no
     /// bytes.
     ///
     /// Found by halving; does not allocate.
     pub fn place_at(&self, address: u64) -> Option<FunctionPlace<'input>>
-        ensures { option_map place_view result ≡ place_in self.now address }
+        ensures { option_map place_view result ≡ place_by_names self.now address }
     {
         let count = self
             .functions
@@ -73,7 +73,7 @@ impl<'input> FunctionNames<'input> {
             return None;
         }
         let nearest = self.functions.get(count - 1)?;
-        place_of(address, &self.best_at(nearest.address)?)
+        place_in_function(address, &self.best_at(nearest.address)?)
     }
 
     /// The function that begins at the address and gives the name.

@@ -1,7 +1,7 @@
 //! Files of which parts were read.
 ghost use Rattle.std.specs.Prelude.{◌≡◌, ◌+◌, ◌*◌, nat_le, option_map};
 ghost use Rattle.cfi_read_core.specs.ReaderCalls.{map_ok};
-ghost use Rattle.cfi_elf.specs.Images.{bytes_at, image_view, in_part, in_parts, part_of};
+ghost use Rattle.cfi_elf.specs.Images.{bytes_at, image_view, in_part, in_parts, image_part};
 ghost use Rattle.cfi_elf.specs.Images.{part_view, parts_view, whole};
 
 use crate::bytes::{part, size_of};
@@ -51,7 +51,7 @@ impl<'input> Image<'input> {
     /// Fails with `NotRead` where no part has all of them. Does not allocate.
     pub(crate) fn part(&self, offset: u64, size: u64) -> Result<Option<&'input [u8]>, ElfError>
         ensures { map_ok (option_map (λ found. found.now)) result
-            ≡ part_of (image_view self.now) offset size }
+            ≡ image_part (image_view self.now) offset size }
     {
         if !self.has(offset, size) {
             return Ok(None);

@@ -2,22 +2,13 @@
 ghost use Rattle.std.specs.Prelude.{◌≡◌, ◌≤◌, ⊤, length, option_map};
 ghost use Rattle.cfi_read_core.specs.ByteOrder.{is_big};
 ghost use Rattle.cfi_read_core.specs.ReaderCalls.{map_ok};
-ghost use Rattle.cfi_elf.specs.ElfFiles.{file_view};
-ghost use Rattle.cfi_elf.specs.Notes.{Meets, build_id, build_id_among, build_id_in, build_id_of};
-ghost use Rattle.cfi_elf.specs.Notes.{first_note, first_view, is_build_id, name_in, note_header};
-ghost use Rattle.cfi_elf.specs.Notes.{note_view, notes_left, notes_of, padded};
-ghost use Rattle.cfi_elf.specs.SegmentLists.{segments_left};
+ghost use Rattle.cfi_elf.specs.Notes.{Meets, first_note, first_view, note_header, note_view};
+ghost use Rattle.cfi_elf.specs.Notes.{notes_left, notes_of, padded};
 
-use crate::bytes::{Record, before_zero, bytes_from, first_bytes};
-use crate::constants::PT_NOTE;
-use crate::elf_file::ElfFile;
+use crate::bytes::{Record, bytes_from, first_bytes, until_zero};
 use crate::error::ElfError;
-use crate::program_header::ProgramHeader;
-use crate::segments::Segments;
 use cfi_read_core::{Endianity, RunTimeEndian};
 use std::alloc::AllocError;
-
-const NT_GNU_BUILD_ID: u32 = 3;
 
 /// The bytes of a note's header.
 const NOTE_HEADER_SIZE: usize = 12;
@@ -115,75 +106,6 @@ impl<'input> Iterator for Notes<'input> {
     }
 }
 
-impl<'input> ElfFile<'input> {
-    /// The identification of the file's build: what the first note of the name `GNU` and the type
-    /// `NT_GNU_BUILD_ID` says, in the segments of type `PT_NOTE` in the order of their headers.
-    /// Returns `None` where there is none. Of a segment whose notes are cut, those count that are
-    /// whole.
-    ///
-    /// Fails with `ProgramEntrySize` or `ProgramTableOutOfBounds` for the program headers, with
-    /// `SectionTableOutOfBounds` if their number is in section 0 and that goes past the file's end,
-    /// and with `SegmentOutOfBounds`. Does not allocate.
-    #[tactic(auto, unfolding(crate::specs::Notes::build_id))]
-    pub fn build_id(&self) -> Result<Option<&'input [u8]>, ElfError>
-        ensures { map_ok (option_map (λ id. id.now)) result ≡ build_id (file_view self.now) }
-    {
-        let headers = self.segments()?;
-        self.build_id_among(headers)
-    }
-
-    /// The same of the segments of these headers.
-    fn build_id_among(&self, headers: Segments<'input>) -> Result<Option<&'input [u8]>, ElfError>
-        ensures { map_ok (option_map (λ id. id.now)) result
-            ≡ build_id_among (file_view self.now) (segments_left headers.entry) }
-    {
-        for header in headers {
-            if let Some(id) = self.build_id_of(&header)? {
-                return Ok(Some(id));
-            }
-        }
-        Ok(None)
-    }
-
-    /// The same of one segment.
-    #[tactic(auto, unfolding(crate::specs::Notes::build_id_of))]
-    fn build_id_of(&self, header: &ProgramHeader) -> Result<Option<&'input [u8]>, ElfError>
-        ensures { map_ok (option_map (λ id. id.now)) result
-            ≡ build_id_of (file_view self.now) header.now }
-    {
-        if header.p_type != PT_NOTE {
-            return Ok(None);
-        }
-        let bytes = self.segment_bytes(header)?;
-        Ok(build_id_in(Notes::new(bytes, self.endian())))
-    }
-}
-
-/// What the first of the notes says that has an identification of the file's build.
-fn build_id_in(notes: Notes<'_>) -> Option<&[u8]>
-    ensures { option_map (λ id. id.now) result
-        ≡ build_id_in notes.entry.big_endian notes.entry.bytes.now }
-{
-    for note in notes {
-        match note {
-            Ok(note) => {
-                if is_build_id(&note) {
-                    return Some(note.desc);
-                }
-            }
-            Err(_) => return None,
-        }
-    }
-    None
-}
-
-/// Whether the note has an identification of the file's build.
-fn is_build_id(note: &Note<'_>) -> bool
-    ensures { result ≡ is_build_id (note_view note.now) }
-{
-    note.kind == NT_GNU_BUILD_ID && note.name == b"GNU".as_slice()
-}
-
 /// A note's header.
 #[derive(Clone, Copy, Debug)]
 struct NoteHeader {
@@ -214,7 +136,7 @@ fn first_note(bytes: &[u8], big_endian: bool) -> Option<First<'_>>
     let desc = first_bytes(descs, header.n_descsz)?;
     Some(First {
         note: Note {
-            name: name_in(name),
+            name: until_zero(name),
             kind: header.n_type,
             desc,
         },
@@ -239,14 +161,4 @@ fn padded(size: u32) -> u64
     ensures { result ≡ padded size }
 {
     (u64::from(size) + 3) / 4 * 4
-}
-
-/// A name ends before its first zero, if it has one.
-fn name_in(bytes: &[u8]) -> &[u8]
-    ensures { result.now ≡ name_in bytes.now }
-{
-    match before_zero(bytes) {
-        Some(name) => name,
-        None => bytes,
-    }
 }

@@ -1,11 +1,11 @@
 //! The jump of an entry of the procedure linkage table (System V psABI for x86-64, "Procedure
 //! Linkage Table"; Intel 64 and IA-32 Architectures Software Developer's Manual, "JMP", "ENDBR64";
 //! Arm Architecture Reference Manual for A-profile, "ADRP", "LDR (immediate)", "BTI").
-ghost use Rattle.std.specs.Prelude.{◌≡◌, ◌<◌, ◌≤◌, ◌+◌, option_map, length, find, nat_eq};
+ghost use Rattle.std.specs.Prelude.{◌≡◌, ◌<◌, ◌≤◌, option_map, length, find, nat_eq};
 ghost use Rattle.std.specs.List.{starts_with};
 ghost use Rattle.cfi_elf.specs.PltJumps.{aarch64_slot, byte_offset, is_adrp_x16, is_ldr_x17};
-ghost use Rattle.cfi_elf.specs.PltJumps.{jumps, loaded_from, page_distance, pages, pair_slot};
-ghost use Rattle.cfi_elf.specs.PltJumps.{slot_behind, slot_read, x86_64_slot};
+ghost use Rattle.cfi_elf.specs.PltJumps.{indirect_jumps, loaded_from, page_distance, pages};
+ghost use Rattle.cfi_elf.specs.PltJumps.{pair_slot, slot_after, jump_slot, x86_64_slot};
 
 use crate::bytes::{Record, bytes_from, part};
 use crate::constants::{EM_AARCH64, EM_X86_64};
@@ -17,8 +17,8 @@ const BTI_C: &[u8; 4] = b"\x5f\x24\x03\xd5";
 /// The address of the entry of the global offset table that is read by the jump with which these
 /// bytes at an address begin. `None` where they don't begin with such a jump, and on other machines
 /// than x86-64 and AArch64.
-pub(crate) fn slot_read(e_machine: u16, address: u64, bytes: &[u8]) -> Option<u64>
-    ensures { result ≡ slot_read e_machine address bytes.now }
+pub(crate) fn jump_slot(e_machine: u16, address: u64, bytes: &[u8]) -> Option<u64>
+    ensures { result ≡ jump_slot e_machine address bytes.now }
 {
     if e_machine == EM_X86_64 {
         x86_64_slot(address, bytes)
@@ -34,14 +34,14 @@ fn x86_64_slot(address: u64, bytes: &[u8]) -> Option<u64>
     ensures { result ≡ x86_64_slot address bytes.now }
 {
     let size = jump_size(bytes)?;
-    slot_behind(address, bytes, size)
+    slot_after(address, bytes, size)
 }
 
 /// How many bytes are before the distance in the jump with which these bytes begin: those of the
 /// opcode, of its prefix and of ENDBR64.
 fn jump_size(bytes: &[u8]) -> Option<u64>
     ensures value { result ≡ option_map (λ jump. length jump)
-        (find (λ jump. starts_with nat_eq bytes.now jump) jumps) }
+        (find (λ jump. starts_with nat_eq bytes.now jump) indirect_jumps) }
 {
     if bytes.starts_with(b"\xff\x25") {
         Some(2)
@@ -56,10 +56,10 @@ fn jump_size(bytes: &[u8]) -> Option<u64>
     }
 }
 
-/// The operand's address, where its distance is behind so many bytes.
-fn slot_behind(address: u64, bytes: &[u8], size: u64) -> Option<u64>
+/// The operand's address, where its distance is after so many bytes.
+fn slot_after(address: u64, bytes: &[u8], size: u64) -> Option<u64>
     requires { size ≤ 7 }
-    ensures { result ≡ slot_behind address bytes.now size }
+    ensures { result ≡ slot_after address bytes.now size }
 {
     let found = part(bytes, size, 4)?;
     let distance = Record {
@@ -139,7 +139,7 @@ fn page_distance(count: u64) -> u64
     }
 }
 
-/// The number of bytes behind the register's address.
+/// The number of bytes that are added to the register.
 fn byte_offset(word: u32) -> u64
     ensures { result ≡ byte_offset word }
 {

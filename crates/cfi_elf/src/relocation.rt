@@ -1,22 +1,42 @@
 //! The relocations of a section (System V ABI chapter 4, "Relocation").
-ghost use Rattle.std.specs.Prelude.{◌≡◌, ◌<◌, ◌≤◌, length, true, false};
+ghost use Rattle.std.specs.Prelude.{◌≡◌, ◌<◌, ◌≤◌, length, true, false, slice_get};
 ghost use Rattle.cfi_elf.specs.declared.file_header.Class.TheVariants.{Elf32, Elf64};
 ghost use Rattle.cfi_elf.specs.Relocations.{relocation, relocation_bytes, sign_extended};
+ghost use Rattle.cfi_elf.specs.Relocations.{relocations};
+ghost use Rattle.cfi_elf.specs.ElfFiles.{file_view};
 
-use crate::bytes::Record;
+use crate::bytes::{Record, entry};
+use crate::elf_file::ElfFile;
 use crate::file_header::Class;
 
 /// A relocation.
 #[derive(Clone, Copy, Debug, PartialEq, Eq)]
 pub struct Relocation {
-    /// The offset of the place in its section.
+    /// The offset of the field in its section.
     pub r_offset: u64,
     /// The index of the symbol (`ELF32_R_SYM`, `ELF64_R_SYM`).
     pub symbol: u32,
     /// The type (`ELF32_R_TYPE`, `ELF64_R_TYPE`).
     pub kind: u32,
-    /// The addend in two's complement, if it isn't the number at the place.
+    /// The addend in two's complement, if it isn't the number in the field.
     pub r_addend: Option<u64>,
+}
+
+impl<'input> ElfFile<'input> {
+    /// The relocation at an index of a table, or `None` where it has fewer.
+    pub(crate) fn relocation_in(
+        &self,
+        entries: &'input [u8],
+        has_addend: bool,
+        index: usize,
+    ) -> Option<Relocation>
+        ensures { result
+            ≡ slice_get (relocations (file_view self.now) has_addend entries.now) index }
+    {
+        let class = self.identification.class;
+        let bytes = entry(entries, relocation_size(class, has_addend), index)?;
+        Some(parse_relocation(class, has_addend, self.fields(bytes)))
+    }
 }
 
 /// The size of a relocation in bytes.

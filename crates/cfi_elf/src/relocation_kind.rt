@@ -1,14 +1,15 @@
 //! The types of relocations of each machine, by its psABI.
 ghost use Rattle.std.specs.Prelude.{◌≡◌, Some};
-ghost use Rattle.cfi_elf.specs.RelocationKinds.{aarch64, arm, i386, kinds_of, powerpc64, riscv};
-ghost use Rattle.cfi_elf.specs.RelocationKinds.{s390x, x86_64};
+ghost use Rattle.cfi_elf.specs.RelocationKinds.{aarch64_kinds, arm_kinds, i386_kinds, kinds_of};
+ghost use Rattle.cfi_elf.specs.RelocationKinds.{powerpc64_kinds, riscv_kinds, s390x_kinds};
+ghost use Rattle.cfi_elf.specs.RelocationKinds.{x86_64_kinds};
 ghost use Rattle.cfi_elf.specs.Options.{meaning};
 
 use crate::constants::{EM_386, EM_AARCH64, EM_ARM, EM_PPC64, EM_RISCV, EM_S390, EM_X86_64};
 
-/// How many bytes the place of a relocation has.
+/// How many bytes the field of a relocation has.
 #[derive(Clone, Copy, Debug, PartialEq, Eq)]
-pub enum PlaceWidth {
+pub enum FieldWidth {
     /// One.
     Byte,
     /// Two.
@@ -19,30 +20,30 @@ pub enum PlaceWidth {
     Xword,
 }
 
-/// What a relocation makes of its place, by the value of its symbol, its addend, the address of
-/// the place and the number that stands there.
+/// The number that a relocation writes into its field, as the psABIs have it: S is the value of its
+/// symbol, A its addend, P the address of the field, V the number that stands there.
 #[derive(Clone, Copy, Debug, PartialEq, Eq)]
 pub enum Formula {
-    /// Leaves the place as it is.
+    /// V.
     Unchanged,
-    /// The symbol and the addend.
+    /// S + A.
     Absolute,
-    /// The same, less the address of the place.
+    /// S + A - P.
     Relative,
-    /// The number that stands there, and the symbol and the addend.
+    /// V + S + A.
     Added,
-    /// The number that stands there, less the symbol and the addend.
+    /// V - S - A.
     Subtracted,
-    /// The symbol and the addend, in the low six bits of a byte.
+    /// S + A, in the low six bits of a byte.
     LowSix,
-    /// The number that stands there less the symbol and the addend, in the low six bits of a byte.
+    /// V - S - A, in the low six bits of a byte.
     LowSixSubtracted,
 }
 
 /// A type of relocations.
 #[derive(Clone, Copy, Debug, PartialEq, Eq)]
 pub struct RelocationKind {
-    pub width: PlaceWidth,
+    pub width: FieldWidth,
     pub formula: Formula,
 }
 
@@ -51,128 +52,128 @@ pub(crate) fn kind_of(e_machine: u16, number: u32) -> Option<RelocationKind>
     ensures { result ≡ meaning (kinds_of e_machine) number }
 {
     match e_machine {
-        EM_386 => i386(number),
-        EM_PPC64 => powerpc64(number),
-        EM_S390 => s390x(number),
-        EM_ARM => arm(number),
-        EM_X86_64 => x86_64(number),
-        EM_AARCH64 => aarch64(number),
-        EM_RISCV => riscv(number),
+        EM_386 => i386_kind(number),
+        EM_PPC64 => powerpc64_kind(number),
+        EM_S390 => s390x_kind(number),
+        EM_ARM => arm_kind(number),
+        EM_X86_64 => x86_64_kind(number),
+        EM_AARCH64 => aarch64_kind(number),
+        EM_RISCV => riscv_kind(number),
         _ => None,
     }
 }
 
 /// A type of the Intel386.
-fn i386(number: u32) -> Option<RelocationKind>
-    ensures { result ≡ meaning i386 number }
+fn i386_kind(number: u32) -> Option<RelocationKind>
+    ensures { result ≡ meaning i386_kinds number }
 {
     match number {
-        0 => of(PlaceWidth::Byte, Formula::Unchanged),
-        1 => of(PlaceWidth::Word, Formula::Absolute),
-        2 => of(PlaceWidth::Word, Formula::Relative),
+        0 => kind(FieldWidth::Byte, Formula::Unchanged), // R_386_NONE
+        1 => kind(FieldWidth::Word, Formula::Absolute), // R_386_32
+        2 => kind(FieldWidth::Word, Formula::Relative), // R_386_PC32
         _ => None,
     }
 }
 
 /// A type of x86-64.
-fn x86_64(number: u32) -> Option<RelocationKind>
-    ensures { result ≡ meaning x86_64 number }
+fn x86_64_kind(number: u32) -> Option<RelocationKind>
+    ensures { result ≡ meaning x86_64_kinds number }
 {
     match number {
-        0 => of(PlaceWidth::Byte, Formula::Unchanged),
-        1 => of(PlaceWidth::Xword, Formula::Absolute),
-        2 => of(PlaceWidth::Word, Formula::Relative),
-        4 => of(PlaceWidth::Word, Formula::Relative),
-        10 => of(PlaceWidth::Word, Formula::Absolute),
-        11 => of(PlaceWidth::Word, Formula::Absolute),
-        24 => of(PlaceWidth::Xword, Formula::Relative),
+        0 => kind(FieldWidth::Byte, Formula::Unchanged), // R_X86_64_NONE
+        1 => kind(FieldWidth::Xword, Formula::Absolute), // R_X86_64_64
+        2 => kind(FieldWidth::Word, Formula::Relative), // R_X86_64_PC32
+        4 => kind(FieldWidth::Word, Formula::Relative), // R_X86_64_PLT32
+        10 => kind(FieldWidth::Word, Formula::Absolute), // R_X86_64_32
+        11 => kind(FieldWidth::Word, Formula::Absolute), // R_X86_64_32S
+        24 => kind(FieldWidth::Xword, Formula::Relative), // R_X86_64_PC64
         _ => None,
     }
 }
 
 /// A type of AArch64.
-fn aarch64(number: u32) -> Option<RelocationKind>
-    ensures { result ≡ meaning aarch64 number }
+fn aarch64_kind(number: u32) -> Option<RelocationKind>
+    ensures { result ≡ meaning aarch64_kinds number }
 {
     match number {
-        0 => of(PlaceWidth::Byte, Formula::Unchanged),
-        257 => of(PlaceWidth::Xword, Formula::Absolute),
-        258 => of(PlaceWidth::Word, Formula::Absolute),
-        260 => of(PlaceWidth::Xword, Formula::Relative),
-        261 => of(PlaceWidth::Word, Formula::Relative),
+        0 => kind(FieldWidth::Byte, Formula::Unchanged), // R_AARCH64_NONE
+        257 => kind(FieldWidth::Xword, Formula::Absolute), // R_AARCH64_ABS64
+        258 => kind(FieldWidth::Word, Formula::Absolute), // R_AARCH64_ABS32
+        260 => kind(FieldWidth::Xword, Formula::Relative), // R_AARCH64_PREL64
+        261 => kind(FieldWidth::Word, Formula::Relative), // R_AARCH64_PREL32
         _ => None,
     }
 }
 
 /// A type of Arm.
-fn arm(number: u32) -> Option<RelocationKind>
-    ensures { result ≡ meaning arm number }
+fn arm_kind(number: u32) -> Option<RelocationKind>
+    ensures { result ≡ meaning arm_kinds number }
 {
     match number {
-        0 => of(PlaceWidth::Byte, Formula::Unchanged),
-        2 => of(PlaceWidth::Word, Formula::Absolute),
-        3 => of(PlaceWidth::Word, Formula::Relative),
+        0 => kind(FieldWidth::Byte, Formula::Unchanged), // R_ARM_NONE
+        2 => kind(FieldWidth::Word, Formula::Absolute), // R_ARM_ABS32
+        3 => kind(FieldWidth::Word, Formula::Relative), // R_ARM_REL32
         _ => None,
     }
 }
 
-/// A type of s390x.
-fn s390x(number: u32) -> Option<RelocationKind>
-    ensures { result ≡ meaning s390x number }
+/// A type of s390x_kind.
+fn s390x_kind(number: u32) -> Option<RelocationKind>
+    ensures { result ≡ meaning s390x_kinds number }
 {
     match number {
-        0 => of(PlaceWidth::Byte, Formula::Unchanged),
-        4 => of(PlaceWidth::Word, Formula::Absolute),
-        5 => of(PlaceWidth::Word, Formula::Relative),
-        22 => of(PlaceWidth::Xword, Formula::Absolute),
-        23 => of(PlaceWidth::Xword, Formula::Relative),
+        0 => kind(FieldWidth::Byte, Formula::Unchanged), // R_390_NONE
+        4 => kind(FieldWidth::Word, Formula::Absolute), // R_390_32
+        5 => kind(FieldWidth::Word, Formula::Relative), // R_390_PC32
+        22 => kind(FieldWidth::Xword, Formula::Absolute), // R_390_64
+        23 => kind(FieldWidth::Xword, Formula::Relative), // R_390_PC64
         _ => None,
     }
 }
 
 /// A type of 64-bit Power.
-fn powerpc64(number: u32) -> Option<RelocationKind>
-    ensures { result ≡ meaning powerpc64 number }
+fn powerpc64_kind(number: u32) -> Option<RelocationKind>
+    ensures { result ≡ meaning powerpc64_kinds number }
 {
     match number {
-        0 => of(PlaceWidth::Byte, Formula::Unchanged),
-        1 => of(PlaceWidth::Word, Formula::Absolute),
-        26 => of(PlaceWidth::Word, Formula::Relative),
-        38 => of(PlaceWidth::Xword, Formula::Absolute),
-        44 => of(PlaceWidth::Xword, Formula::Relative),
+        0 => kind(FieldWidth::Byte, Formula::Unchanged), // R_PPC64_NONE
+        1 => kind(FieldWidth::Word, Formula::Absolute), // R_PPC64_ADDR32
+        26 => kind(FieldWidth::Word, Formula::Relative), // R_PPC64_REL32
+        38 => kind(FieldWidth::Xword, Formula::Absolute), // R_PPC64_ADDR64
+        44 => kind(FieldWidth::Xword, Formula::Relative), // R_PPC64_REL64
         _ => None,
     }
 }
 
 /// A type of RISC-V.
-fn riscv(number: u32) -> Option<RelocationKind>
-    ensures { result ≡ meaning riscv number }
+fn riscv_kind(number: u32) -> Option<RelocationKind>
+    ensures { result ≡ meaning riscv_kinds number }
 {
     match number {
-        0 => of(PlaceWidth::Byte, Formula::Unchanged),
-        1 => of(PlaceWidth::Word, Formula::Absolute),
-        2 => of(PlaceWidth::Xword, Formula::Absolute),
-        33 => of(PlaceWidth::Byte, Formula::Added),
-        34 => of(PlaceWidth::Half, Formula::Added),
-        35 => of(PlaceWidth::Word, Formula::Added),
-        36 => of(PlaceWidth::Xword, Formula::Added),
-        37 => of(PlaceWidth::Byte, Formula::Subtracted),
-        38 => of(PlaceWidth::Half, Formula::Subtracted),
-        39 => of(PlaceWidth::Word, Formula::Subtracted),
-        40 => of(PlaceWidth::Xword, Formula::Subtracted),
-        51 => of(PlaceWidth::Byte, Formula::Unchanged),
-        52 => of(PlaceWidth::Byte, Formula::LowSixSubtracted),
-        53 => of(PlaceWidth::Byte, Formula::LowSix),
-        54 => of(PlaceWidth::Byte, Formula::Absolute),
-        55 => of(PlaceWidth::Half, Formula::Absolute),
-        56 => of(PlaceWidth::Word, Formula::Absolute),
-        57 => of(PlaceWidth::Word, Formula::Relative),
+        0 => kind(FieldWidth::Byte, Formula::Unchanged), // R_RISCV_NONE
+        1 => kind(FieldWidth::Word, Formula::Absolute), // R_RISCV_32
+        2 => kind(FieldWidth::Xword, Formula::Absolute), // R_RISCV_64
+        33 => kind(FieldWidth::Byte, Formula::Added), // R_RISCV_ADD8
+        34 => kind(FieldWidth::Half, Formula::Added), // R_RISCV_ADD16
+        35 => kind(FieldWidth::Word, Formula::Added), // R_RISCV_ADD32
+        36 => kind(FieldWidth::Xword, Formula::Added), // R_RISCV_ADD64
+        37 => kind(FieldWidth::Byte, Formula::Subtracted), // R_RISCV_SUB8
+        38 => kind(FieldWidth::Half, Formula::Subtracted), // R_RISCV_SUB16
+        39 => kind(FieldWidth::Word, Formula::Subtracted), // R_RISCV_SUB32
+        40 => kind(FieldWidth::Xword, Formula::Subtracted), // R_RISCV_SUB64
+        51 => kind(FieldWidth::Byte, Formula::Unchanged), // R_RISCV_RELAX
+        52 => kind(FieldWidth::Byte, Formula::LowSixSubtracted), // R_RISCV_SUB6
+        53 => kind(FieldWidth::Byte, Formula::LowSix), // R_RISCV_SET6
+        54 => kind(FieldWidth::Byte, Formula::Absolute), // R_RISCV_SET8
+        55 => kind(FieldWidth::Half, Formula::Absolute), // R_RISCV_SET16
+        56 => kind(FieldWidth::Word, Formula::Absolute), // R_RISCV_SET32
+        57 => kind(FieldWidth::Word, Formula::Relative), // R_RISCV_32_PCREL
         _ => None,
     }
 }
 
-/// The type of relocations that does this at a place of this width.
-fn of(width: PlaceWidth, formula: Formula) -> Option<RelocationKind>
+/// The type of relocations that writes this into a field of this width.
+fn kind(width: FieldWidth, formula: Formula) -> Option<RelocationKind>
     ensures { result ≡ Some (record { width = width; formula = formula }) }
 {
     Some(RelocationKind { width, formula })

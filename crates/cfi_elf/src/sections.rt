@@ -1,24 +1,28 @@
 //! The sections of a file, by their names (System V ABI chapter 4, "Sections").
-ghost use Rattle.std.specs.Prelude.{◌≡◌, IfOk, option_map, slice_get};
+ghost use Rattle.std.specs.Prelude.{◌≡◌, IfOk, option_map};
 ghost use Rattle.cfi_read_core.specs.ReaderCalls.{map_ok};
 ghost use Rattle.cfi_elf.specs.ElfFiles.{file_view};
 ghost use Rattle.cfi_elf.specs.FoundSections.{FindsSection};
 ghost use Rattle.cfi_elf.specs.Searches.{first_by};
-ghost use Rattle.cfi_elf.specs.Sections.{address_of, contents, debug_frame};
-ghost use Rattle.cfi_elf.specs.Sections.{first_section_header, header_named, is_named, name_at};
-ghost use Rattle.cfi_elf.specs.Sections.{name_section, names_at, section_address, section_count};
-ghost use Rattle.cfi_elf.specs.Sections.{section_headers, section_named, section_names};
-ghost use Rattle.cfi_elf.specs.Sections.{section_table, section_view};
+ghost use Rattle.cfi_elf.specs.Sections.{debug_frame, header_named, is_named, section_address};
+ghost use Rattle.cfi_elf.specs.Sections.{section_named, section_view};
+ghost use Rattle.cfi_elf.specs.SectionTables.{section_headers};
 
-use crate::bytes::{before_zero, bytes_from, entry};
-use crate::constants::{SHF_COMPRESSED, SHT_NOBITS, SHT_NULL};
-use crate::elf_file::{ElfFile, Section};
+use crate::constants::SHT_NULL;
+use crate::elf_file::ElfFile;
 use crate::error::ElfError;
-use crate::section_header::{SectionHeader, parse_section_header, section_header_size};
+use crate::section_header::SectionHeader;
+use crate::string_table::name_at;
 
-const SHN_UNDEF: u32 = 0;
-
-const SHN_XINDEX: u16 = 0xffff;
+/// A section, or the file's bytes of a segment: its address and its bytes, which are part of the
+/// file.
+#[derive(Clone, Copy, Debug)]
+pub struct Section<'input> {
+    /// The address of the first byte (`sh_addr`, `p_vaddr`).
+    pub address: u64,
+    /// The bytes.
+    pub bytes: &'input [u8],
+}
 
 impl<'input> ElfFile<'input> {
     /// The section of this name: its address and its bytes, which are part of the file. Returns
@@ -108,140 +112,6 @@ impl<'input> ElfFile<'input> {
         }
         Ok(None)
     }
-
-    /// The section header at an index of a table, or `None` where it has fewer.
-    pub(crate) fn section_header_in(
-        &self,
-        table: &'input [u8],
-        index: usize,
-    ) -> Option<SectionHeader>
-        ensures { result ≡ slice_get (section_headers (file_view self.now) table.now) index }
-    {
-        let class = self.identification.class;
-        let bytes = entry(table, section_header_size(class), index)?;
-        Some(parse_section_header(class, self.fields(bytes)))
-    }
-
-    /// The bytes of the section headers; none where the file has none.
-    #[tactic(auto, unfolding(crate::specs::Sections::section_table))]
-    pub(crate) fn section_table(&self) -> Result<&'input [u8], ElfError>
-        ensures { map_ok (λ table. table.now) result ≡ section_table (file_view self.now) }
-    {
-        let offset = self.header.offsets.e_shoff;
-        if offset == 0 {
-            return Ok(&[]);
-        }
-        let size = section_header_size(self.identification.class);
-        if u64::from(self.header.sizes.e_shentsize) != size {
-            return Err(ElfError::SectionEntrySize(self.header.sizes.e_shentsize));
-        }
-        let count = self.section_count()?;
-        let error = ElfError::SectionTableOutOfBounds;
-        self.image.table_at(offset, count, size, error)
-    }
-
-    /// Returns the number of sections, which section 0 has where the file header says 0. Fails
-    /// where section 0 can't be read.
-    #[tactic(auto, unfolding(crate::specs::Sections::section_count))]
-    fn section_count(&self) -> Result<u64, ElfError>
-        ensures { result ≡ section_count (file_view self.now) }
-    {
-        if self.header.sizes.e_shnum == 0 {
-            return Ok(self.first_section_header()?.sh_size);
-        }
-        Ok(u64::from(self.header.sizes.e_shnum))
-    }
-
-    /// Section 0, which has the numbers that the file header has no room for.
-    #[tactic(auto, unfolding(crate::specs::Sections::first_section_header))]
-    pub(crate) fn first_section_header(&self) -> Result<SectionHeader, ElfError>
-        ensures { result ≡ first_section_header (file_view self.now) }
-    {
-        let offset = self.header.offsets.e_shoff;
-        let size = section_header_size(self.identification.class);
-        let bytes = self
-            .image
-            .bytes_at(offset, size, ElfError::SectionTableOutOfBounds)?;
-        match self.section_header_in(bytes, 0) {
-            Some(header) => Ok(header),
-            None => Err(ElfError::SectionTableOutOfBounds),
-        }
-    }
-
-    /// The string table with the names of sections.
-    #[tactic(auto, unfolding(crate::specs::Sections::section_names))]
-    pub(crate) fn section_names(&self, table: &'input [u8]) -> Result<&'input [u8], ElfError>
-        ensures { map_ok (λ names. names.now) result
-            ≡ section_names (file_view self.now) table.now }
-    {
-        if table.len() == 0 {
-            return Ok(&[]);
-        }
-        let index = self.name_section()?;
-        self.names_at(table, index)
-    }
-
-    /// Returns the index of the section with the names of sections, which section 0 has where the
-    /// file header has no room for it. Fails where section 0 can't be read.
-    #[tactic(auto, unfolding(crate::specs::Sections::name_section))]
-    fn name_section(&self) -> Result<u32, ElfError>
-        ensures { result ≡ name_section (file_view self.now) }
-    {
-        if self.header.sizes.e_shstrndx == SHN_XINDEX {
-            return Ok(self.first_section_header()?.sh_link);
-        }
-        Ok(u32::from(self.header.sizes.e_shstrndx))
-    }
-
-    /// Returns the contents of the section with an index, a string table; nothing for index 0.
-    /// Fails with `NoNameSection` where there is no such section, and where it can't be read.
-    #[tactic(auto, unfolding(crate::specs::Sections::names_at))]
-    pub(crate) fn names_at(&self, table: &'input [u8], index: u32) -> Result<&'input [u8], ElfError>
-        ensures { map_ok (λ names. names.now) result
-            ≡ names_at (file_view self.now) table.now index }
-    {
-        if index == SHN_UNDEF {
-            return Ok(&[]);
-        }
-        match self.section_header_in(table, index as usize) {
-            Some(header) => self.contents(&header),
-            None => Err(ElfError::NoNameSection(index)),
-        }
-    }
-
-    /// The address of a section, if the file has its bytes.
-    #[tactic(auto, unfolding(crate::specs::Sections::address_of))]
-    fn address_of(&self, header: &SectionHeader) -> Result<u64, ElfError>
-        ensures { result ≡ address_of (file_view self.now) header.now }
-    {
-        if header.sh_type == SHT_NOBITS {
-            return Ok(header.sh_addr);
-        }
-        if header.sh_flags & SHF_COMPRESSED != 0 {
-            return Err(ElfError::Compressed);
-        }
-        if self.image.has(header.sh_offset, header.sh_size) {
-            Ok(header.sh_addr)
-        } else {
-            Err(ElfError::SectionOutOfBounds)
-        }
-    }
-
-    /// The bytes of a section.
-    #[tactic(auto, unfolding(crate::specs::Sections::contents))]
-    pub(crate) fn contents(&self, header: &SectionHeader) -> Result<&'input [u8], ElfError>
-        ensures { map_ok (λ bytes. bytes.now) result
-            ≡ contents (file_view self.now) header.now }
-    {
-        if header.sh_type == SHT_NOBITS {
-            return Ok(&[]);
-        }
-        if header.sh_flags & SHF_COMPRESSED != 0 {
-            return Err(ElfError::Compressed);
-        }
-        let error = ElfError::SectionOutOfBounds;
-        self.image.bytes_at(header.sh_offset, header.sh_size, error)
-    }
 }
 
 /// Whether the section has this name.
@@ -255,22 +125,4 @@ pub(crate) fn is_named(header: &SectionHeader, names: &[u8], name: &[u8]) -> Res
     }
     let found = name_at(names, header.sh_name)?;
     Ok(found == name)
-}
-
-/// The name at an index of a string table.
-#[tactic(auto, unfolding(crate::specs::Sections::name_at))]
-pub(crate) fn name_at(strings: &[u8], index: u32) -> Result<&[u8], ElfError>
-    ensures { map_ok (λ name. name.now) result ≡ name_at strings.now index }
-{
-    if index == 0 {
-        return Ok(&[]);
-    }
-    if u64::from(index) >= strings.len() as u64 {
-        return Err(ElfError::NameOutOfBounds);
-    }
-    let name = bytes_from(strings, u64::from(index));
-    match before_zero(name) {
-        Some(name) => Ok(name),
-        None => Err(ElfError::NameNotTerminated),
-    }
 }

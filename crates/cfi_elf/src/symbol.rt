@@ -2,8 +2,10 @@
 ghost use Rattle.std.specs.Prelude.{◌≡◌, ◌<◌, ◌≤◌, length};
 ghost use Rattle.cfi_elf.specs.declared.file_header.Class.TheVariants.{Elf32, Elf64};
 ghost use Rattle.cfi_elf.specs.Headers.{symbol, symbol_bytes};
+ghost use Rattle.cfi_elf.specs.Symbols.{has_type_of_function, is_function};
 
 use crate::bytes::Record;
+use crate::constants::{SHN_UNDEF, STT_FUNC, STT_GNU_IFUNC};
 use crate::file_header::Class;
 
 /// A symbol.
@@ -69,4 +71,19 @@ fn symbol_64(fields: Record<'_>) -> Symbol
         st_info: fields.byte(4),
         st_shndx: fields.half(6),
     }
+}
+
+/// Whether the symbol is a defined function.
+pub(crate) fn is_function(symbol: &Symbol) -> bool
+    ensures { result ≡ is_function symbol.now }
+{
+    has_type_of_function(symbol) && symbol.st_shndx != SHN_UNDEF
+}
+
+/// Whether the symbol is of a function by its type, defined or not.
+pub(crate) fn has_type_of_function(symbol: &Symbol) -> bool
+    ensures { result ≡ has_type_of_function symbol.now }
+{
+    let symbol_type = symbol.st_info % 16;
+    symbol_type == STT_FUNC || symbol_type == STT_GNU_IFUNC
 }

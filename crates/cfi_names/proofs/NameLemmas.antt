@@ -6,11 +6,11 @@ use Rattle.std.proofs.Math.Dec.{leb-zero}
 use Rattle.std.proofs.lemmas.Bool.{and_parts, le-leb, le-ltb, leb-true, lt-leb, ltb-true}
 use Rattle.cfi_names.specs.declared.Kind.TheVariants.{Shown}
 use Rattle.cfi_names.specs.Utf8.{begins, sequence_length}
-use Rattle.cfi_names.specs.Names.{Part, first_part, is_printable, kind_of, parts, parts_behind, shown, shown_part}
+use Rattle.cfi_names.specs.Names.{Part, first_part, is_printable, kind_of, parts, parts_after, shown, shown_part}
 
 -- ---- the first part, and the others
 
-pub rest_behind : (k : ℕ) (bytes : List ℕ) → parts_behind k bytes ≡ parts (drop k bytes)
+pub rest_behind : (k : ℕ) (bytes : List ℕ) → parts_after k bytes ≡ parts (drop k bytes)
 rest_behind zero bytes = refl
 rest_behind (suc k) [] = refl
 rest_behind (suc k) (b ∷ bytes) = rest_behind k bytes

@@ -37,16 +37,16 @@ first_part bytes =
       bytes = take (sequence_length bytes) bytes;
     }
 
--- those behind so many bytes, which are the rest of a part
-abbrev pub parts_behind : ℕ → List ℕ → List Part
-parts_behind k [] = []
-parts_behind zero (b ∷ bytes) =
+-- those after so many bytes, which are the rest of a part
+abbrev pub parts_after : ℕ → List ℕ → List Part
+parts_after k [] = []
+parts_after zero (b ∷ bytes) =
     first_part (b ∷ bytes)
-    ∷ parts_behind (length (first_part (b ∷ bytes)).bytes - 1) bytes
-parts_behind (suc k) (b ∷ bytes) = parts_behind k bytes
+    ∷ parts_after (length (first_part (b ∷ bytes)).bytes - 1) bytes
+parts_after (suc k) (b ∷ bytes) = parts_after k bytes
 
 abbrev pub parts : List ℕ → List Part
-parts name = parts_behind 0 name
+parts name = parts_after 0 name
 
 -- ---- what is printed
 

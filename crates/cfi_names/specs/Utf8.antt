@@ -24,7 +24,7 @@ sequence_length bytes =
     else if begins ((0xf4, 0xf4) ∷ (0x80, 0x8f) ∷ (0x80, 0xbf) ∷ (0x80, 0xbf) ∷ []) bytes then 4
     else 0
 
--- the bits of Table 3-6: those of the first byte behind its mark, and six of each other one
+-- the bits of Table 3-6: those of the first byte after its mark, and six of each other one
 abbrev pub scalar : List ℕ → ℕ
 scalar (a ∷ []) = a
 scalar (a ∷ b ∷ []) = a % 32 * 64 + b % 64

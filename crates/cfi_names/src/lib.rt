@@ -6,11 +6,14 @@
 ghost use Rattle.std.specs.Prelude.{◌≡◌, ◌<◌, ◌++◌, IfOk, OnOk, false, flat_map, length};
 ghost use Rattle.std.specs.Fmt.{digit_glyph};
 ghost use Rattle.std.specs.List.{list_all};
-ghost use Rattle.cfi_names.specs.Utf8.{scalar, sequence_length};
 ghost use Rattle.cfi_names.specs.Names.{byte_escape, first_part, is_control};
 ghost use Rattle.cfi_names.specs.Names.{is_printable, kind_of, part_view, shown, shown_part};
 
+mod utf8;
+
 use std::alloc::{AllocError, Global};
+pub use utf8::scalar;
+use utf8::sequence_length;
 
 /// What a part of a name is.
 #[derive(Clone, Copy, Debug, PartialEq, Eq)]
@@ -51,26 +54,7 @@ pub fn first_part(bytes: &[u8]) -> Part<'_>
     }
 }
 
-/// Returns how many bytes the character of UTF-8 has that the bytes begin with, 0 where they begin
-/// with none (The Unicode Standard, Table 3-7).
-fn sequence_length(bytes: &[u8]) -> usize
-    ensures { result ≡ sequence_length bytes.now }
-{
-    match bytes {
-        [0x00..=0x7f, ..] => 1,
-        [0xc2..=0xdf, 0x80..=0xbf, ..] => 2,
-        [0xe0, 0xa0..=0xbf, 0x80..=0xbf, ..] => 3,
-        [0xe1..=0xec, 0x80..=0xbf, 0x80..=0xbf, ..] => 3,
-        [0xed, 0x80..=0x9f, 0x80..=0xbf, ..] => 3,
-        [0xee..=0xef, 0x80..=0xbf, 0x80..=0xbf, ..] => 3,
-        [0xf0, 0x90..=0xbf, 0x80..=0xbf, 0x80..=0xbf, ..] => 4,
-        [0xf1..=0xf3, 0x80..=0xbf, 0x80..=0xbf, 0x80..=0xbf, ..] => 4,
-        [0xf4, 0x80..=0x8f, 0x80..=0xbf, 0x80..=0xbf, ..] => 4,
-        _ => 0,
-    }
-}
-
-/// Returns whether a character is shown as it is.
+/// Returns whether a character is a control character, or is shown as it is.
 fn kind_of(character: &[u8]) -> Kind
     ensures { result ≡ kind_of character.now }
 {
@@ -86,22 +70,6 @@ fn is_control(number: u32) -> bool
     ensures { result ≡ is_control number }
 {
     number < 0x20 || 0x7f <= number && number <= 0x9f
-}
-
-/// Returns the number of the character of UTF-8 that these bytes are, and of one byte alone its
-/// value (The Unicode Standard, Table 3-6).
-pub fn scalar(character: &[u8]) -> u32
-    ensures { result ≡ scalar character.now }
-{
-    match character {
-        [a] => *a as u32,
-        [a, b] => *a as u32 % 32 * 64 + *b as u32 % 64,
-        [a, b, c] => (*a as u32 % 16 * 64 + *b as u32 % 64) * 64 + *c as u32 % 64,
-        [a, b, c, d] => {
-            ((*a as u32 % 8 * 64 + *b as u32 % 64) * 64 + *c as u32 % 64) * 64 + *d as u32 % 64
-        }
-        _ => 0,
-    }
 }
 
 /// Returns whether each byte of a name is printable ASCII. Such a name is shown as it is.

@@ -1,7 +1,7 @@
 use Rattle.std.proofs.Common.{◌≡◌, Some, drop, map, option_map}
 use Rattle.std.specs.List.{fold}
 use Rattle.cfi_elf.specs.BestNames.{best, better_of}
-use Rattle.cfi_elf.specs.SymbolTables.{function_view}
+use Rattle.cfi_elf.specs.Functions.{function_view}
 use Rattle.cfi_elf.proofs.best_name.best_of.Given as goal
 
 abbrev pub invariant-loop-function : goal.invariant-loop-function

@@ -1,7 +1,8 @@
 use Rattle.std.proofs.Common.{◌≡◌, ◌++◌, true, drop}
 use Rattle.std.specs.List.{filter_map}
 use Rattle.cfi_elf.specs.ElfFiles.{file_view}
-use Rattle.cfi_elf.specs.PltAddresses.{slot_of, slots_view}
+use Rattle.cfi_elf.specs.GotEntries.{slot_of}
+use Rattle.cfi_elf.specs.PltSections.{got_relocations_view}
 use Rattle.cfi_elf.specs.Relocations.{relocations}
 use Rattle.cfi_elf.proofs.elf_file.ElfFile.add_slots.Given as goal
 
@@ -9,6 +10,6 @@ use Rattle.cfi_elf.proofs.elf_file.ElfFile.add_slots.Given as goal
 abbrev pub invariant-loop-index : goal.invariant-loop-index
 invariant-loop-index l =
     let file = file_view l.self in
-    let f = slot_of file (slots_view l.slots) l.name in
+    let f = slot_of file (got_relocations_view l.got) l.name in
     let all = relocations file true l.entries in
     l.found.items ++ filter_map f (drop l.index all) ≡ l.fn.found.items ++ filter_map f all

@@ -1,6 +1,6 @@
 use Rattle.std.proofs.Common.{◌≡◌}
 use Rattle.cfi_elf.specs.ElfFiles.{file_view}
-use Rattle.cfi_elf.specs.Notes.{build_id_among}
+use Rattle.cfi_elf.specs.BuildIds.{build_id_among}
 use Rattle.cfi_elf.specs.SegmentLists.{segments_left}
 use Rattle.cfi_elf.proofs.elf_file.ElfFile.build_id_among.Given as goal
 

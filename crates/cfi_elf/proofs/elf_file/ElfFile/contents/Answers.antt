@@ -1,6 +1,6 @@
 use Rattle.std.proofs.Common.{refl, sym, ◌∙◌}
 use Rattle.cfi_elf.specs.ElfFiles.{file_view}
-use Rattle.cfi_elf.specs.Sections.{contents}
+use Rattle.cfi_elf.specs.SectionContents.{contents}
 use Rattle.cfi_elf.proofs.Contents.{compressed, uncompressed}
 use Rattle.cfi_elf.proofs.elf_file.ElfFile.contents.Goals as goal
 

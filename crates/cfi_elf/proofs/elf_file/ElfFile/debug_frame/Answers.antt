@@ -1,6 +1,6 @@
 use Rattle.std.proofs.Common.{ap, sym, ◌∙◌, Ok, Option}
 use Rattle.std.specs.Prelude.{option_map}
-use Rattle.cfi_elf.specs.declared.elf_file.Section.{Section}
+use Rattle.cfi_elf.specs.declared.sections.Section.{Section}
 use Rattle.cfi_elf.specs.ElfFiles.{file_view}
 use Rattle.cfi_elf.specs.Sections.{section_view}
 use Rattle.cfi_elf.proofs.Cases.{compressed_there}

@@ -3,7 +3,7 @@ use Rattle.cfi_elf.specs.Searches.{first_by}
 use Rattle.cfi_elf.specs.Sections.{is_named}
 use Rattle.cfi_elf.specs.ElfFiles.{class_of_file, file_view}
 use Rattle.cfi_elf.specs.Headers.{section_header_bytes}
-use Rattle.cfi_elf.specs.Sections.{section_header_of, section_headers}
+use Rattle.cfi_elf.specs.SectionTables.{section_header_of, section_headers}
 use Rattle.cfi_elf.proofs.EntrySteps.{none_is, none_left, search_step}
 use Rattle.cfi_elf.proofs.elf_file.ElfFile.first_named.Goals as goal
 

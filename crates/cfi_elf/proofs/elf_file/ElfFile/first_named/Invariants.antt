@@ -1,7 +1,8 @@
 use Rattle.std.proofs.Common.{◌≡◌, drop}
 use Rattle.cfi_elf.specs.ElfFiles.{file_view}
 use Rattle.cfi_elf.specs.Searches.{first_by}
-use Rattle.cfi_elf.specs.Sections.{is_named, section_headers}
+use Rattle.cfi_elf.specs.Sections.{is_named}
+use Rattle.cfi_elf.specs.SectionTables.{section_headers}
 use Rattle.cfi_elf.proofs.elf_file.ElfFile.first_named.Given as goal
 
 -- the headers that are left give what all give

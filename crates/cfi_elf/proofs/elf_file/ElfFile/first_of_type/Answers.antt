@@ -3,7 +3,7 @@ use Rattle.std.specs.Prelude.{find}
 use Rattle.cfi_elf.specs.SymbolTables.{is_of_type}
 use Rattle.cfi_elf.specs.ElfFiles.{class_of_file, file_view}
 use Rattle.cfi_elf.specs.Headers.{section_header_bytes}
-use Rattle.cfi_elf.specs.Sections.{section_header_of, section_headers}
+use Rattle.cfi_elf.specs.SectionTables.{section_header_of, section_headers}
 use Rattle.cfi_elf.proofs.EntrySteps.{find_step, none_is, none_left}
 use Rattle.cfi_elf.proofs.elf_file.ElfFile.first_of_type.Goals as goal
 

@@ -1,7 +1,7 @@
 use Rattle.std.proofs.Common.{◌≡◌, drop}
 use Rattle.std.specs.Prelude.{find}
 use Rattle.cfi_elf.specs.ElfFiles.{file_view}
-use Rattle.cfi_elf.specs.Sections.{section_headers}
+use Rattle.cfi_elf.specs.SectionTables.{section_headers}
 use Rattle.cfi_elf.specs.SymbolTables.{is_of_type}
 use Rattle.cfi_elf.proofs.elf_file.ElfFile.first_of_type.Given as goal
 

@@ -3,7 +3,7 @@ use Rattle.std.specs.Prelude.{find}
 use Rattle.cfi_elf.specs.Segments.{is_wanted}
 use Rattle.cfi_elf.specs.ElfFiles.{class_of_file, file_view, is_big_file}
 use Rattle.cfi_elf.specs.Headers.{program_header, program_header_bytes}
-use Rattle.cfi_elf.specs.Segments.{program_headers}
+use Rattle.cfi_elf.specs.SegmentLists.{program_headers}
 use Rattle.cfi_elf.proofs.EntrySteps.{find_step, none_is, none_left}
 use Rattle.cfi_elf.proofs.elf_file.ElfFile.first_wanted.Goals as goal
 

@@ -1,7 +1,8 @@
 use Rattle.std.proofs.Common.{◌≡◌, drop}
 use Rattle.std.specs.Prelude.{find}
 use Rattle.cfi_elf.specs.ElfFiles.{file_view}
-use Rattle.cfi_elf.specs.Segments.{is_wanted, program_headers}
+use Rattle.cfi_elf.specs.Segments.{is_wanted}
+use Rattle.cfi_elf.specs.SegmentLists.{program_headers}
 use Rattle.cfi_elf.proofs.elf_file.ElfFile.first_wanted.Given as goal
 
 -- the headers that are left give what all give

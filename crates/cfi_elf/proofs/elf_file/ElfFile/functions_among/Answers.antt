@@ -1,7 +1,7 @@
 use Rattle.std.proofs.Common.{◌++◌, ◌∙◌, ◌+◌, drop, map, sym, ap, append-nil, arith}
 use Rattle.std.specs.List.{filter_map}
-use Rattle.cfi_elf.specs.FunctionNames.{named_function}
-use Rattle.cfi_elf.specs.SymbolTables.{function_view}
+use Rattle.cfi_elf.specs.Functions.{named_function}
+use Rattle.cfi_elf.specs.Functions.{function_view}
 use Rattle.cfi_elf.specs.ElfFiles.{class_of_file, file_view, is_big_file}
 use Rattle.cfi_elf.specs.FunctionEntries.{located}
 use Rattle.cfi_elf.specs.Headers.{symbol, symbol_bytes}

@@ -1,8 +1,9 @@
 use Rattle.std.proofs.Common.{◌≡◌, ◌++◌, drop, map}
 use Rattle.std.specs.List.{filter_map}
 use Rattle.cfi_elf.specs.ElfFiles.{file_view}
-use Rattle.cfi_elf.specs.FunctionNames.{named_function}
-use Rattle.cfi_elf.specs.SymbolTables.{function_view, symbol_table_view, symbols}
+use Rattle.cfi_elf.specs.Functions.{named_function}
+use Rattle.cfi_elf.specs.Functions.{function_view}
+use Rattle.cfi_elf.specs.SymbolTables.{symbol_table_view, symbols}
 use Rattle.cfi_elf.proofs.elf_file.ElfFile.functions_among.Given as goal
 
 -- the functions so far, and those of the symbols that are left

@@ -1,13 +1,14 @@
 use Rattle.std.proofs.Common.{◌≡◌, ℕ, drop}
 use Rattle.cfi_elf.specs.ElfFiles.{file_view}
-use Rattle.cfi_elf.specs.Relocations.{relocate_by}
+use Rattle.cfi_elf.specs.RelocatedFiles.{relocate_by}
 use Rattle.cfi_elf.specs.InOrder.{in_order}
-use Rattle.cfi_elf.specs.Sections.{section_headers}
+use Rattle.cfi_elf.specs.SectionTables.{section_headers}
+use Rattle.cfi_elf.specs.RelocatedFiles.{tables_view}
 use Rattle.cfi_elf.proofs.elf_file.ElfFile.relocate_all.Given as goal
 
 -- the steps that are left make of the bytes so far what all make of those at first
 abbrev pub invariant-loop-index : goal.invariant-loop-index
 invariant-loop-index l =
-    let step = (λ (index : ℕ). relocate_by (file_view l.self) l.table l.names l.symbols) in
-    let all = section_headers (file_view l.self) l.table in
+    let step = (λ (index : ℕ). relocate_by (file_view l.self) (tables_view l.tables)) in
+    let all = section_headers (file_view l.self) l.tables.sections.now in
     in_order step l.index (drop l.index all) l.bytes ≡ in_order step 0 all l.fn.bytes

@@ -1,6 +1,6 @@
 use Rattle.std.proofs.Common.{ap, refl, sym, ◌∙◌, Ok, Some}
 use Rattle.cfi_elf.specs.ElfFiles.{file_view}
-use Rattle.cfi_elf.specs.Sections.{section_named, section_of}
+use Rattle.cfi_elf.specs.Sections.{section_named, section_by_header}
 use Rattle.cfi_elf.specs.Results.{if_found}
 use Rattle.cfi_elf.proofs.FoundSections.{first_found, none_found}
 use Rattle.cfi_elf.proofs.Chains.{ok_then}
@@ -20,4 +20,4 @@ pub returns-clause-value : goal.returns-clause-value
 unfolding section_named
 returns-clause-value c =
     ok_then _ _ (λ section. Ok (Some section)) (ok_then _ _ (λ bytes. Ok (record { address = c.in-Some.header.sh_addr; bytes = bytes })) c.in_ok-bytes.ensures)
-    ∙ ok_then _ _ (if_found (section_of (file_view c.args.self.now))) (sym (ap Ok c.in-Some.is) ∙ c.in_ok-header.ensures)
+    ∙ ok_then _ _ (if_found (section_by_header (file_view c.args.self.now))) (sym (ap Ok c.in-Some.is) ∙ c.in_ok-header.ensures)

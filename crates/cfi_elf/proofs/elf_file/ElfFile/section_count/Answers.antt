@@ -1,5 +1,5 @@
 use Rattle.std.proofs.Common.{Ok, ◌∙◌, eq-eqb}
-use Rattle.cfi_elf.specs.Sections.{section_count}
+use Rattle.cfi_elf.specs.SectionTables.{section_count}
 use Rattle.cfi_elf.proofs.Chains.{chosen, ok_then}
 use Rattle.cfi_elf.proofs.elf_file.ElfFile.section_count.Goals as goal
 

@@ -1,6 +1,6 @@
 use Rattle.std.proofs.Common.{◌≡◌, ◌∙◌, Ok, Err, sym, ap, rules, arith}
 use Rattle.cfi_elf.specs.Searches.{first_by}
-use Rattle.cfi_elf.specs.SymbolTables.{is_symbol_named}
+use Rattle.cfi_elf.specs.SymbolAddresses.{is_symbol_named}
 use Rattle.cfi_elf.specs.ElfFiles.{class_of_file, file_view, is_big_file}
 use Rattle.cfi_elf.specs.FunctionEntries.{located}
 use Rattle.cfi_elf.specs.Headers.{symbol, symbol_bytes}

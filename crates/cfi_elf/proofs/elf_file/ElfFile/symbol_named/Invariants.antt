@@ -1,7 +1,8 @@
 use Rattle.std.proofs.Common.{◌≡◌, drop}
 use Rattle.cfi_elf.specs.ElfFiles.{file_view}
 use Rattle.cfi_elf.specs.Searches.{first_by}
-use Rattle.cfi_elf.specs.SymbolTables.{is_symbol_named, symbol_table_view, symbols}
+use Rattle.cfi_elf.specs.SymbolAddresses.{is_symbol_named}
+use Rattle.cfi_elf.specs.SymbolTables.{symbol_table_view, symbols}
 use Rattle.cfi_elf.proofs.elf_file.ElfFile.symbol_named.Given as goal
 
 -- the symbols that are left give what all give

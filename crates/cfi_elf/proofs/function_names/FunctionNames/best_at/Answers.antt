@@ -1,9 +1,9 @@
 use Rattle.std.proofs.Common.{◌<◌, ◌≤◌, List, length, nat_le, nat_lt, map, ap, ◌∙◌, arith, rules, ⊎_elim}
 use Rattle.std.proofs.lemmas.Bool.{leb-true, leb-false, ltb-true, ltb-false}
 use Rattle.std.proofs.lemmas.List.Sorted.{IsPartitionedBy-leb, IsPartitionedBy-ltb, IsPartitionPoint-from_clause}
-use Rattle.cfi_elf.specs.declared.symbols.Function.{Function}
+use Rattle.cfi_elf.specs.declared.functions.Function.{Function}
 use Rattle.cfi_elf.specs.BestNames.{best}
-use Rattle.cfi_elf.specs.SymbolTables.{function_view}
+use Rattle.cfi_elf.specs.Functions.{function_view}
 use Rattle.cfi_elf.proofs.FunctionLists.{best_between, rises}
 use Rattle.cfi_elf.proofs.function_names.FunctionNames.best_at.Goals as goal
 

@@ -2,7 +2,7 @@ use Rattle.std.proofs.Common.{◌≡◌, rules}
 use Rattle.std.proofs.lemmas.List.Sorted.{IsNonDecreasingBy-from_sort_by_key}
 use Rattle.std.proofs.lemmas.Fn.{always_returns_same}
 use Rattle.cfi_elf.specs.ElfFiles.{file_view}
-use Rattle.cfi_elf.specs.FunctionNames.{named_functions}
+use Rattle.cfi_elf.specs.Functions.{named_functions}
 use Rattle.cfi_elf.proofs.FunctionLists.{named_as_before, placed_as_before}
 use Rattle.cfi_elf.proofs.function_names.FunctionNames.new.Goals as goal
 

@@ -29,8 +29,8 @@ returns-in_err-best_at c =
     ap (option_map place_view) c.from_residual-in_err-best_at.ensures
     ∙ placed fs a k (λ j d less inside. leb-true _ _ (point.0 j d (omega arith) less)) (λ j d up inside. leb-false _ _ (point.1 j d up inside)) x some inside lookup.1 c.args.self.now.sorted _ c.in_err-best_at.ensures
 
-pub place_of-requires : goal.place_of-requires
-place_of-requires c =
+pub place_in_function-requires : goal.place_in_function-requires
+place_in_function-requires c =
     let fs = c.args.self.now.functions.items in
     let a = c.args.address in
     let k = c.partition_point-count.result in
@@ -57,4 +57,4 @@ returns c =
     let last = ltb-true (k - 1) (length fs) (sym lookup.0) in
     let some : 0 < k = omega arith in
     let inside : k ≤ length fs = omega (arith, last, some) in
-    c.place_of.ensures ∙ placed fs a k (λ j d less inside. leb-true _ _ (point.0 j d (omega arith) less)) (λ j d up inside. leb-false _ _ (point.1 j d up inside)) x some inside lookup.1 c.args.self.now.sorted _ c.in_ok-best_at.ensures
+    c.place_in_function.ensures ∙ placed fs a k (λ j d less inside. leb-true _ _ (point.0 j d (omega arith) less)) (λ j d up inside. leb-false _ _ (point.1 j d up inside)) x some inside lookup.1 c.args.self.now.sorted _ c.in_ok-best_at.ensures
