@@ -4,5 +4,5 @@
 pub mod beginnings;
 pub mod refusals;
 
-pub use beginnings::{Beginning, read_as};
+pub use beginnings::read_elf_or_profile;
 pub use refusals::write_input_refusal;

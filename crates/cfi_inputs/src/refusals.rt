@@ -3,7 +3,7 @@ ghost use Rattle.cfi_programs.specs.WriterOutput.{Prints};
 ghost use Rattle.cfi_inputs.specs.Refusals.{input_refusal};
 
 use cfi_object::InputError;
-use cfi_programs::lines::{write_reason, write_refusal_in};
+use cfi_programs::refusals::{write_reason, write_refusal_in};
 use cfi_programs::style::Format;
 use gimli_cfi::Error;
 use std::io;

@@ -1,7 +1,9 @@
 pub mod NumberLemmas
 pub mod Splices
 pub mod ReadParts
+pub mod SameBuilds
 pub mod SameFrames
+pub mod WholeParts
 pub mod SectionReads
 mod RegistersNamed
 mod NumbersRead

@@ -85,6 +85,6 @@ begins_not start word h =
     false_from_ne_true _ (λ e. h (drop (length start) word) (sym (take-append-drop (length start) word) ∙ ap (λ front. front ++ drop (length start) word) ((bytes_eq-Decides _ start).0 e))) in
     rw other refl
 
-pub behind_is : (start word : List ℕ) (r : Option (Bor (List ℕ))) → MatchOption r (FindsTextPrefix start word None) (λ x. StripsPrefix (FindsTextPrefix start) word x.now) → option_map (λ rest. rest.now) r ≡ after_prefix start word
-behind_is start word None h = sym (begins_not start word (λ rest e. h rest e))
-behind_is start word (Some x) (n, found, rest, fits) = ap (λ k. Some k) rest ∙ ap (λ k. Some (drop k word)) found.0 ∙ sym (begins start word (drop n word) found.1)
+pub after_is : (start word : List ℕ) (r : Option (Bor (List ℕ))) → MatchOption r (FindsTextPrefix start word None) (λ x. StripsPrefix (FindsTextPrefix start) word x.now) → option_map (λ rest. rest.now) r ≡ after_prefix start word
+after_is start word None h = sym (begins_not start word (λ rest e. h rest e))
+after_is start word (Some x) (n, found, rest, fits) = ap (λ k. Some k) rest ∙ ap (λ k. Some (drop k word)) found.0 ∙ sym (begins start word (drop n word) found.1)

@@ -7,7 +7,8 @@ use Rattle.std.proofs.Math.Seq.{take-append-add, take-append_seam}
 use Rattle.cfi_elf.specs.declared.image.FilePart.{FilePart}
 use Rattle.cfi_elf.specs.Images.{ArePartsOf, Image, IsPartOf, Part, part_view, parts_view}
 use Rattle.cfi_elf.specs.Fields.{part}
-use Rattle.cfi_object.specs.FileParts.{AreLeft, AreOfInput, IsLength, IsPartRead, are_apart, is_apart, is_free}
+use Rattle.cfi_object.specs.FileInputs.{AreLeft, IsLength, IsPartRead}
+use Rattle.cfi_object.specs.FileParts.{AreOfInput, are_apart, is_apart, is_free}
 use Rattle.cfi_object.proofs.Splices.{spliced, spliced_after, spliced_before, spliced_length, spliced_part}
 
 -- ---- parts of bytes
@@ -225,7 +226,7 @@ more_read known n first parts more read end e free part of =
 
 -- ---- all bytes
 
-all_taken : (xs : List ℕ) → take (length xs) xs ≡ xs
+pub all_taken : (xs : List ℕ) → take (length xs) xs ≡ xs
 all_taken [] = refl
 all_taken (x ∷ xs) = ap (λ (l : List ℕ). x ∷ l) (all_taken xs)
 

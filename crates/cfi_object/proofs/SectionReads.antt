@@ -9,7 +9,10 @@ use Rattle.cfi_elf.specs.Fields.{before_zero}
 use Rattle.cfi_elf.specs.Images.{IsRead}
 use Rattle.cfi_elf.specs.Results.{and_then, if_found}
 use Rattle.cfi_elf.specs.Searches.{first_by}
-use Rattle.cfi_elf.specs.Sections.{address_of, header_named, is_named, name_at, section_address, section_headers, section_names, section_named, section_table}
+use Rattle.cfi_elf.specs.SectionContents.{address_of}
+use Rattle.cfi_elf.specs.Sections.{header_named, is_named, section_address, section_named}
+use Rattle.cfi_elf.specs.StringTables.{name_at, section_names}
+use Rattle.cfi_elf.specs.SectionTables.{section_headers, section_table}
 use Rattle.cfi_elf.proofs.SameResults.{err_read, ok_read, same_first_by, same_or_missing, then_read}
 use Rattle.cfi_object.specs.CallFrames.{eh_frame_of}
 

@@ -62,15 +62,15 @@ eh_frame_at file section text base header =
 -- ---- .eh_frame by its name
 
 -- the first of two addresses that is there
-abbrev pub or_else : Option ℕ → Result (Option ℕ) ElfError → Result (Option ℕ) ElfError
-or_else (Some address) other = Ok (Some address)
-or_else None other = other
+abbrev pub or_address : Option ℕ → Result (Option ℕ) ElfError → Result (Option ℕ) ElfError
+or_address (Some address) other = Ok (Some address)
+or_address None other = other
 
 -- the base of data
 unfoldable pub data_base : File → Result (Option ℕ) ElfError
 data_base file = do
   address ← section_address file (codes ".got.plt")
-  or_else address (section_address file (codes ".got"))
+  or_address address (section_address file (codes ".got"))
 
 unfoldable pub named_frames : File → Section → Result GivenSection ElfError
 named_frames file section = do

@@ -7,6 +7,7 @@ use Rattle.std.specs.Char.{is_ascii_digit, is_ascii_hexdigit}
 use Rattle.std.specs.List.{list_all}
 use Rattle.std.specs.Str.{bytes_eq}
 use Rattle.std.specs.Str.Parse.{digits_value}
+use Rattle.cfi_elf.specs.Options.{or_else}
 
 -- what comes after the start of a word that begins with it
 abbrev pub after_prefix : List ℕ → List ℕ → Option (List ℕ)
@@ -39,17 +40,12 @@ without_prefix word (Some (digit ∷ digits)) = hexadecimal_number word
 without_prefix word (Some []) = decimal_number word
 without_prefix word None = decimal_number word
 
--- after a start, or else after the other
-abbrev pub first_of : Option (List ℕ) → Option (List ℕ) → Option (List ℕ)
-first_of (Some digits) other = Some digits
-first_of None other = other
-
-abbrev pub behind_0x : List ℕ → Option (List ℕ)
-behind_0x word = first_of (after_prefix (codes "0x") word) (after_prefix (codes "0X") word)
+abbrev pub after_0x : List ℕ → Option (List ℕ)
+after_0x word = or_else (after_prefix (codes "0x") word) (after_prefix (codes "0X") word)
 
 abbrev pub number_after : List ℕ → Option (List ℕ) → Option ℕ
 number_after word (Some digits) = hexadecimal_number digits
 number_after word None = without_prefix word (after_prefix (codes "0") word)
 
 abbrev pub number : List ℕ → Option ℕ
-number word = number_after word (behind_0x word)
+number word = number_after word (after_0x word)

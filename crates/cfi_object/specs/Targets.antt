@@ -1,11 +1,12 @@
 -- The addresses that a word names in an ELF file.
 --     target_addresses file word      a number; the name of symbols or a section; or such a name, a
---         plus sign and a number. Behind the name of a symbol may stand an @ and its version, or
+--         plus sign and an offset. After the name of a symbol may stand an @ and its version, or
 --         @plt for its entries in the procedure linkage table
 --     names_entry word      whether the name in a word is of such entries
-use Rattle.std.specs.Prelude.{◌≡◌, ◌⊎◌, ℕ, ◌+◌, ◌-◌, Bool, true, false, List, [], ◌∷◌, length, take}
+use Rattle.std.specs.Prelude.{◌≡◌, ◌⊎◌, ℕ, ◌+◌, ◌-◌, Bool, List, [], ◌∷◌, length, take}
 use Rattle.std.specs.Prelude.{drop, Option, Some, None, Result, Ok, Err, codes, ◌==◌, if◌then◌else◌}
-use Rattle.std.specs.List.{after_first, before_first, filter_map, position_or_len}
+use Rattle.std.specs.List.{after_first, before_first, cons_option, filter_map, position_or_len}
+use Rattle.std.specs.Option.{is_some}
 use Rattle.std.specs.Str.{bytes_eq}
 use Rattle.cfi_elf.specs.declared.error.ElfError.{ElfError}
 use Rattle.cfi_elf.specs.declared.error.ElfError.TheVariants.{OutOfMemory}
@@ -25,28 +26,23 @@ abbrev pub is_plus : ℕ → Bool
 is_plus c = c == 43
 
 -- @ is 64
-abbrev pub is_at : ℕ → Bool
-is_at c = c == 64
+abbrev pub is_at_sign : ℕ → Bool
+is_at_sign c = c == 64
 
 -- those that were found, or others where there are none
-abbrev pub or_others : List ℕ → Result (List ℕ) ElfError → Result (List ℕ) ElfError
-or_others found others = if length found == 0 then others else Ok found
-
--- of the section of this name
-abbrev pub listed : Option ℕ → List ℕ
-listed None = []
-listed (Some address) = address ∷ []
+abbrev pub or_if_none : List ℕ → Result (List ℕ) ElfError → Result (List ℕ) ElfError
+or_if_none found others = if length found == 0 then others else Ok found
 
 unfoldable pub section_addresses : File → List ℕ → Result (List ℕ) ElfError
 section_addresses file name = do
   address ← section_address file name
-  Ok (listed address)
+  Ok (cons_option address [])
 
 -- of the symbols of this name, or else of the section
 unfoldable pub symbols_or_section : File → List ℕ → Result (List ℕ) ElfError
 symbols_or_section file name = do
   found ← symbol_addresses file name
-  or_others found (section_addresses file name)
+  or_if_none found (section_addresses file name)
 
 -- nothing is meant by the empty name
 abbrev pub symbols_named : File → List ℕ → Result (List ℕ) ElfError
@@ -56,9 +52,9 @@ symbols_named file name = if length name == 0 then Ok [] else symbol_addresses f
 -- version is compared
 abbrev pub without_version : File → List ℕ → Result (List ℕ) ElfError
 without_version file name =
-    if position_or_len is_at name == length name
+    if position_or_len is_at_sign name == length name
     then Ok []
-    else symbols_named file (before_first is_at name)
+    else symbols_named file (before_first is_at_sign name)
 
 -- what stands before @plt at the end of a name
 abbrev pub before_plt : List ℕ → Option (List ℕ)
@@ -80,30 +76,30 @@ by_ending file name None = without_version file name
 unfoldable pub with_version_or_not : File → List ℕ → Result (List ℕ) ElfError
 with_version_or_not file name = do
   found ← symbols_or_section file name
-  or_others found (by_ending file name (before_plt name))
+  or_if_none found (by_ending file name (before_plt name))
 
 abbrev pub addresses_named : File → List ℕ → Result (List ℕ) ElfError
 addresses_named file name = if length name == 0 then Ok [] else with_version_or_not file name
 
--- so many bytes behind each, where that is an address
-abbrev pub moved : ℕ → List ℕ → List ℕ
-moved count addresses = filter_map (λ address. below_2_64 (address + count)) addresses
+-- each with an offset, where that is an address
+abbrev pub each_offset : ℕ → List ℕ → List ℕ
+each_offset offset addresses = filter_map (λ address. below_2_64 (address + offset)) addresses
 
-abbrev pub moved_by : Option ℕ → List ℕ → List ℕ
-moved_by None addresses = []
-moved_by (Some count) addresses = moved count addresses
+abbrev pub offset_if_number : Option ℕ → List ℕ → List ℕ
+offset_if_number None addresses = []
+offset_if_number (Some offset) addresses = each_offset offset addresses
 
-unfoldable pub behind_name : File → List ℕ → Option ℕ → Result (List ℕ) ElfError
-behind_name file name count = do
+unfoldable pub offset_from_name : File → List ℕ → Option ℕ → Result (List ℕ) ElfError
+offset_from_name file name offset = do
   addresses ← addresses_named file name
-  Ok (moved_by count addresses)
+  Ok (offset_if_number offset addresses)
 
 -- the first plus sign ends the name
 abbrev pub addresses_by_name : File → List ℕ → Result (List ℕ) ElfError
 addresses_by_name file word =
     if position_or_len is_plus word == length word
     then addresses_named file word
-    else behind_name file (before_first is_plus word) (number (after_first is_plus word))
+    else offset_from_name file (before_first is_plus word) (number (after_first is_plus word))
 
 abbrev pub number_or_name : File → List ℕ → Option ℕ → Result (List ℕ) ElfError
 number_or_name file word (Some address) = Ok (address ∷ [])
@@ -114,12 +110,8 @@ target_addresses file word = number_or_name file word (number word)
 
 -- ---- which words name entries of the procedure linkage table
 
-abbrev pub is_there : Option (List ℕ) → Bool
-is_there None = false
-is_there (Some name) = true
-
 abbrev pub ends_with_plt : List ℕ → Bool
-ends_with_plt name = is_there (before_plt name)
+ends_with_plt name = is_some (before_plt name)
 
 abbrev pub names_entry : List ℕ → Bool
 names_entry word =

@@ -1,15 +1,9 @@
-//! Files whose bytes are read where they are needed, and inputs that are read to their end.
-ghost use Rattle.std.specs.Prelude.{◌≡◌, ◌≢◌, ◌⊎◌, ℕ, [], List, Option, IfErr, IfOk, IfSome, Some};
-ghost use Rattle.cfi_object.specs.FileParts.{IsLength, IsPartRead, IsPartRefused};
+//! Files whose bytes are read where they are needed.
+ghost use Rattle.std.specs.Prelude.{◌≡◌, ℕ, List, Option, IfErr, IfOk, Some};
+ghost use Rattle.cfi_object.specs.FileInputs.{AreLeft, IsLength, IsLengthRefused, IsPartRead};
+ghost use Rattle.cfi_object.specs.FileInputs.{IsPartRefused};
 
 use std::alloc::Global;
-use std::io::Read;
-
-/// How many bytes a read asks for.
-const CHUNK: usize = 16384;
-
-/// How many bytes there is room for before the first read. A system gives memory as it is used.
-const ROOM: usize = 1 << 20;
 
 /// Why there are no bytes.
 #[derive(Clone, Copy)]
@@ -33,8 +27,8 @@ pub trait FileInput {
     /// Fails with `Unreadable` where that can't be told, and with `OutOfMemory`. May allocate where
     /// the file has to be read for it.
     fn length(&mut self, alloc: Global) -> Result<u64, InputError>
-        ensures length { IfOk result (λ length. IsLength (bytes self.old) length) }
-        ensures refused { IfErr result (λ e. e ≢ InputError.NotHexadecimal) }
+        ensures length { IfOk result (IsLength (bytes self.old)) }
+        ensures refused { IfErr result (IsLengthRefused (bytes self.old)) }
         ensures same { bytes self.new ≡ bytes self.old };
 
     /// Reads `size` bytes from the offset on.
@@ -43,7 +37,7 @@ pub trait FileInput {
     /// `OutOfMemory`. Allocates for the bytes.
     fn read_part(&mut self, alloc: Global, offset: u64, size: u64) -> Result<Vec<u8>, InputError>
         ensures read { IfOk result (λ part. IsPartRead (bytes self.old) offset size part.items) }
-        ensures refused { IfErr result (λ e. e ≢ InputError.NotHexadecimal) }
+        ensures refused { IfErr result (IsPartRefused (bytes self.old) offset size) }
         ensures same { bytes self.new ≡ bytes self.old };
 }
 
@@ -64,7 +58,7 @@ impl FileInput for &[u8] {
 /// fewer, and with `OutOfMemory`.
 pub fn copy_part(alloc: Global, bytes: &[u8], offset: u64, size: u64) -> Result<Vec<u8>, InputError>
     ensures read { IfOk result (λ part. IsPartRead (Some bytes.now) offset size part.items) }
-    ensures refused { IfErr result (λ e. IsPartRefused bytes.now offset size e) }
+    ensures refused { IfErr result (IsPartRefused (Some bytes.now) offset size) }
 {
     match offset.checked_add(size) {
         Some(end) if end <= bytes.len() as u64 => {
@@ -85,34 +79,14 @@ fn copy_of(alloc: Global, bytes: &[u8]) -> Result<Vec<u8>, InputError>
     }
 }
 
-/// Reads the input to its end. An interrupted read is a failed one.
-pub fn read_all<R: Read>(alloc: Global, input: &mut R) -> Result<Vec<u8>, InputError>
-    ensures all { IfOk result (λ bytes. IfSome (R.remaining input.old) (λ xs. bytes.items ≡ xs)) }
-    ensures refused { IfErr result (λ e.
-        (e ≡ InputError.Unreadable) ⊎ (e ≡ InputError.OutOfMemory)) }
+/// Reads all bytes of a file.
+///
+/// Fails with `Unreadable` where its length can't be told or the read fails, and with
+/// `OutOfMemory`. Allocates for the bytes.
+pub fn read_whole<I: FileInput>(alloc: Global, input: &mut I) -> Result<Vec<u8>, InputError>
+    ensures read { IfOk result (λ bytes. AreLeft (I.bytes input.old) bytes.items) }
+    ensures same { I.bytes input.new ≡ I.bytes input.old }
 {
-    let mut bytes = room(alloc);
-    let mut chunk = [0u8; CHUNK];
-    for _ in 0..u64::MAX {
-        match input.read(&mut chunk) {
-            Ok(0) => return Ok(bytes),
-            Ok(n) => {
-                if bytes.extend_from_slice(&chunk[..n]).is_err() {
-                    return Err(InputError::OutOfMemory);
-                }
-            }
-            Err(_) => return Err(InputError::Unreadable),
-        }
-    }
-    Err(InputError::Unreadable)
-}
-
-/// Returns an empty vector, with room for the input of a small file where there is memory for it.
-fn room(alloc: Global) -> Vec<u8>
-    ensures { result.items ≡ [] }
-{
-    match Vec::with_capacity(alloc, ROOM) {
-        Ok(bytes) => bytes,
-        Err(_) => Vec::new(alloc),
-    }
+    let length = input.length(alloc)?;
+    input.read_part(alloc, 0, length)
 }

@@ -2,7 +2,7 @@
 ghost use Rattle.std.specs.Prelude.{◌≡◌, option_map};
 ghost use Rattle.std.specs.Char.{is_ascii_digit, is_ascii_hexdigit};
 ghost use Rattle.std.specs.List.{list_all};
-ghost use Rattle.cfi_object.specs.Numbers.{after_prefix, behind_0x, decimal_number};
+ghost use Rattle.cfi_object.specs.Numbers.{after_prefix, after_0x, decimal_number};
 ghost use Rattle.cfi_object.specs.Numbers.{hexadecimal_number, number, without_prefix};
 
 /// Returns what comes after `start` in a word that begins with it.
@@ -18,15 +18,15 @@ pub fn after_prefix<'w>(word: &'w str, start: &str) -> Option<&'w str>
 pub fn number_in(word: &str) -> Option<u64>
     ensures { result ≡ number word.now }
 {
-    match behind_0x(word) {
+    match after_0x(word) {
         Some(digits) => hexadecimal(digits),
         None => without_prefix(word, after_prefix(word, "0")),
     }
 }
 
 /// Returns what comes after the `0x` or `0X` of a word that begins with it.
-fn behind_0x(word: &str) -> Option<&str>
-    ensures { option_map (λ rest. rest.now) result ≡ behind_0x word.now }
+fn after_0x(word: &str) -> Option<&str>
+    ensures { option_map (λ rest. rest.now) result ≡ after_0x word.now }
 {
     match after_prefix(word, "0x") {
         Some(digits) => Some(digits),
@@ -34,11 +34,11 @@ fn behind_0x(word: &str) -> Option<&str>
     }
 }
 
-/// Parses a word without `0x` and `0X`, which has this behind its first digit if that is 0.
-fn without_prefix(word: &str, behind_zero: Option<&str>) -> Option<u64>
-    ensures { result ≡ without_prefix word.now (option_map (λ rest. rest.now) behind_zero.entry) }
+/// Parses a word without `0x` and `0X`, which has this after its first digit if that is 0.
+fn without_prefix(word: &str, after_zero: Option<&str>) -> Option<u64>
+    ensures { result ≡ without_prefix word.now (option_map (λ rest. rest.now) after_zero.entry) }
 {
-    match behind_zero {
+    match after_zero {
         Some(rest) if !rest.is_empty() => hexadecimal(word),
         _ => decimal(word),
     }

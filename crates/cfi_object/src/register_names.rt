@@ -1,8 +1,9 @@
 //! The names of registers, by the machine.
 ghost use Rattle.std.specs.Prelude.{◌≡◌, ◌++◌, Some};
-ghost use Rattle.cfi_object.specs.RegisterNames.{aarch64, arm, i386, m68k, mips, name_text};
-ghost use Rattle.cfi_object.specs.RegisterNames.{powerpc64, register_text, riscv, s390x, sparc};
-ghost use Rattle.cfi_object.specs.RegisterNames.{x86_64};
+ghost use Rattle.cfi_object.specs.RegisterNames.{aarch64_name, arm_name, i386_name, m68k_name};
+ghost use Rattle.cfi_object.specs.RegisterNames.{mips_name, powerpc64_name, register_text};
+ghost use Rattle.cfi_object.specs.RegisterNames.{riscv_name, s390x_name, shown_name, sparc_name};
+ghost use Rattle.cfi_object.specs.RegisterNames.{x86_64_name};
 ghost use Rattle.std.specs.Fmt.{decimal};
 
 use std::fmt;
@@ -35,17 +36,17 @@ pub enum RegisterNames {
     M68k,
 }
 
-/// The name of a register: a text, and a number behind it where there is one.
+/// The name of a register: a text, and a number after it where there is one.
 #[derive(Clone, Copy)]
 pub struct RegisterName {
     /// The text.
     pub text: &'static str,
-    /// The number behind it.
+    /// The number after it.
     pub number: Option<u16>,
 }
 
 impl Display for RegisterName {
-    ghost output = { λ name. Some (name_text name) };
+    ghost output = { λ name. Some (shown_name name) };
 
     fn fmt<W: fmt::Write>(&self, f: &mut Formatter<W>) -> fmt::Result {
         f.write_str(self.text)?;
@@ -60,34 +61,34 @@ impl RegisterNames {
     /// Returns the name of the register that has this DWARF number: its name in the psABI of the
     /// machine, or else `r` and the number. Does not allocate.
     pub fn name(self, register: u16) -> RegisterName
-        ensures { name_text result ≡ register_text self register }
+        ensures { shown_name result ≡ register_text self register }
     {
         match self {
             RegisterNames::Numbers => counted("r", register),
-            RegisterNames::X86_64 => x86_64(register),
-            RegisterNames::I386 => i386(register),
-            RegisterNames::AArch64 => aarch64(register),
-            RegisterNames::Arm => arm(register),
-            RegisterNames::RiscV => riscv(register),
-            RegisterNames::S390x => s390x(register),
-            RegisterNames::PowerPc64 => powerpc64(register),
-            RegisterNames::Mips => mips(register),
-            RegisterNames::Sparc => sparc(register),
-            RegisterNames::M68k => m68k(register),
+            RegisterNames::X86_64 => x86_64_name(register),
+            RegisterNames::I386 => i386_name(register),
+            RegisterNames::AArch64 => aarch64_name(register),
+            RegisterNames::Arm => arm_name(register),
+            RegisterNames::RiscV => riscv_name(register),
+            RegisterNames::S390x => s390x_name(register),
+            RegisterNames::PowerPc64 => powerpc64_name(register),
+            RegisterNames::Mips => mips_name(register),
+            RegisterNames::Sparc => sparc_name(register),
+            RegisterNames::M68k => m68k_name(register),
         }
     }
 }
 
 /// Returns the text alone.
 fn alone(text: &'static str) -> RegisterName
-    ensures { name_text result ≡ text.now }
+    ensures { shown_name result ≡ text.now }
 {
     RegisterName { text, number: None }
 }
 
-/// Returns the text and the number behind it.
+/// Returns the text and the number after it.
 fn counted(text: &'static str, number: u16) -> RegisterName
-    ensures { name_text result ≡ text.now ++ decimal number }
+    ensures { shown_name result ≡ text.now ++ decimal number }
 {
     RegisterName {
         text,
@@ -96,8 +97,8 @@ fn counted(text: &'static str, number: u16) -> RegisterName
 }
 
 /// Returns the name of a register of x86-64.
-fn x86_64(register: u16) -> RegisterName
-    ensures { name_text result ≡ x86_64 register }
+fn x86_64_name(register: u16) -> RegisterName
+    ensures { shown_name result ≡ x86_64_name register }
 {
     match register {
         0 => alone("rax"),
@@ -115,8 +116,8 @@ fn x86_64(register: u16) -> RegisterName
 }
 
 /// Returns the name of a register of i386.
-fn i386(register: u16) -> RegisterName
-    ensures { name_text result ≡ i386 register }
+fn i386_name(register: u16) -> RegisterName
+    ensures { shown_name result ≡ i386_name register }
 {
     match register {
         0 => alone("eax"),
@@ -134,8 +135,8 @@ fn i386(register: u16) -> RegisterName
 }
 
 /// Returns the name of a register of AArch64.
-fn aarch64(register: u16) -> RegisterName
-    ensures { name_text result ≡ aarch64 register }
+fn aarch64_name(register: u16) -> RegisterName
+    ensures { shown_name result ≡ aarch64_name register }
 {
     match register {
         0..=30 => counted("x", register),
@@ -147,8 +148,8 @@ fn aarch64(register: u16) -> RegisterName
 }
 
 /// Returns the name of a register of Arm.
-fn arm(register: u16) -> RegisterName
-    ensures { name_text result ≡ arm register }
+fn arm_name(register: u16) -> RegisterName
+    ensures { shown_name result ≡ arm_name register }
 {
     match register {
         13 => alone("sp"),
@@ -160,8 +161,8 @@ fn arm(register: u16) -> RegisterName
 }
 
 /// Returns the name of a register of RISC-V.
-fn riscv(register: u16) -> RegisterName
-    ensures { name_text result ≡ riscv register }
+fn riscv_name(register: u16) -> RegisterName
+    ensures { shown_name result ≡ riscv_name register }
 {
     match register {
         0..=31 => counted("x", register),
@@ -171,8 +172,8 @@ fn riscv(register: u16) -> RegisterName
 }
 
 /// Returns the name of a register of s390x.
-fn s390x(register: u16) -> RegisterName
-    ensures { name_text result ≡ s390x register }
+fn s390x_name(register: u16) -> RegisterName
+    ensures { shown_name result ≡ s390x_name register }
 {
     match register {
         16 => alone("f0"),
@@ -196,8 +197,8 @@ fn s390x(register: u16) -> RegisterName
 }
 
 /// Returns the name of a register of PowerPC of 64 bits.
-fn powerpc64(register: u16) -> RegisterName
-    ensures { name_text result ≡ powerpc64 register }
+fn powerpc64_name(register: u16) -> RegisterName
+    ensures { shown_name result ≡ powerpc64_name register }
 {
     match register {
         32..=63 => counted("f", register - 32),
@@ -210,8 +211,8 @@ fn powerpc64(register: u16) -> RegisterName
 }
 
 /// Returns the name of a register of MIPS.
-fn mips(register: u16) -> RegisterName
-    ensures { name_text result ≡ mips register }
+fn mips_name(register: u16) -> RegisterName
+    ensures { shown_name result ≡ mips_name register }
 {
     match register {
         0 => alone("zero"),
@@ -239,8 +240,8 @@ fn mips(register: u16) -> RegisterName
 }
 
 /// Returns the name of a register of SPARC.
-fn sparc(register: u16) -> RegisterName
-    ensures { name_text result ≡ sparc register }
+fn sparc_name(register: u16) -> RegisterName
+    ensures { shown_name result ≡ sparc_name register }
 {
     match register {
         0..=7 => counted("g", register),
@@ -253,8 +254,8 @@ fn sparc(register: u16) -> RegisterName
 }
 
 /// Returns the name of a register of the Motorola 68000.
-fn m68k(register: u16) -> RegisterName
-    ensures { name_text result ≡ m68k register }
+fn m68k_name(register: u16) -> RegisterName
+    ensures { shown_name result ≡ m68k_name register }
 {
     match register {
         0..=7 => counted("d", register),

@@ -3,10 +3,10 @@ ghost use Rattle.std.specs.Prelude.{◌≡◌, ◌∷◌, [], IfErr, IfOk, Ok, o
 ghost use Rattle.cfi_elf.specs.declared.error.ElfError.TheVariants.{OutOfMemory};
 ghost use Rattle.cfi_elf.specs.ElfFiles.{file_view};
 ghost use Rattle.cfi_object.specs.Targets.{IsOrNoMemory, addresses_by_name, addresses_named};
-ghost use Rattle.cfi_object.specs.Targets.{before_plt, behind_name, by_ending, ends_with_plt};
-ghost use Rattle.cfi_object.specs.Targets.{entries_named, moved, moved_by, names_entry};
-ghost use Rattle.cfi_object.specs.Targets.{section_addresses, symbols_named, symbols_or_section};
-ghost use Rattle.cfi_object.specs.Targets.{target_addresses};
+ghost use Rattle.cfi_object.specs.Targets.{before_plt, by_ending, each_offset, ends_with_plt};
+ghost use Rattle.cfi_object.specs.Targets.{entries_named, names_entry, offset_from_name};
+ghost use Rattle.cfi_object.specs.Targets.{offset_if_number, section_addresses, symbols_named};
+ghost use Rattle.cfi_object.specs.Targets.{symbols_or_section, target_addresses};
 ghost use Rattle.cfi_object.specs.Targets.{with_version_or_not, without_version};
 
 use crate::number_in;
@@ -14,15 +14,15 @@ use cfi_elf::{ElfError, ElfFile};
 use std::alloc::Global;
 
 /// The addresses that the word names: a number, as `crate::number_in` reads it; the name of
-/// symbols, or where no symbol has it of a section; or such a name, a plus sign and a number of
-/// bytes behind what it names. Where neither a symbol nor a section has a name that ends with
+/// symbols, or where no symbol has it of a section; or such a name, a plus sign and an offset from
+/// what it names. Where neither a symbol nor a section has a name that ends with
 /// `@plt`, it names the entries of the procedure linkage table that go to the symbols of the name
 /// before that, as `objdump -d` prints them. Where none has any other name with an `@`, what stands
 /// before the first one is the name of symbols: so `nm -D` prints a symbol with its version. No
 /// version is compared. The addresses of symbols are in the order of the symbols, each once, those
 /// of entries as `ElfFile::plt_addresses` has them.
 ///
-/// There are none where nothing has the name, what is behind the plus sign is no number, or no sum
+/// There are none where nothing has the name, what is after the plus sign is no number, or no sum
 /// is below 2^64. The first plus sign ends the name.
 ///
 /// Fails as `ElfFile::symbol_addresses` and `ElfFile::section_address`, unless the word is a
@@ -40,7 +40,7 @@ pub fn target_addresses(alloc: Global, file: &ElfFile<'_>, word: &str) -> Result
     }
 }
 
-/// Returns whether the word names entries of the procedure linkage table, or what is behind these:
+/// Returns whether the word names entries of the procedure linkage table, or an offset from these:
 /// whether its name ends with `@plt`. Does not allocate.
 pub fn names_entry(word: &str) -> bool
     ensures { result ≡ names_entry word.now }
@@ -77,7 +77,7 @@ fn alone(alloc: Global, address: u64) -> Result<Vec<u64>, ElfError>
     }
 }
 
-/// The addresses of what has a name, or behind it.
+/// The addresses of what has a name, or at an offset from it.
 fn addresses_by_name(alloc: Global, file: &ElfFile<'_>, word: &str) -> Result<Vec<u64>, ElfError>
     ensures ok { IfOk result (λ found. addresses_by_name (file_view file.now) word.now
         ≡ Ok found.items) }
@@ -85,48 +85,52 @@ fn addresses_by_name(alloc: Global, file: &ElfFile<'_>, word: &str) -> Result<Ve
         IsOrNoMemory (addresses_by_name (file_view file.now) word.now) e) }
 {
     match word.split_once('+') {
-        Some((name, digits)) => behind_name(alloc, file, name, number_in(digits)),
+        Some((name, digits)) => offset_from_name(alloc, file, name, number_in(digits)),
         None => addresses_named(alloc, file, word),
     }
 }
 
-/// The addresses so many bytes behind what has this name.
-#[tactic(auto, unfolding(crate::specs::Targets::behind_name))]
-fn behind_name(
+/// The addresses at an offset from what has this name.
+#[tactic(auto, unfolding(crate::specs::Targets::offset_from_name))]
+fn offset_from_name(
     alloc: Global,
     file: &ElfFile<'_>,
     name: &str,
-    count: Option<u64>,
+    offset: Option<u64>,
 ) -> Result<Vec<u64>, ElfError>
-    ensures ok { IfOk result (λ found. behind_name (file_view file.now) name.now count
+    ensures ok { IfOk result (λ found. offset_from_name (file_view file.now) name.now offset
         ≡ Ok found.items) }
     ensures err { IfErr result (λ e.
-        IsOrNoMemory (behind_name (file_view file.now) name.now count) e) }
+        IsOrNoMemory (offset_from_name (file_view file.now) name.now offset) e) }
 {
     let addresses = addresses_named(alloc, file, name)?;
-    moved_by(alloc, count, addresses.as_slice())
+    offset_if_number(alloc, offset, addresses.as_slice())
 }
 
-/// The addresses so many bytes behind these; none where there is no number. Fails with
+/// These addresses with an offset; none where it is no number. Fails with
 /// `OutOfMemory`.
-fn moved_by(alloc: Global, count: Option<u64>, addresses: &[u64]) -> Result<Vec<u64>, ElfError>
-    ensures ok { IfOk result (λ found. found.items ≡ moved_by count addresses.now) }
+fn offset_if_number(
+    alloc: Global,
+    offset: Option<u64>,
+    addresses: &[u64],
+) -> Result<Vec<u64>, ElfError>
+    ensures ok { IfOk result (λ found. found.items ≡ offset_if_number offset addresses.now) }
     ensures err { IfErr result (λ e. e ≡ OutOfMemory) }
 {
-    match count {
-        Some(count) => moved(alloc, count, addresses),
+    match offset {
+        Some(offset) => each_offset(alloc, offset, addresses),
         None => Ok(Vec::new(alloc)),
     }
 }
 
-/// The addresses so many bytes behind these, where they are below 2^64. Fails with `OutOfMemory`.
-fn moved(alloc: Global, count: u64, addresses: &[u64]) -> Result<Vec<u64>, ElfError>
-    ensures ok { IfOk result (λ found. found.items ≡ moved count addresses.now) }
+/// Each of these addresses with an offset, where that is below 2^64. Fails with `OutOfMemory`.
+fn each_offset(alloc: Global, offset: u64, addresses: &[u64]) -> Result<Vec<u64>, ElfError>
+    ensures ok { IfOk result (λ found. found.items ≡ each_offset offset addresses.now) }
     ensures err { IfErr result (λ e. e ≡ OutOfMemory) }
 {
     let mut all = Vec::new(alloc);
     for address in addresses {
-        if let Some(sum) = address.checked_add(count) {
+        if let Some(sum) = address.checked_add(offset) {
             if all.push(sum).is_err() {
                 return Err(ElfError::OutOfMemory);
             }
