@@ -1,8 +1,9 @@
 -- A profile without its records is that of the whole bytes.
+use Rattle.std.specs.Prelude.{ok_or}
 use Rattle.std.proofs.Common.{◌/◌, ◌≡◌, ◌≤◌, ◌<◌, ◌+◌, ◌-◌, ℕ, Bool, true, false, List, [], ◌∷◌, ◌++◌, Option, Some, None, Result, Ok, Err, refl, sym, ap, ◌∙◌, length, take, drop, arith, subst, ⊎_elim, min, append_assoc}
 use Rattle.std.specs.Prelude.{◌==◌, ◌&&◌, ◌||◌, not, if◌then◌else◌, nat_le, nat_lt, slice_range, map, bit_and, count_ones}
 use Rattle.std.specs.List.{list_all}
-use Rattle.std.specs.Option.{is_some}
+use Rattle.std.specs.Option.{is_some, option_or}
 use Rattle.std.specs.Int.{w64}
 use Rattle.std.proofs.Math.Seq.{drop-append-add, drop-append_seam, take-append_seam}
 use Rattle.std.proofs.lemmas.Bool.{le-leb, lt-leb, ltb-false, cases_lt, eqb-true}
@@ -13,34 +14,38 @@ use Rattle.cfi_read_core.specs.ByteOrder.{is_big}
 use Rattle.cfi_read_core.specs.Numbers.{unsigned}
 use Rattle.cfi_read_core.specs.SliceReaders.{slice_over}
 use Rattle.cfi_perf.specs.declared.error.PerfError.{PerfError}
-use Rattle.cfi_perf.specs.declared.attribute.EventEntry.{EventEntry}
+use Rattle.cfi_perf.specs.declared.event_entry.EventEntry.{EventEntry}
 use Rattle.cfi_perf.specs.declared.file_header.FileHeader.{FileHeader}
 use Rattle.cfi_perf.specs.declared.file_header.FileSection.{FileSection}
-use Rattle.cfi_perf.specs.Results.{and_then, entries, or_error, or_missing, part, read_from}
+use Rattle.cfi_perf.specs.Results.{and_then, or_error}
+use Rattle.cfi_perf.specs.ByteReads.{entries, part, read_from}
 use Rattle.cfi_perf.specs.declared.error.PerfError.TheVariants.{AttributeSize, AttributesOutOfBounds, FeatureOutOfBounds, HeaderCut, HeaderSize}
 use Rattle.cfi_perf.specs.EventNames.{event_name}
 use Rattle.cfi_perf.specs.EventTables.{EventTable, KnownEvent, known_event, known_events, numbers_in}
-use Rattle.cfi_perf.specs.Layouts.{entry, events, first_event}
-use Rattle.cfi_perf.specs.declared.attribute.EntryForm.TheVariants.{Sized}
+use Rattle.cfi_perf.specs.EventEntries.{entry, events, first_event}
+use Rattle.cfi_perf.specs.declared.event_entry.EntryForm.TheVariants.{Sized}
 use Rattle.cfi_perf.specs.Pipes.{is_pipe, is_size}
 use Rattle.cfi_perf.specs.Profiles.{Profile, file_profile, pipe_profile, profile, profile_by}
-use Rattle.cfi_perf.specs.ProfilesAround.{IsAround, IsProfileAround, IsReadAs, has_all, has_feature, has_place, head_if, lies_between, profile_around, profile_of, sections_around}
-use Rattle.cfi_perf.specs.Sections.{EventSection, ProfileHead, Sections, architecture_in, behind_records, build_ids, descriptions, event_table, events_by, feature_place, feature_section, head_of, machine_by, or_nothing, records_at, text_in}
-use Rattle.cfi_perf.specs.FileHeaders.{byte_order, file_header, header_fields, of_one_file}
-use Rattle.cfi_perf.specs.FileParts.{Parts, or_other, part_behind, parts_around, parts_of}
+use Rattle.cfi_perf.specs.ProfilesAround.{IsAround, IsProfileAround, IsReadAs, has_all, has_feature, has_section, head_if, lies_between, profile_around, profile_of, sections_around}
+use Rattle.cfi_perf.specs.EventSections.{EventSection, events_by}
+use Rattle.cfi_perf.specs.ProfileHeads.{ProfileHead, head_of}
+use Rattle.cfi_perf.specs.Sections.{Sections, architecture_in, after_records, build_ids, descriptions, event_table, feature_place, feature_section, or_nothing, records_at}
+use Rattle.cfi_perf.specs.Architectures.{machine_by, text_in}
+use Rattle.cfi_perf.specs.FileHeaders.{byte_order, file_header, header_fields, in_one_file}
+use Rattle.cfi_perf.specs.FileParts.{Parts, part_after, parts_around, file_parts}
 use Rattle.cfi_perf.proofs.FixedReads.{fixed_header, fixed_size, same_from}
 use Rattle.cfi_perf.proofs.RecordSteps.{part_fits}
 use Rattle.cfi_perf.proofs.WindowSteps.{front_part}
 
 -- ---- the bytes, by those that are left out
 
-pub joined : (before behind bytes : List ℕ) → take (length before) bytes ≡ before → drop (length bytes - length behind) bytes ≡ behind → length before + length behind ≤ length bytes →
-    bytes ≡ before ++ (take ((length bytes - length behind) - length before) (drop (length before) bytes) ++ behind)
-joined before behind bytes first last apart =
+pub joined : (before after bytes : List ℕ) → take (length before) bytes ≡ before → drop (length bytes - length after) bytes ≡ after → length before + length after ≤ length bytes →
+    bytes ≡ before ++ (take ((length bytes - length after) - length before) (drop (length before) bytes) ++ after)
+joined before after bytes first last apart =
     let n : ℕ = length before in
-    let k : ℕ = (length bytes - length behind) - n in
-    let end : n + k ≡ length bytes - length behind = omega arith in
-    let rest : drop k (drop n bytes) ≡ behind = drop-drop k n bytes ∙ (ap (λ (i : ℕ). drop i bytes) end ∙ last) in
+    let k : ℕ = (length bytes - length after) - n in
+    let end : n + k ≡ length bytes - length after = omega arith in
+    let rest : drop k (drop n bytes) ≡ after = drop-drop k n bytes ∙ (ap (λ (i : ℕ). drop i bytes) end ∙ last) in
     sym (take-append-drop n bytes)
     ∙ (ap (λ (l : List ℕ). l ++ drop n bytes) first
     ∙ ap (λ (l : List ℕ). before ++ l) (sym (take-append-drop k (drop n bytes)) ∙ ap (λ (l : List ℕ). take k (drop n bytes) ++ l) rest))
@@ -65,7 +70,7 @@ module _ (front others : List ℕ) (some : 104 ≤ length front) where
       ∙ same_from header_fields 88 fixed_header big (drop 16 front) others (omega (arith, length-drop 16 front))
 
   abbrev by_size : Result FileHeader Error → ℕ → Result FileHeader PerfError
-  by_size fields size = if not (size == 104) then Err (HeaderSize size) else and_then (or_error HeaderCut fields) of_one_file
+  by_size fields size = if not (size == 104) then Err (HeaderSize size) else and_then (or_error HeaderCut fields) in_one_file
 
   same_header : (endian : RunTimeEndian) → file_header endian (front ++ others) ≡ file_header endian front
   unfolding file_header
@@ -92,49 +97,49 @@ after_front front back o s past =
     ap (λ (b : Bool). if b then Some (slice_range (front ++ back) o (o + s)) else None) fits
     ∙ ap (λ (l : List ℕ). if nat_le (n + s) (length back) then Some l else None) range
 
-module _ (before among behind : List ℕ) where
+module _ (before among after : List ℕ) where
   abbrev all : List ℕ
-  all = before ++ (among ++ behind)
+  all = before ++ (among ++ after)
 
   abbrev end : ℕ
   end = length before + length among
 
-  count_all : length all ≡ end + length behind
-  count_all = omega (arith, length-append before (among ++ behind), length-append among behind)
+  count_all : length all ≡ end + length after
+  count_all = omega (arith, length-append before (among ++ after), length-append among after)
 
-  part_after : (o s : ℕ) → end ≤ o → part all o s ≡ part behind (o - end) s
-  part_after o s past =
+  later_part : (o s : ℕ) → end ≤ o → part all o s ≡ part after (o - end) s
+  later_part o s past =
       let front : length (before ++ among) ≡ end = length-append before among in
-      ap (λ (l : List ℕ). part l o s) (sym (append_assoc before among behind))
-      ∙ (after_front (before ++ among) behind o s (omega (arith, front, past)) ∙ ap (λ (n : ℕ). part behind (o - n) s) front)
+      ap (λ (l : List ℕ). part l o s) (sym (append_assoc before among after))
+      ∙ (after_front (before ++ among) after o s (omega (arith, front, past)) ∙ ap (λ (n : ℕ). part after (o - n) s) front)
 
-  by_behind : (place : FileSection) (b : Bool) → nat_lt place.offset end ≡ b → is_some (if b then None else part behind (place.offset - end) place.size) ≡ true →
-      parts_of all place ≡ (if b then None else part behind (place.offset - end) place.size)
-  by_behind place true is some = absurd (cc)
-  by_behind place false is some = part_after place.offset place.size (ltb-false place.offset end is)
+  by_after : (place : FileSection) (b : Bool) → nat_lt place.offset end ≡ b → is_some (if b then None else part after (place.offset - end) place.size) ≡ true →
+      file_parts all place ≡ (if b then None else part after (place.offset - end) place.size)
+  by_after place true is some = absurd (cc)
+  by_after place false is some = later_part place.offset place.size (ltb-false place.offset end is)
 
-  by_front : (place : FileSection) (r : Option (List ℕ)) → parts_of before place ≡ r → is_some (or_other r (part_behind end behind place)) ≡ true →
-      parts_of all place ≡ or_other r (part_behind end behind place)
-  by_front place (Some found) is some = front_part before (among ++ behind) place.offset place.size (part_fits before place.offset place.size found is) ∙ is
-  by_front place None is some = by_behind place (nat_lt place.offset end) refl some
+  by_front : (place : FileSection) (r : Option (List ℕ)) → file_parts before place ≡ r → is_some (option_or r (part_after end after place)) ≡ true →
+      file_parts all place ≡ option_or r (part_after end after place)
+  by_front place (Some found) is some = front_part before (among ++ after) place.offset place.size (part_fits before place.offset place.size found is) ∙ is
+  by_front place None is some = by_after place (nat_lt place.offset end) refl some
 
-  same_part : (place : FileSection) → is_some (parts_around before end behind place) ≡ true → parts_of all place ≡ parts_around before end behind place
-  same_part place some = by_front place (parts_of before place) refl some
+  same_part : (place : FileSection) → is_some (parts_around before end after place) ≡ true → file_parts all place ≡ parts_around before end after place
+  same_part place some = by_front place (file_parts before place) refl some
 
   -- the records, and what follows them
-  module _ (place : FileSection) (from : place.offset ≡ length before) (to : min (place.offset + place.size) (length all) ≡ length all - length behind) where
+  module _ (place : FileSection) (from : place.offset ≡ length before) (to : min (place.offset + place.size) (length all) ≡ length all - length after) where
     same_records : records_at place all ≡ among
     same_records =
-        let count : min place.size (length (among ++ behind)) ≡ length among = omega (arith, count_all, length-append among behind, from, to) in
+        let count : min place.size (length (among ++ after)) ≡ length among = omega (arith, count_all, length-append among after, from, to) in
         ap (λ (n : ℕ). take place.size (drop n all)) from
-        ∙ (ap (λ (l : List ℕ). take place.size l) (drop-append_seam before (among ++ behind))
-        ∙ (sym (take_min place.size (among ++ behind)) ∙ (ap (λ (n : ℕ). take n (among ++ behind)) count ∙ take-append_seam among behind)))
+        ∙ (ap (λ (l : List ℕ). take place.size l) (drop-append_seam before (among ++ after))
+        ∙ (sym (take_min place.size (among ++ after)) ∙ (ap (λ (n : ℕ). take n (among ++ after)) count ∙ take-append_seam among after)))
 
-    same_behind : behind_records place all ≡ behind
-    same_behind =
+    same_after : after_records place all ≡ after
+    same_after =
         let count : min (place.offset + place.size) (length all) ≡ length before + length among = omega (arith, count_all, to) in
         sym (drop_min (place.offset + place.size) all)
-        ∙ (ap (λ (n : ℕ). drop n all) count ∙ (drop-append-add before (among ++ behind) (length among) ∙ drop-append_seam among behind))
+        ∙ (ap (λ (n : ℕ). drop n all) count ∙ (drop-append-add before (among ++ after) (length among) ∙ drop-append_seam among after))
 
 -- ---- what the parts say
 
@@ -162,14 +167,14 @@ module _ (s : Sections) (p : Parts) (agree : (place : FileSection) → is_some (
       ap (λ (ids : Option (List ℕ)). record { attribute = e.attribute; ids = numbers_in big ids } ∷ map (known_event big p) entries) (agree e.ids split.0)
       ∙ ap (λ (others : List KnownEvent). known_event big s.parts e ∷ others) (same_events big entries split.1)
 
-  at_place : (r : Result FileSection PerfError) → has_place s r ≡ true → and_then r (λ place. or_missing FeatureOutOfBounds (p place)) ≡ and_then r (λ place. or_missing FeatureOutOfBounds (s.parts place))
-  at_place (Ok place) has = ap (λ (o : Option (List ℕ)). or_missing FeatureOutOfBounds o) (agree place has)
+  at_place : (r : Result FileSection PerfError) → has_section s r ≡ true → and_then r (λ place. ok_or (p place) FeatureOutOfBounds) ≡ and_then r (λ place. ok_or (s.parts place) FeatureOutOfBounds)
+  at_place (Ok place) has = ap (λ (o : Option (List ℕ)). ok_or o FeatureOutOfBounds) (agree place has)
   at_place (Err e) has = refl
 
   same_feature : (bit lower : ℕ) → has_feature s bit lower ≡ true → (bit_and s.features bit == 0) ≡ false → feature_section moved (count_ones (bit_and s.features lower)) ≡ feature_section s (count_ones (bit_and s.features lower))
   same_feature bit lower has set =
       let place = feature_place s (count_ones (bit_and s.features lower)) in
-      at_place place (other_of (bit_and s.features bit == 0) (has_place s place) has set)
+      at_place place (other_of (bit_and s.features bit == 0) (has_section s place) has set)
 
   same_descriptions : has_feature s 0x1000 0xfff ≡ true → descriptions moved ≡ descriptions s
   unfolding descriptions
@@ -224,7 +229,7 @@ module _ (s : Sections) (p : Parts) (agree : (place : FileSection) → is_some (
 abbrev by_attrs : RunTimeEndian → FileHeader → Option (List ℕ) → Result EventSection PerfError
 by_attrs endian header attrs =
     if nat_lt header.attr_size 112 then Err (AttributeSize header.attr_size)
-    else and_then (or_missing AttributesOutOfBounds attrs) (λ attrs.
+    else and_then (ok_or attrs AttributesOutOfBounds) (λ attrs.
     and_then (first_event (events (is_big endian) header.attr_size attrs)) (λ first.
     Ok (record { form = Sized header.attr_size; count = length attrs / header.attr_size; attrs = attrs; first = first })))
 
@@ -232,10 +237,10 @@ found_part : (o : Option (List ℕ)) → is_some o ≡ true → (l : List ℕ) �
 found_part (Some l) is = (l, refl)
 found_part None is = absurd (cc)
 
-same_section : (before others : List ℕ) (endian : RunTimeEndian) (header : FileHeader) → is_some (parts_of before header.attrs) ≡ true → events_by endian (before ++ others) header ≡ events_by endian before header
+same_section : (before others : List ℕ) (endian : RunTimeEndian) (header : FileHeader) → is_some (file_parts before header.attrs) ≡ true → events_by endian (before ++ others) header ≡ events_by endian before header
 unfolding events_by
 same_section before others endian header is =
-    let attrs = found_part (parts_of before header.attrs) is in
+    let attrs = found_part (file_parts before header.attrs) is in
     ap (by_attrs endian header) (front_part before others header.attrs.offset header.attrs.size (part_fits before header.attrs.offset header.attrs.size attrs.0 attrs.1))
 
 if_none : (bytes : List ℕ) (p : Result Profile PerfError) (q : Result (Option ProfileHead) PerfError) (b : Bool) → (b ≡ false → IsReadAs bytes p q) → IsReadAs bytes p (if b then Ok None else q)
@@ -259,83 +264,83 @@ not_false : (b : Bool) → not b ≡ false → b ≡ true
 not_false true is = refl
 not_false false is = absurd (cc)
 
-module _ (before among behind : List ℕ) where
+module _ (before among after : List ℕ) where
   abbrev bytes : List ℕ
-  bytes = before ++ (among ++ behind)
+  bytes = before ++ (among ++ after)
 
   abbrev count : ℕ
   count = length bytes
 
   abbrev size : ℕ
-  size = (count - length behind) - length before
+  size = (count - length after) - length before
 
-  same_count : count - length behind ≡ length before + length among
-  same_count = omega (arith, count_all before among behind)
+  same_count : count - length after ≡ length before + length among
+  same_count = omega (arith, count_all before among after)
 
   same_size_of : size ≡ length among
   same_size_of = omega (arith, same_count)
 
-  agree_at : (e : ℕ) → length before + length among ≡ e → (place : FileSection) → is_some (parts_around before e behind place) ≡ true → parts_of bytes place ≡ parts_around before e behind place
-  agree_at e is place = subst (λ (e : ℕ). is_some (parts_around before e behind place) ≡ true → parts_of bytes place ≡ parts_around before e behind place) is (same_part before among behind place)
+  agree_at : (e : ℕ) → length before + length among ≡ e → (place : FileSection) → is_some (parts_around before e after place) ≡ true → file_parts bytes place ≡ parts_around before e after place
+  agree_at e is place = subst (λ (e : ℕ). is_some (parts_around before e after place) ≡ true → file_parts bytes place ≡ parts_around before e after place) is (same_part before among after place)
 
   module _ (endian : RunTimeEndian) (header : FileHeader) (events : EventSection) where
     abbrev around : Sections
-    around = sections_around endian before behind count header events
+    around = sections_around endian before after count header events
 
     abbrev made : ℕ → List ℕ → Sections
-    made n behind = record { parts = parts_of bytes; endian = endian; events = events; features = header.features; is_cut = nat_lt n header.records.size; end = count - length behind; behind = behind }
+    made n after = record { parts = file_parts bytes; endian = endian; events = events; features = header.features; is_cut = nat_lt n header.records.size; end = count - length after; after = after }
 
     abbrev made_profile : ℕ → List ℕ → List ℕ → Profile
-    made_profile n behind records = record { head = head_of (made n behind) n; records = records }
+    made_profile n after records = record { head = head_of (made n after) n; records = records }
 
-    again : take size (drop ((count - length behind) - size) bytes) ≡ among
+    again : take size (drop ((count - length after) - size) bytes) ≡ among
     again =
-        let place : (count - length behind) - size ≡ length before = omega (arith, same_count, same_size_of) in
+        let place : (count - length after) - size ≡ length before = omega (arith, same_count, same_size_of) in
         ap (λ (n : ℕ). take size (drop n bytes)) place
-        ∙ (ap (λ (l : List ℕ). take size l) (drop-append_seam before (among ++ behind))
-        ∙ (ap (λ (n : ℕ). take n (among ++ behind)) same_size_of ∙ take-append_seam among behind))
+        ∙ (ap (λ (l : List ℕ). take size l) (drop-append_seam before (among ++ after))
+        ∙ (ap (λ (n : ℕ). take n (among ++ after)) same_size_of ∙ take-append_seam among after))
 
-    is_whole : lies_between header before behind count ≡ true → has_all around ≡ true → profile_by endian bytes header events ≡ profile_of bytes (head_of around size)
+    is_whole : lies_between header before after count ≡ true → has_all around ≡ true → profile_by endian bytes header events ≡ profile_of bytes (head_of around size)
     is_whole lies has =
         let first = both _ _ lies in
         let second = both _ _ first.1 in
         let from : header.records.offset ≡ length before = eqb-true _ _ first.0 in
-        let to : min (header.records.offset + header.records.size) count ≡ count - length behind = eqb-true _ _ second.0 in
-        let records : records_at header.records bytes ≡ among = same_records before among behind header.records from to in
-        let behind' : behind_records header.records bytes ≡ behind = same_behind before among behind header.records from to in
+        let to : min (header.records.offset + header.records.size) count ≡ count - length after = eqb-true _ _ second.0 in
+        let records : records_at header.records bytes ≡ among = same_records before among after header.records from to in
+        let after' : after_records header.records bytes ≡ after = same_after before among after header.records from to in
         let counted : length (records_at header.records bytes) ≡ size = ap length records ∙ sym same_size_of in
-        ap (λ (n : ℕ). made_profile n (behind_records header.records bytes) (records_at header.records bytes)) counted
-        ∙ (ap (λ (l : List ℕ). made_profile size l (records_at header.records bytes)) behind'
-        ∙ (ap (λ (l : List ℕ). made_profile size behind l) (records ∙ sym again)
-        ∙ ap (λ (head : ProfileHead). record { head = head; records = take size (drop ((count - length behind) - size) bytes) })
-        (same_head around (parts_of bytes) (agree_at (count - length behind) (sym same_count)) size has)))
+        ap (λ (n : ℕ). made_profile n (after_records header.records bytes) (records_at header.records bytes)) counted
+        ∙ (ap (λ (l : List ℕ). made_profile size l (records_at header.records bytes)) after'
+        ∙ (ap (λ (l : List ℕ). made_profile size after l) (records ∙ sym again)
+        ∙ ap (λ (head : ProfileHead). record { head = head; records = take size (drop ((count - length after) - size) bytes) })
+        (same_head around (file_parts bytes) (agree_at (count - length after) (sym same_count)) size has)))
 
   abbrev whole_of : RunTimeEndian → FileHeader → Result Profile PerfError
   whole_of endian header = and_then (events_by endian bytes header) (λ events. Ok (profile_by endian bytes header events))
 
   abbrev around_of : RunTimeEndian → FileHeader → Result (Option ProfileHead) PerfError
   around_of endian header =
-      if not (lies_between header before behind count) then Ok None
+      if not (lies_between header before after count) then Ok None
       else and_then (events_by endian before header) (λ events. Ok (head_if (around endian header events) size))
 
   by_header : (endian : RunTimeEndian) (header : FileHeader) → IsReadAs bytes (whole_of endian header) (around_of endian header)
   by_header endian header =
-      if_none bytes (whole_of endian header) (and_then (events_by endian before header) (λ events. Ok (head_if (around endian header events) size))) (not (lies_between header before behind count))
-      (λ (known : not (lies_between header before behind count) ≡ false).
-      let lies = not_false (lies_between header before behind count) known in
+      if_none bytes (whole_of endian header) (and_then (events_by endian before header) (λ events. Ok (head_if (around endian header events) size))) (not (lies_between header before after count))
+      (λ (known : not (lies_between header before after count) ≡ false).
+      let lies = not_false (lies_between header before after count) known in
       let attrs = (both _ _ ((both _ _ lies).1)).1 in
-      let same = same_section before (among ++ behind) endian header attrs in
+      let same = same_section before (among ++ after) endian header attrs in
       subst (λ (r : Result EventSection PerfError). IsReadAs bytes (and_then r (λ events. Ok (profile_by endian bytes header events))) (and_then (events_by endian before header) (λ events. Ok (head_if (around endian header events) size)))) (sym same)
       (then_read bytes (events_by endian before header) (λ events. Ok (profile_by endian bytes header events)) (λ events. Ok (head_if (around endian header events) size))
       (λ (events : EventSection). if_head bytes (profile_by endian bytes header events) (head_of (around endian header events) size) (has_all (around endian header events)) (is_whole endian header events lies))))
 
   module _ (some : 104 ≤ length before) (endian : RunTimeEndian) where
     same_pipe : is_pipe endian bytes ≡ is_pipe endian before
-    same_pipe = ap (λ (r : Result ℕ Error). is_size r 16) (same_size before (among ++ behind) some (is_big endian))
+    same_pipe = ap (λ (r : Result ℕ Error). is_size r 16) (same_size before (among ++ after) some (is_big endian))
 
     same_file : file_profile endian bytes ≡ and_then (file_header endian before) (whole_of endian)
     unfolding file_profile
-    same_file = ap (λ (r : Result FileHeader PerfError). and_then r (whole_of endian)) (same_header before (among ++ behind) some endian)
+    same_file = ap (λ (r : Result FileHeader PerfError). and_then r (whole_of endian)) (same_header before (among ++ after) some endian)
 
     same_kind : (if is_pipe endian bytes then pipe_profile endian bytes else file_profile endian bytes)
         ≡ (if is_pipe endian before then pipe_profile endian bytes else and_then (file_header endian before) (whole_of endian))
@@ -352,7 +357,7 @@ module _ (before among behind : List ℕ) where
   profile_read : 104 ≤ length before → profile bytes ≡ and_then (byte_order before) kind_of
   unfolding profile
   profile_read some =
-      ap (λ (r : Result RunTimeEndian PerfError). and_then r (λ endian. if is_pipe endian bytes then pipe_profile endian bytes else file_profile endian bytes)) (same_order before (among ++ behind) some)
+      ap (λ (r : Result RunTimeEndian PerfError). and_then r (λ endian. if is_pipe endian bytes then pipe_profile endian bytes else file_profile endian bytes)) (same_order before (among ++ after) some)
       ∙ ap (λ (f : RunTimeEndian → Result Profile PerfError). and_then (byte_order before) f) (λ i endian. same_kind some endian i)
 
   by_kind : (endian : RunTimeEndian) → IsReadAs bytes (kind_of endian) (around_kind endian)
@@ -360,7 +365,7 @@ module _ (before among behind : List ℕ) where
       if_either bytes (pipe_profile endian bytes) (and_then (file_header endian before) (whole_of endian)) (and_then (file_header endian before) (around_of endian)) (is_pipe endian before)
       (then_read bytes (file_header endian before) (whole_of endian) (around_of endian) (λ (header : FileHeader). by_header endian header))
 
-  around_joined : IsReadAs bytes (profile bytes) (profile_around before behind count)
+  around_joined : IsReadAs bytes (profile bytes) (profile_around before after count)
   unfolding profile_around
   around_joined =
       if_none bytes (profile bytes) (and_then (byte_order before) around_kind) (nat_lt (length before) 104)
@@ -369,9 +374,9 @@ module _ (before among behind : List ℕ) where
       (then_read bytes (byte_order before) kind_of around_kind (λ (endian : RunTimeEndian). by_kind endian)))
 
 -- what is read of the first and the last bytes is the profile
-pub is_around : (before behind : List ℕ) (count : ℕ) (bytes : List ℕ) → IsAround before behind count bytes → IsProfileAround bytes (profile_around before behind count)
-is_around before behind total bytes of =
-    let among : List ℕ = take ((length bytes - length behind) - length before) (drop (length before) bytes) in
-    let is : bytes ≡ before ++ (among ++ behind) = joined before behind bytes of.first of.last of.apart in
-    subst (λ (n : ℕ). IsProfileAround bytes (profile_around before behind n)) of.all
-    (subst (λ (l : List ℕ). IsProfileAround l (profile_around before behind (length l))) (sym is) (around_joined before among behind))
+pub is_around : (before after : List ℕ) (count : ℕ) (bytes : List ℕ) → IsAround before after count bytes → IsProfileAround bytes (profile_around before after count)
+is_around before after total bytes of =
+    let among : List ℕ = take ((length bytes - length after) - length before) (drop (length before) bytes) in
+    let is : bytes ≡ before ++ (among ++ after) = joined before after bytes of.first of.last of.apart in
+    subst (λ (n : ℕ). IsProfileAround bytes (profile_around before after n)) of.all
+    (subst (λ (l : List ℕ). IsProfileAround l (profile_around before after (length l))) (sym is) (around_joined before among after))

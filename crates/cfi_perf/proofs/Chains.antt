@@ -1,8 +1,8 @@
 -- A value that was found, and what comes of it.
 use Rattle.std.proofs.Common.{◌≡◌, Bool, true, false, Option, Some, None, Result, Ok, Err, ap, refl}
-use Rattle.std.specs.Prelude.{if◌then◌else◌}
+use Rattle.std.specs.Prelude.{if◌then◌else◌, ok_or}
 use Rattle.cfi_perf.specs.declared.error.PerfError.{PerfError}
-use Rattle.cfi_perf.specs.Results.{and_then, or_error, or_missing}
+use Rattle.cfi_perf.specs.Results.{and_then, or_error}
 
 pub ok_then : {A B : Type 0} (x : A) (r : Result A PerfError) (next : A → Result B PerfError) → Ok x ≡ r → next x ≡ and_then r next
 ok_then x r next is = ap (λ r. and_then r next) is
@@ -26,7 +26,7 @@ pub not_refused : {A : Type 0} (b : Bool) (e : PerfError) (r : Result A PerfErro
 not_refused true e r y is = absurd (cc)
 not_refused false e r y is = (refl, is)
 
-pub not_missing : {A : Type 0} (e : PerfError) (o : Option A) (y : A) → or_missing e o ≡ Ok y → o ≡ Some y
+pub not_missing : {A : Type 0} (e : PerfError) (o : Option A) (y : A) → ok_or o e ≡ Ok y → o ≡ Some y
 not_missing e (Some x) y is = cc
 not_missing e None y is = absurd (cc)
 

@@ -6,9 +6,9 @@ use Rattle.cfi_read_core.specs.declared.error.Error.{Error}
 use Rattle.cfi_read_core.specs.ReadFunctions.{Read, Source, Position, Outcome}
 use Rattle.cfi_perf.specs.declared.error.PerfError.{PerfError}
 use Rattle.cfi_perf.specs.declared.error.PerfError.TheVariants.{MixedEvents}
-use Rattle.cfi_perf.specs.declared.attribute.EventEntry.{EventEntry}
-use Rattle.cfi_perf.specs.Results.{entries, listed}
-use Rattle.cfi_perf.specs.Layouts.{are_readable}
+use Rattle.cfi_perf.specs.declared.event_entry.EventEntry.{EventEntry}
+use Rattle.cfi_perf.specs.ByteReads.{entries, until_error}
+use Rattle.cfi_perf.specs.EventEntries.{are_readable}
 
 pub one_more : (count index : ℕ) → index < count → count - index ≡ suc (count - (index + 1))
 one_more count index below = omega arith
@@ -20,7 +20,7 @@ pub entry_read : {A : Type 0} (count index : ℕ) (read : Read A) (old new : Pos
 unfolding entries
 entry_read {A = A} count index read old new x below (gives, same) =
     ap (λ n. entries n read old.source old.place) (one_more count index below)
-    ∙ (ap (λ (o : Outcome A). listed o.value (entries (count - (index + 1)) read old.source o.place)) gives
+    ∙ (ap (λ (o : Outcome A). until_error o.value (entries (count - (index + 1)) read old.source o.place)) gives
     ∙ ap (λ (s : Source). x ∷ entries (count - (index + 1)) read s new.place) (sym same))
 
 -- the first of them
@@ -40,7 +40,7 @@ pub entry_refused : {A : Type 0} (n : ℕ) (read : Read A) (source : Source) (pl
     read source place ≡ record { value = Err e; place = place' } → entries n read source place ≡ []
 unfolding entries
 entry_refused zero read source place place' e gives = refl
-entry_refused {A = A} (suc n) read source place place' e gives = ap (λ (o : Outcome A). listed o.value (entries n read source o.place)) gives
+entry_refused {A = A} (suc n) read source place place' e gives = ap (λ (o : Outcome A). until_error o.value (entries n read source o.place)) gives
 
 -- no entries are left
 pub entries_end : {A : Type 0} (count index : ℕ) (read : Read A) (source : Source) (place : ℕ) → count ≤ index → entries (count - index) read source place ≡ []

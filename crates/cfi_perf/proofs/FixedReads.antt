@@ -10,7 +10,7 @@ use Rattle.cfi_read_core.specs.SliceReaders.{slice_over}
 use Rattle.cfi_perf.specs.declared.file_header.FileHeader.{FileHeader}
 use Rattle.cfi_perf.specs.declared.file_header.FileSection.{FileSection}
 use Rattle.cfi_perf.specs.FileHeaders.{feature_bits, file_section, header_fields}
-use Rattle.cfi_perf.specs.Results.{read_from}
+use Rattle.cfi_perf.specs.ByteReads.{read_from}
 use Rattle.cfi_perf.proofs.WindowSteps.{front_range, number_read}
 
 abbrev over : List ℕ → Bool → Source

@@ -13,7 +13,7 @@ use Rattle.cfi_perf.specs.declared.sample.Sample.{Sample as SampleOfCode}
 use Rattle.cfi_perf.specs.declared.windows.RecordWalk.{RecordWalk}
 use Rattle.cfi_perf.specs.declared.error.PerfError.{PerfError}
 use Rattle.cfi_perf.specs.Events.{Event, OtherEvent, Record, event_view, record_view}
-use Rattle.cfi_perf.specs.Indexes.{kept_bytes, kind_of, AreAt, AreIndexed, IsAt, IsKeptIn, IsOfBytes, offset_for, record_by}
+use Rattle.cfi_perf.specs.Indexes.{kept_bytes, place_kind, AreAt, AreIndexed, IsRecordAt, IsKeptIn, IsOfBytes, offset_for, record_by}
 use Rattle.cfi_perf.specs.Windows.{record_alone}
 use Rattle.cfi_perf.proofs.WindowSteps.{front_range}
 
@@ -45,14 +45,14 @@ module _ (walk : RecordWalk) (all : List ℕ) where
 
   -- ---- one more place
 
-  one_more : (kept : List ℕ) (places : List RecordPlace) (records : List Record) (place : RecordPlace) (r : Record) → AreAt walk all kept places records → IsAt walk all kept place r →
+  one_more : (kept : List ℕ) (places : List RecordPlace) (records : List Record) (place : RecordPlace) (r : Record) → AreAt walk all kept places records → IsRecordAt walk all kept place r →
       AreAt walk all kept (places ++ place ∷ []) (records ++ r ∷ [])
   one_more kept [] records place r none at = (r, [], ap (λ (l : List Record). l ++ r ∷ []) none, at, refl)
   one_more kept (first ∷ places) records place r (q, others, is, here, rest) at =
       (q, others ++ r ∷ [], ap (λ (l : List Record). l ++ r ∷ []) is, here, one_more kept places others place r rest at)
 
   added : (kept kept' : List ℕ) (places places' : List RecordPlace) (records : List Record) (place : RecordPlace) (r : Record) → kept' ≡ kept → places' ≡ places ++ place ∷ [] → AreAt walk all kept places records →
-      IsAt walk all kept place r → AreAt walk all kept' places' (records ++ r ∷ [])
+      IsRecordAt walk all kept place r → AreAt walk all kept' places' (records ++ r ∷ [])
   added kept kept' places places' records place r same more are at =
       subst (λ (k : List ℕ). AreAt walk all k places' (records ++ r ∷ [])) (sym same)
       (subst (λ (p : List RecordPlace). AreAt walk all kept p (records ++ r ∷ [])) (sym more) (one_more kept places records place r are at))
@@ -63,10 +63,10 @@ module _ (walk : RecordWalk) (all : List ℕ) where
   told r offset bytes of some = ⊎_elim (λ (none : r.event ≡ OtherEvent). absurd (some none)) (λ found. found) of
 
   in_file : (kept : List ℕ) (r : Record) (offset : ℕ) (bytes : List ℕ) → IsOfBytes walk all r offset bytes → (r.event ≡ OtherEvent → ⊥) →
-      IsAt walk all kept (record { time = r.time; offset = offset; size = length bytes; kind = InFile }) r
+      IsRecordAt walk all kept (record { time = r.time; offset = offset; size = length bytes; kind = InFile }) r
   in_file kept r offset bytes of some = let found = told r offset bytes of some in (refl, ap (record_alone walk) found.1 ∙ found.0, tt)
 
-  nothing_at : (kept : List ℕ) (r : Record) (offset size : ℕ) → r.event ≡ OtherEvent → IsAt walk all kept (record { time = r.time; offset = offset; size = size; kind = Nothing }) r
+  nothing_at : (kept : List ℕ) (r : Record) (offset size : ℕ) → r.event ≡ OtherEvent → IsRecordAt walk all kept (record { time = r.time; offset = offset; size = size; kind = Nothing }) r
   nothing_at kept r offset size none = (refl, ap (λ (e : Event). with_time r.time e) (sym none), tt)
 
   seam : (kept bytes : List ℕ) → slice_range (kept ++ bytes) (length kept) (length kept + length bytes) ≡ bytes
@@ -75,7 +75,7 @@ module _ (walk : RecordWalk) (all : List ℕ) where
       ap (λ (n : ℕ). take n (drop (length kept) (kept ++ bytes))) count ∙ (ap (λ (l : List ℕ). take (length bytes) l) (drop-append_seam kept bytes) ∙ take-length bytes)
 
   kept_at : (kept : List ℕ) (r : Record) (offset : ℕ) (bytes : List ℕ) → IsOfBytes walk all r offset bytes → (r.event ≡ OtherEvent → ⊥) →
-      IsAt walk all (kept ++ bytes) (record { time = r.time; offset = length kept; size = length bytes; kind = Kept }) r
+      IsRecordAt walk all (kept ++ bytes) (record { time = r.time; offset = length kept; size = length bytes; kind = Kept }) r
   kept_at kept r offset bytes of some =
       let found = told r offset bytes of some in (refl, ap (record_alone walk) (seam kept bytes) ∙ found.0, omega (arith, length-append kept bytes))
 
@@ -146,15 +146,15 @@ module _ (old new : RecordIndex) (item : RecordOfCode) (offset : ℕ) (bytes : L
 -- ---- where it is
 
 abbrev pub is_of_kind : EventOfCode → PlaceKind
-is_of_kind e = kind_of (event_view e)
+is_of_kind e = place_kind (event_view e)
 
-pub kind_of_sample : (e : EventOfCode) (s : SampleOfCode) → e ≡ events.Sample s → kind_of (event_view e) ≡ InFile
+pub kind_of_sample : (e : EventOfCode) (s : SampleOfCode) → e ≡ events.Sample s → place_kind (event_view e) ≡ InFile
 kind_of_sample e s is = ap is_of_kind is
 
-pub kind_of_other : (e : EventOfCode) → e ≡ events.Other → kind_of (event_view e) ≡ Nothing
+pub kind_of_other : (e : EventOfCode) → e ≡ events.Other → place_kind (event_view e) ≡ Nothing
 kind_of_other e is = ap is_of_kind is
 
-pub kind_otherwise : (e : EventOfCode) → ((s : SampleOfCode) → e ≡ events.Sample s → ⊥) → (e ≡ events.Other → ⊥) → kind_of (event_view e) ≡ Kept
+pub kind_otherwise : (e : EventOfCode) → ((s : SampleOfCode) → e ≡ events.Sample s → ⊥) → (e ≡ events.Other → ⊥) → place_kind (event_view e) ≡ Kept
 kind_otherwise (events.Mapping m) sample other = refl
 kind_otherwise (events.Program p) sample other = refl
 kind_otherwise (events.Fork f) sample other = refl

@@ -5,7 +5,7 @@ use Rattle.cfi_read_core.specs.declared.error.Error.{Error}
 use Rattle.cfi_read_core.specs.declared.error.Error.TheVariants.{UnsupportedOffset}
 use Rattle.cfi_read_core.specs.ReadFunctions.{Read, Source, Position, Extent, Outcome, carry_on, bytes, bytes_of, give, offset, refuse, split}
 use Rattle.cfi_read_core.specs.ReaderCalls.{IsPartOf, bytes_left, extent_of}
-use Rattle.cfi_perf.specs.Results.{items}
+use Rattle.cfi_perf.specs.ByteReads.{item_bytes}
 
 -- the bytes of a part are those of its extent
 part_bytes : (old part : Position) → IsPartOf part old → bytes_of old.source (extent_of part) ≡ bytes_left part
@@ -21,8 +21,8 @@ counted {A = A} total next source place fits =
 
 pub items_read : (count size : ℕ) (old new part : Position) → nat_le (count * size) old.source.greatest ≡ true →
     split (count * size) old.source old.place ≡ record { value = Ok (extent_of part); place = new.place } → IsPartOf part old →
-    items count size old.source old.place ≡ record { value = Ok (bytes_left part); place = new.place }
-unfolding items
+    item_bytes count size old.source old.place ≡ record { value = Ok (bytes_left part); place = new.place }
+unfolding item_bytes
 items_read count size old new part fits gives is =
     counted (count * size) bytes old.source old.place fits
     ∙ (ap (λ (o : Outcome Extent). carry_on (λ extent source. give (bytes_of source extent) source) old.source o.value o.place) gives
@@ -30,8 +30,8 @@ items_read count size old new part fits gives is =
 
 pub items_refused : (count size : ℕ) (old : Position) (e : Error) (place : ℕ) → nat_le (count * size) old.source.greatest ≡ true →
     split (count * size) old.source old.place ≡ record { value = Err e; place = place } →
-    items count size old.source old.place ≡ record { value = Err e; place = place }
-unfolding items
+    item_bytes count size old.source old.place ≡ record { value = Err e; place = place }
+unfolding item_bytes
 items_refused count size old e place fits gives =
     counted (count * size) bytes old.source old.place fits
     ∙ ap (λ (o : Outcome Extent). carry_on (λ extent source. give (bytes_of source extent) source) old.source o.value o.place) gives

@@ -3,7 +3,7 @@ use Rattle.std.proofs.Common.{◌≡◌, ◌<◌, ◌≤◌, ◌+◌, ◌-◌, �
 use Rattle.std.specs.Prelude.{if◌then◌else◌}
 use Rattle.cfi_perf.specs.declared.error.PerfError.{PerfError}
 use Rattle.cfi_perf.specs.Pipes.{attributes_up_to, build_ids_up_to, build_ids_with, count_with, events_of, feature_up_to, is_feature, section_with}
-use Rattle.cfi_perf.specs.Records.{Framed, split_record}
+use Rattle.cfi_perf.specs.RecordFrames.{Framed, split_record}
 use Rattle.cfi_perf.proofs.EntrySteps.{one_more}
 
 module _ (count index : ℕ) (big : Bool) (records : List ℕ) where

@@ -11,12 +11,13 @@ use Rattle.cfi_perf.specs.FileHeaders.{byte_order, file_header}
 use Rattle.cfi_perf.specs.Results.{and_then}
 use Rattle.cfi_perf.specs.Pipes.{is_pipe, pipe_architecture, pipe_head, pipe_section, pipe_table}
 use Rattle.cfi_perf.specs.Profiles.{Profile, file_profile, pipe_profile, profile, profile_by, with_head}
-use Rattle.cfi_perf.specs.Sections.{EventSection, ProfileHead, events_by}
+use Rattle.cfi_perf.specs.EventSections.{EventSection, events_by}
+use Rattle.cfi_perf.specs.ProfileHeads.{ProfileHead}
 use Rattle.cfi_read_core.specs.ByteOrder.{is_big}
 use Rattle.cfi_read_core.specs.ReaderCalls.{map_ok}
 use Rattle.cfi_perf.proofs.Chains.{gave}
 
--- of a part of a list, with what is behind it
+-- of a part of a list, with what is after it
 placed : (bytes : List ℕ) (offset size : ℕ) →
     take (length (take size (drop offset bytes))) (drop ((length bytes - length (drop (offset + size) bytes)) - length (take size (drop offset bytes))) bytes) ≡ take size (drop offset bytes)
 placed bytes offset size =
@@ -24,13 +25,13 @@ placed bytes offset size =
     let found : List ℕ = take size d in
     let count : length found ≡ min size (length d) = length-take size d in
     let from : length d ≡ length bytes - offset = length-drop offset bytes in
-    let behind = length-drop (offset + size) bytes in
+    let after = length-drop (offset + size) bytes in
     ⊎_elim
     (λ (past : length bytes < offset).
     let none : length found ≡ 0 = omega (arith, count, from, past) in
     ap (λ (n : ℕ). take n (drop ((length bytes - length (drop (offset + size) bytes)) - length found) bytes)) none ∙ sym (nil_from_length found none))
     (λ (within : offset ≤ length bytes).
-    let place : (length bytes - length (drop (offset + size) bytes)) - length found ≡ offset = omega (arith, count, from, behind, within) in
+    let place : (length bytes - length (drop (offset + size) bytes)) - length found ≡ offset = omega (arith, count, from, after, within) in
     ap (λ (n : ℕ). take (length found) (drop n bytes)) place ∙ (ap (λ (n : ℕ). take n d) count ∙ take_min size d))
     (cases_lt (length bytes) offset)
 

@@ -1,17 +1,20 @@
 -- The records of some bytes, when the first of them is read.
 use Rattle.std.proofs.Common.{◌≡◌, ◌<◌, ◌≤◌, ◌+◌, ◌-◌, ℕ, zero, suc, Bool, true, false, List, Some, None, Result, Ok, Err, refl, sym, ap, ◌∙◌, length, drop, arith}
-use Rattle.std.specs.Prelude.{◌==◌, if◌then◌else◌, nat_le, nat_lt, slice_range}
+use Rattle.std.specs.Prelude.{◌==◌, if◌then◌else◌, nat_le, nat_lt, slice_range, ok_or}
 use Rattle.std.proofs.lemmas.Bool.{ltb-false}
 use Rattle.std.proofs.lemmas.List.{length-drop}
 use borrow.Author.Tests.{leb-true}
 use Rattle.cfi_perf.specs.declared.error.PerfError.{PerfError}
 use Rattle.cfi_perf.specs.declared.error.PerfError.TheVariants.{DataOutOfBounds, RecordCut, RecordSize}
-use Rattle.cfi_perf.specs.declared.records.RecordHeader.{RecordHeader}
+use Rattle.cfi_perf.specs.declared.record_frame.RecordHeader.{RecordHeader}
 use Rattle.cfi_perf.specs.EventTables.{EventTable}
 use Rattle.cfi_perf.specs.Events.{Record}
-use Rattle.cfi_perf.specs.Results.{and_then, or_error, or_missing, part, read_from}
-use Rattle.cfi_perf.specs.RecordHeaders.{record_header}
-use Rattle.cfi_perf.specs.Records.{First, Framed, Records, after_record, first_record, split_record, no_records, record_of, records_of, records_up_to, records_with, uncounted_size, until_cut, with_first}
+use Rattle.cfi_perf.specs.Results.{and_then, or_error}
+use Rattle.cfi_perf.specs.ByteReads.{part, read_from}
+use Rattle.cfi_perf.specs.RecordFrames.{record_header}
+use Rattle.cfi_perf.specs.Records.{First, Records, first_record, no_records, records_of, records_up_to, records_with, until_cut, with_record}
+use Rattle.cfi_perf.specs.RecordFrames.{Framed, after_record, split_record, uncounted_size}
+use Rattle.cfi_perf.specs.RecordTypes.{record_by_type}
 use Rattle.cfi_perf.proofs.Chains.{gave, not_missing, not_refused}
 
 -- ---- a record takes a byte at least
@@ -23,17 +26,17 @@ some_part false xs ys is = absurd (cc)
 pub part_fits : (bytes : List ℕ) (offset size : ℕ) (found : List ℕ) → part bytes offset size ≡ Some found → offset + size ≤ length bytes
 part_fits bytes offset size found is = leb-true _ _ (some_part (nat_le (offset + size) (length bytes)) (slice_range bytes offset (offset + size)) found is)
 
-after_size : (behind others : List ℕ) (trace : Result ℕ PerfError) → and_then trace (λ size. if nat_lt (length behind) size then Err RecordCut else Ok (drop size behind)) ≡ Ok others → length others ≤ length behind
-after_size behind others trace is =
-    let size = gave trace (λ size. if nat_lt (length behind) size then Err RecordCut else Ok (drop size behind)) others is in
-    let left = not_refused (nat_lt (length behind) size.value) RecordCut (Ok (drop size.value behind)) others size.gives in
-    let same : drop size.value behind ≡ others = let e = left.1 in cc in
-    let count : length (drop size.value behind) ≡ length others = ap length same in
-    let less = length-drop size.value behind in
+after_size : (after others : List ℕ) (trace : Result ℕ PerfError) → and_then trace (λ size. if nat_lt (length after) size then Err RecordCut else Ok (drop size after)) ≡ Ok others → length others ≤ length after
+after_size after others trace is =
+    let size = gave trace (λ size. if nat_lt (length after) size then Err RecordCut else Ok (drop size after)) others is in
+    let left = not_refused (nat_lt (length after) size.value) RecordCut (Ok (drop size.value after)) others size.gives in
+    let same : drop size.value after ≡ others = let e = left.1 in cc in
+    let count : length (drop size.value after) ≡ length others = ap length same in
+    let less = length-drop size.value after in
     omega (arith, count, less)
 
-pub no_more_after : (big : Bool) (header : RecordHeader) (body behind others : List ℕ) → after_record big header body behind ≡ Ok others → length others ≤ length behind
-no_more_after big header body behind others is = after_size behind others (uncounted_size big header body) is
+pub no_more_after : (big : Bool) (header : RecordHeader) (body after others : List ℕ) → after_record big header body after ≡ Ok others → length others ≤ length after
+no_more_after big header body after others is = after_size after others (uncounted_size big header body) is
 
 -- what follows the record in a result, or else this
 abbrev others_of : Result Framed PerfError → List ℕ → List ℕ
@@ -51,7 +54,7 @@ abbrev pub with_body : Bool → List ℕ → RecordHeader → List ℕ → Resul
 with_body big bytes header body = and_then (after_record big header body (drop header.size bytes)) (with_others header body)
 
 abbrev pub sized : Bool → List ℕ → RecordHeader → Result Framed PerfError
-sized big bytes header = and_then (or_missing RecordCut (part bytes 8 (header.size - 8))) (with_body big bytes header)
+sized big bytes header = and_then (ok_or (part bytes 8 (header.size - 8)) RecordCut) (with_body big bytes header)
 
 abbrev pub with_header : Bool → List ℕ → RecordHeader → Result Framed PerfError
 with_header big bytes header = if nat_lt header.size 8 then Err (RecordSize header.size) else sized big bytes header
@@ -61,7 +64,7 @@ unfolding split_record
 framed_fewer big bytes found is =
     let header = gave (or_error RecordCut (read_from big bytes record_header)) (with_header big bytes) found is in
     let large = not_refused (nat_lt header.value.size 8) (RecordSize header.value.size) (sized big bytes header.value) found header.gives in
-    let body = gave (or_missing RecordCut (part bytes 8 (header.value.size - 8))) (with_body big bytes header.value) found large.1 in
+    let body = gave (ok_or (part bytes 8 (header.value.size - 8)) RecordCut) (with_body big bytes header.value) found large.1 in
     let others = gave (after_record big header.value body.value (drop header.value.size bytes)) (with_others header.value body.value) found body.gives in
     let fits = part_fits bytes 8 (header.value.size - 8) body.value (not_missing RecordCut (part bytes 8 (header.value.size - 8)) body.value body.was) in
     let some : 8 ≤ header.value.size = ltb-false header.value.size 8 large.0 in
@@ -70,12 +73,12 @@ framed_fewer big bytes found is =
     let less = length-drop header.value.size bytes in
     omega (arith, fits, some, count, more, less)
 
-abbrev behind_first : Result First PerfError → List ℕ → List ℕ
-behind_first (Ok found) other = found.others
-behind_first (Err e) other = other
+abbrev after_first : Result First PerfError → List ℕ → List ℕ
+after_first (Ok found) other = found.others
+after_first (Err e) other = other
 
-same_behind : (first : Record) (others : List ℕ) (found : First) → ◌≡◌ {A = Result First PerfError} (Ok (record { first = first; others = others })) (Ok found) → length others ≡ length found.others
-same_behind first others found is = ap (λ (r : Result First PerfError). length (behind_first r others)) is
+same_after : (first : Record) (others : List ℕ) (found : First) → ◌≡◌ {A = Result First PerfError} (Ok (record { first = first; others = others })) (Ok found) → length others ≡ length found.others
+same_after first others found is = ap (λ (r : Result First PerfError). length (after_first r others)) is
 
 module _ (events : EventTable) (big : Bool) where
   abbrev pub with_frame : Framed → Record → Result First PerfError
@@ -84,9 +87,9 @@ module _ (events : EventTable) (big : Bool) where
   pub fewer : (bytes : List ℕ) (found : First) → first_record events big bytes ≡ Ok found → length found.others < length bytes
   unfolding first_record
   fewer bytes found is =
-      let frame = gave (split_record big bytes) (λ frame. and_then (record_of events big frame.header frame.body) (with_frame frame)) found is in
-      let first = gave (record_of events big frame.value.header frame.value.body) (with_frame frame.value) found frame.gives in
-      let count = same_behind first.value frame.value.others found first.gives in
+      let frame = gave (split_record big bytes) (λ frame. and_then (record_by_type events big frame.header frame.body) (with_frame frame)) found is in
+      let first = gave (record_by_type events big frame.value.header frame.value.body) (with_frame frame.value) found frame.gives in
+      let count = same_after first.value frame.value.others found first.gives in
       let less = framed_fewer big bytes frame.value frame.was in
       omega (arith, count, less)
 
@@ -94,7 +97,7 @@ module _ (events : EventTable) (big : Bool) where
 
   with_same : (r : Result First PerfError) (f g : List ℕ → Records) → ((found : First) → r ≡ Ok found → f found.others ≡ g found.others) → records_with r f ≡ records_with r g
   with_same (Err e) f g h = refl
-  with_same (Ok found) f g h = ap (with_first found.first) (h found refl)
+  with_same (Ok found) f g h = ap (with_record found.first) (h found refl)
 
   no_bytes : (bytes : List ℕ) (others : Records) → length bytes ≤ 0 → (if length bytes == 0 then no_records None else others) ≡ no_records None
   no_bytes bytes others none = let e : length bytes ≡ 0 = omega arith in rw e refl
@@ -128,7 +131,7 @@ module _ (events : EventTable) (big : Bool) where
       ∙ (ap (λ (b : Bool). if b then no_records None else records_with (first_record events big bytes) (records_of events big)) some
       ∙ ap (λ (r : Result First PerfError). records_with r (records_of events big)) (sym is))
 
-  pub first_met : (bytes : List ℕ) (found : First) → (length bytes == 0) ≡ false → Ok found ≡ first_record events big bytes → records_of events big bytes ≡ with_first found.first (records_of events big found.others)
+  pub first_met : (bytes : List ℕ) (found : First) → (length bytes == 0) ≡ false → Ok found ≡ first_record events big bytes → records_of events big bytes ≡ with_record found.first (records_of events big found.others)
   first_met bytes found some is = met bytes (Ok found) some is
 
   pub error_met : (bytes : List ℕ) (e : PerfError) → (length bytes == 0) ≡ false → Err e ≡ first_record events big bytes → records_of events big bytes ≡ no_records (Some e)
@@ -145,7 +148,7 @@ module _ (events : EventTable) (big : Bool) where
   pub cut_left : (is_cut : Bool) (bytes : List ℕ) → (length bytes == 0) ≡ true → is_cut ≡ true → left is_cut bytes ≡ no_records (Some DataOutOfBounds)
   cut_left is_cut bytes none cut = ap (λ (b : Bool). left b bytes) cut ∙ ap (until_cut true) (none_met bytes none)
 
-  pub first_left : (is_cut : Bool) (bytes : List ℕ) (found : First) → (length bytes == 0) ≡ false → Ok found ≡ first_record events big bytes → left is_cut bytes ≡ with_first found.first (left is_cut found.others)
+  pub first_left : (is_cut : Bool) (bytes : List ℕ) (found : First) → (length bytes == 0) ≡ false → Ok found ≡ first_record events big bytes → left is_cut bytes ≡ with_record found.first (left is_cut found.others)
   first_left is_cut bytes found some is = ap (until_cut is_cut) (first_met bytes found some is)
 
   pub error_left : (is_cut : Bool) (bytes : List ℕ) (e e' : PerfError) → (length bytes == 0) ≡ false → Err e ≡ first_record events big bytes → Some e' ≡ (until_cut is_cut (no_records (Some e))).error →

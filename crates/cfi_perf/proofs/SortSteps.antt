@@ -12,7 +12,7 @@ use Rattle.cfi_perf.specs.declared.index.PlaceKind.TheVariants.{Nothing}
 use Rattle.cfi_perf.specs.declared.index.RecordPlace.{RecordPlace}
 use Rattle.cfi_perf.specs.declared.windows.RecordWalk.{RecordWalk}
 use Rattle.cfi_perf.specs.Events.{Event, OtherEvent, Record}
-use Rattle.cfi_perf.specs.Indexes.{AreAt, IsAt, IsInTimeOrder, record_in}
+use Rattle.cfi_perf.specs.Indexes.{AreAt, IsRecordAt, IsInTimeOrder, record_in}
 
 kept_or : {X Y : Type 0} (f : X → Y) (b : Bool) (x : X) (ys : List Y) (xs : List X) → ys ≡ map f xs → cond b (f x ∷ ys) ys ≡ map f (cond b (x ∷ xs) xs)
 kept_or f true x ys xs is = ap (λ l. f x ∷ l) is
@@ -36,9 +36,9 @@ module _ (walk : RecordWalk) (all kept : List ℕ) where
   found place = record { time = place.time; event = event_in (record_in walk all kept place) }
 
   abbrev IsFound : RecordPlace → Type 0
-  IsFound place = IsAt walk all kept place (found place)
+  IsFound place = IsRecordAt walk all kept place (found place)
 
-  is_found : (place : RecordPlace) (r : Record) → IsAt walk all kept place r → found place ≡ r
+  is_found : (place : RecordPlace) (r : Record) → IsRecordAt walk all kept place r → found place ≡ r
   is_found place r (time, is, within) = λ i. record { time = time i; event = event_in (is i) }
 
   all_found : (places : List RecordPlace) (records : List Record) → AreAt walk all kept places records → All IsFound places × (records ≡ map found places)
@@ -46,7 +46,7 @@ module _ (walk : RecordWalk) (all kept : List ℕ) where
   all_found (place ∷ places) records (r, others, is, at, rest) =
       let so = all_found places others rest in
       let e = is_found place r at in
-      let here : IsFound place = subst (λ (q : Record). IsAt walk all kept place q) (sym e) at in
+      let here : IsFound place = subst (λ (q : Record). IsRecordAt walk all kept place q) (sym e) at in
       (All-cons IsFound place places here so.0, is ∙ (ap (λ (q : Record). q ∷ others) (sym e) ∙ ap (λ (l : List Record). found place ∷ l) so.1))
 
   all_at : (places : List RecordPlace) → All IsFound places → AreAt walk all kept places (map found places)

@@ -1,6 +1,6 @@
 -- The first record of bytes of which only a window is at hand.
 use Rattle.std.proofs.Common.{◌≡◌, ◌<◌, ◌≤◌, ◌+◌, ◌-◌, ◌≢◌, ℕ, Bool, true, false, List, [], ◌++◌, Option, Some, None, Result, Ok, Err, refl, sym, ap, ◌∙◌, length, take, drop, arith, ◌⊎◌, ⊎_elim, min, append-nil, inl, inr}
-use Rattle.std.specs.Prelude.{◌==◌, if◌then◌else◌, nat_le, nat_lt, slice_range}
+use Rattle.std.specs.Prelude.{◌==◌, if◌then◌else◌, nat_le, nat_lt, slice_range, ok_or}
 use Rattle.std.specs.Int.{Width, w16, w32, byte_len}
 use Rattle.std.proofs.lemmas.Bool.{le-leb, lt-ltb, le-ltb, ltb-false, cases_lt, eq-eqb, ne_eqb}
 use Rattle.std.proofs.lemmas.List.{drop-append-le, drop-drop, drop_min, length-append, length-drop, length-take, take-append-le, nil_from_length, take-append-drop}
@@ -10,10 +10,14 @@ use Rattle.cfi_read_core.specs.SliceReaders.{slice_over}
 use Rattle.cfi_read_core.specs.Numbers.{unsigned, number_of}
 use Rattle.cfi_perf.specs.declared.error.PerfError.{PerfError}
 use Rattle.cfi_perf.specs.declared.error.PerfError.TheVariants.{RecordCut, RecordSize}
-use Rattle.cfi_perf.specs.declared.records.RecordHeader.{RecordHeader}
-use Rattle.cfi_perf.specs.Results.{and_then, or_error, or_missing, part, read_from}
-use Rattle.cfi_perf.specs.RecordHeaders.{record_header}
-use Rattle.cfi_perf.specs.Records.{First, Framed, HasUncounted, after_record, first_record, record_of, split_record, uncounted_size, without_id}
+use Rattle.cfi_perf.specs.declared.record_frame.RecordHeader.{RecordHeader}
+use Rattle.cfi_perf.specs.Results.{and_then, or_error}
+use Rattle.cfi_perf.specs.ByteReads.{part, read_from}
+use Rattle.cfi_perf.specs.RecordFrames.{record_header}
+use Rattle.cfi_perf.specs.Records.{First, first_record}
+use Rattle.cfi_perf.specs.RecordFrames.{Framed, HasUncounted, after_record, split_record, uncounted_size}
+use Rattle.cfi_perf.specs.RecordTypes.{record_by_type}
+use Rattle.cfi_perf.specs.SampleIds.{without_id}
 use Rattle.cfi_perf.specs.EventTables.{EventTable}
 use Rattle.cfi_perf.specs.Events.{OtherEvent, Record}
 use Rattle.cfi_perf.specs.Windows.{IsWindow, only_record}
@@ -97,8 +101,8 @@ pub large : (big : Bool) (bytes : List ℕ) (header : RecordHeader) → 8 ≤ he
 large big bytes header some =
     ap (λ (b : Bool). if b then Err (RecordSize header.size) else sized big bytes header) (le-ltb header.size 8 some)
 
-pub sized_by : (big : Bool) (bytes : List ℕ) (header : RecordHeader) (body : Option (List ℕ)) → part bytes 8 (header.size - 8) ≡ body → sized big bytes header ≡ and_then (or_missing RecordCut body) (with_body big bytes header)
-sized_by big bytes header body is = ap (λ (o : Option (List ℕ)). and_then (or_missing RecordCut o) (with_body big bytes header)) is
+pub sized_by : (big : Bool) (bytes : List ℕ) (header : RecordHeader) (body : Option (List ℕ)) → part bytes 8 (header.size - 8) ≡ body → sized big bytes header ≡ and_then (ok_or body RecordCut) (with_body big bytes header)
+sized_by big bytes header body is = ap (λ (o : Option (List ℕ)). and_then (ok_or o RecordCut) (with_body big bytes header)) is
 
 -- ---- of a window, of all bytes
 
@@ -123,8 +127,8 @@ module _ (big : Bool) (window others : List ℕ) (left : ℕ) (of : IsWindow win
       ⊎_elim (λ (more : 65535 ≤ length window). front_part window others 8 n (omega (arith, more, less)))
       (λ (none : others ≡ []). ap (λ (l : List ℕ). part l 8 n) (no_others window others none)) (whole_or window others left of)
 
-  pub behind_length : (n : ℕ) → length (drop n all) ≡ left - n
-  behind_length n = omega (arith, length-drop n all, length-append window others, of.all)
+  pub after_length : (n : ℕ) → length (drop n all) ≡ left - n
+  after_length n = omega (arith, length-drop n all, length-append window others, of.all)
 
   pub cut_header : (e : Error) → read_from big window record_header ≡ Err e → Err RecordCut ≡ split_record big all
   cut_header e is = sym (split_refused big all e (all_read ∙ is))
@@ -137,7 +141,7 @@ module _ (big : Bool) (window others : List ℕ) (left : ℕ) (of : IsWindow win
     small_size less = sym (all_with ∙ small big all header less)
 
     module _ (some : 8 ≤ header.size) (fits : header.size < 65536) where
-      all_sized : (body : Option (List ℕ)) → part window 8 (header.size - 8) ≡ body → split_record big all ≡ and_then (or_missing RecordCut body) (with_body big all header)
+      all_sized : (body : Option (List ℕ)) → part window 8 (header.size - 8) ≡ body → split_record big all ≡ and_then (ok_or body RecordCut) (with_body big all header)
       all_sized body was = all_with ∙ (large big all header some ∙ sized_by big all header body (all_part (header.size - 8) (omega (arith, fits, some)) ∙ was))
 
       pub cut_body : part window 8 (header.size - 8) ≡ None → Err RecordCut ≡ split_record big all
@@ -159,7 +163,7 @@ module _ (big : Bool) (window others : List ℕ) (left : ℕ) (of : IsWindow win
 
 module _ (events : EventTable) (big : Bool) (bytes : List ℕ) where
   abbrev then_record : Framed → Result First PerfError
-  then_record found = and_then (record_of events big found.header found.body) (with_frame events big found)
+  then_record found = and_then (record_by_type events big found.header found.body) (with_frame events big found)
 
   pub frame_refused : (e : PerfError) → Err e ≡ split_record big bytes → Err e ≡ first_record events big bytes
   unfolding first_record
@@ -169,10 +173,10 @@ module _ (events : EventTable) (big : Bool) (bytes : List ℕ) where
   unfolding first_record
   first_by found is = ap (λ (r : Result Framed PerfError). and_then r then_record) is
 
-  pub record_refused : (found : Framed) (e : PerfError) → Ok found ≡ split_record big bytes → Err e ≡ record_of events big found.header found.body → Err e ≡ first_record events big bytes
+  pub record_refused : (found : Framed) (e : PerfError) → Ok found ≡ split_record big bytes → Err e ≡ record_by_type events big found.header found.body → Err e ≡ first_record events big bytes
   record_refused found e is refused = ap (λ (r : Result Record PerfError). and_then r (with_frame events big found)) refused ∙ first_by found is
 
-  pub first_found : (found : Framed) (first : Record) → Ok found ≡ split_record big bytes → Ok first ≡ record_of events big found.header found.body →
+  pub first_found : (found : Framed) (first : Record) → Ok found ≡ split_record big bytes → Ok first ≡ record_by_type events big found.header found.body →
       Ok (record { first = first; others = found.others }) ≡ first_record events big bytes
   first_found found first is was = ap (λ (r : Result Record PerfError). and_then r (with_frame events big found)) was ∙ first_by found is
 
@@ -181,16 +185,16 @@ module _ (events : EventTable) (big : Bool) (bytes : List ℕ) where
 abbrev bytes_found : List ℕ → Result (List ℕ) PerfError
 bytes_found l = Ok l
 
-after_alone : (trace : Result ℕ PerfError) (behind front others : List ℕ) →
-    and_then trace (λ size. if nat_lt (length behind) size then Err RecordCut else Ok (drop size behind)) ≡ Ok others →
-    length front ≡ length behind - length others →
+after_alone : (trace : Result ℕ PerfError) (after front others : List ℕ) →
+    and_then trace (λ size. if nat_lt (length after) size then Err RecordCut else Ok (drop size after)) ≡ Ok others →
+    length front ≡ length after - length others →
     and_then trace (λ size. if nat_lt (length front) size then Err RecordCut else Ok (drop size front)) ≡ Ok []
-after_alone (Err e) behind front others is count = absurd (cc)
-after_alone (Ok n) behind front others is count =
-    let left = not_refused (nat_lt (length behind) n) RecordCut (Ok (drop n behind)) others is in
-    let same : drop n behind ≡ others = let e = left.1 in cc in
-    let fits : n ≤ length behind = ltb-false (length behind) n left.0 in
-    let fewer : length behind - n ≡ length others = sym (length-drop n behind) ∙ ap length same in
+after_alone (Err e) after front others is count = absurd (cc)
+after_alone (Ok n) after front others is count =
+    let left = not_refused (nat_lt (length after) n) RecordCut (Ok (drop n after)) others is in
+    let same : drop n after ≡ others = let e = left.1 in cc in
+    let fits : n ≤ length after = ltb-false (length after) n left.0 in
+    let fewer : length after - n ≡ length others = sym (length-drop n after) ∙ ap length same in
     let enough : nat_lt (length front) n ≡ false = le-ltb (length front) n (omega (arith, count, fits, fewer)) in
     let none : drop n front ≡ [] = nil_from_length (drop n front) (omega (arith, length-drop n front, count, fits, fewer)) in
     ap (λ (b : Bool). if b then Err RecordCut else Ok (drop n front)) enough ∙ ap bytes_found none
@@ -217,7 +221,7 @@ module _ (big : Bool) (bytes : List ℕ) (n : ℕ) where
   framed_alone found is ends =
       let header = gave (or_error RecordCut (read_from big bytes record_header)) (with_header big bytes) found is in
       let wide = not_refused (nat_lt header.value.size 8) (RecordSize header.value.size) (sized big bytes header.value) found header.gives in
-      let body = gave (or_missing RecordCut (part bytes 8 (header.value.size - 8))) (with_body big bytes header.value) found wide.1 in
+      let body = gave (ok_or (part bytes 8 (header.value.size - 8)) RecordCut) (with_body big bytes header.value) found wide.1 in
       let others = gave (after_record big header.value body.value (drop header.value.size bytes)) (with_others header.value body.value) found body.gives in
       let same : record { header = header.value; body = body.value; others = others.value } ≡ found = let e = others.gives in cc in
       let was = not_missing RecordCut (part bytes 8 (header.value.size - 8)) body.value body.was in
@@ -226,12 +230,12 @@ module _ (big : Bool) (bytes : List ℕ) (n : ℕ) where
       let fewer = no_more_after big header.value body.value (drop header.value.size bytes) others.value others.was in
       let count : length others.value ≡ length bytes - n = ap (λ (f : Framed). length f.others) same ∙ (ap length ends ∙ length-drop n bytes) in
       let within : header.value.size ≤ length front = omega (arith, fits, some, fewer, count, front_length, length-drop header.value.size bytes) in
-      let behind : length (drop header.value.size front) ≡ length (drop header.value.size bytes) - length others.value = omega (arith, within, fits, some, count, front_length, length-drop header.value.size bytes, length-drop header.value.size front) in
+      let after : length (drop header.value.size front) ≡ length (drop header.value.size bytes) - length others.value = omega (arith, within, fits, some, count, front_length, length-drop header.value.size bytes, length-drop header.value.size front) in
       let read : read_from big front record_header ≡ Ok header.value = front_read (omega (arith, within, some)) ∙ not_error RecordCut (read_from big bytes record_header) header.value header.was in
       let first = split_with big front header.value read in
       let second = large big front header.value some in
       let third = sized_by big front header.value (Some body.value) (front_body (header.value.size - 8) (omega (arith, within, some)) ∙ was) in
-      let last = after_alone (uncounted_size big header.value body.value) (drop header.value.size bytes) (drop header.value.size front) others.value others.was behind in
+      let last = after_alone (uncounted_size big header.value body.value) (drop header.value.size bytes) (drop header.value.size front) others.value others.was after in
       first ∙ (second ∙ (third ∙ (ap (λ (r : Result (List ℕ) PerfError). and_then r (with_others header.value body.value)) last
       ∙ ap (λ (f : Framed). with_others f.header f.body []) same)))
 
@@ -242,12 +246,12 @@ module _ (big : Bool) (bytes : List ℕ) (n : ℕ) where
     pub first_alone : (found : First) → Ok found ≡ first_record events big bytes → found.others ≡ drop n bytes → and_then (first_record events big front) only_record ≡ Ok found.first
     unfolding first_record
     first_alone found is ends =
-        let frame = gave (split_record big bytes) (λ frame. and_then (record_of events big frame.header frame.body) (with_frame events big frame)) found (sym is) in
-        let first = gave (record_of events big frame.value.header frame.value.body) (with_frame events big frame.value) found frame.gives in
+        let frame = gave (split_record big bytes) (λ frame. and_then (record_by_type events big frame.header frame.body) (with_frame events big frame)) found (sym is) in
+        let first = gave (record_by_type events big frame.value.header frame.value.body) (with_frame events big frame.value) found frame.gives in
         let same : record { first = first.value; others = frame.value.others } ≡ found = let e = first.gives in cc in
         let alone = framed_alone frame.value frame.was (ap (λ (f : First). f.others) same ∙ ends) in
         let kept : Framed = record { header = frame.value.header; body = frame.value.body; others = [] } in
-        ap (λ (r : Result Framed PerfError). and_then (and_then r (λ frame. and_then (record_of events big frame.header frame.body) (with_frame events big frame))) only_record) alone
+        ap (λ (r : Result Framed PerfError). and_then (and_then r (λ frame. and_then (record_by_type events big frame.header frame.body) (with_frame events big frame))) only_record) alone
         ∙ (ap (λ (r : Result Record PerfError). and_then (and_then r (with_frame events big kept)) only_record) first.was ∙ ap (λ (f : First). record_found f.first) same)
 
 -- ---- what a walk passed
@@ -268,24 +272,24 @@ some_bytes bytes left all some = ne_eqb (length bytes) 0 (λ none. some (sym all
 pub window_length : (window others : List ℕ) (left : ℕ) → IsWindow window others left → length (window ++ others) ≡ left
 window_length window others left of = length-append window others ∙ of.all
 
--- ---- a record behind which bytes may be that its size doesn't count says nothing
+-- ---- a record after which bytes may be that its size doesn't count says nothing
 
-of_trace : (events : EventTable) (big : Bool) (header : RecordHeader) (body : List ℕ) (r : Record) → record_of events big (record header { kind = 71 }) body ≡ Ok r → r.event ≡ OtherEvent
-unfolding record_of
+of_trace : (events : EventTable) (big : Bool) (header : RecordHeader) (body : List ℕ) (r : Record) → record_by_type events big (record header { kind = 71 }) body ≡ Ok r → r.event ≡ OtherEvent
+unfolding record_by_type
 of_trace events big header body r is =
     let time = gave (without_id events big 71 body) (λ found. Ok (record { time = found.time; event = OtherEvent })) r is in
     let same : record { time = time.value.time; event = OtherEvent } ≡ r = let e = time.gives in cc in
     sym (ap (λ (r : Record). r.event) same)
 
-of_descriptions : (events : EventTable) (big : Bool) (header : RecordHeader) (body : List ℕ) (r : Record) → record_of events big (record header { kind = 66 }) body ≡ Ok r → r.event ≡ OtherEvent
-unfolding record_of
+of_descriptions : (events : EventTable) (big : Bool) (header : RecordHeader) (body : List ℕ) (r : Record) → record_by_type events big (record header { kind = 66 }) body ≡ Ok r → r.event ≡ OtherEvent
+unfolding record_by_type
 of_descriptions events big header body r is =
     let time = gave (without_id events big 66 body) (λ found. Ok (record { time = found.time; event = OtherEvent })) r is in
     let same : record { time = time.value.time; event = OtherEvent } ≡ r = let e = time.gives in cc in
     sym (ap (λ (r : Record). r.event) same)
 
-pub tells_nothing : (events : EventTable) (big : Bool) (header : RecordHeader) (body : List ℕ) (r : Record) → HasUncounted header.kind → Ok r ≡ record_of events big header body → r.event ≡ OtherEvent
+pub tells_nothing : (events : EventTable) (big : Bool) (header : RecordHeader) (body : List ℕ) (r : Record) → HasUncounted header.kind → Ok r ≡ record_by_type events big header body → r.event ≡ OtherEvent
 tells_nothing events big header body r (inl kind) is =
-    of_trace events big header body r (ap (λ (k : ℕ). record_of events big (record header { kind = k }) body) (sym kind) ∙ sym is)
+    of_trace events big header body r (ap (λ (k : ℕ). record_by_type events big (record header { kind = k }) body) (sym kind) ∙ sym is)
 tells_nothing events big header body r (inr kind) is =
-    of_descriptions events big header body r (ap (λ (k : ℕ). record_of events big (record header { kind = k }) body) (sym kind) ∙ sym is)
+    of_descriptions events big header body r (ap (λ (k : ℕ). record_by_type events big (record header { kind = k }) body) (sym kind) ∙ sym is)

@@ -4,41 +4,49 @@ use Rattle.std.specs.Prelude.{Bool, nat_lt, if◌then◌else◌, drop, map, take
 use Rattle.cfi_read_core.specs.declared.endianity.RunTimeEndian.TheVariants.{Little, Big}
 use Rattle.cfi_read_core.specs.Numbers.{unsigned}
 use Rattle.cfi_perf.specs.declared.error.PerfError.TheVariants.{NotPerf, PipeMode, HeaderCut, HeaderSize, AttributesOutOfBounds, DataOutOfBounds, NoEvents, MixedEvents, FeatureOutOfBounds, RecordSize, RecordCut, Compressed, Directory}
-use Rattle.cfi_perf.specs.declared.attribute.EventEntry.{EventEntry}
-use Rattle.cfi_perf.specs.declared.attribute.EventLayout.{EventLayout}
-use Rattle.cfi_perf.specs.Results.{items, entries, header_text}
-use Rattle.cfi_perf.specs.Layouts.{sample_format, sample_id_all, chosen, sized_attribute, attribute, event, pipe_event, events, first_event}
-use Rattle.cfi_perf.specs.EventNames.{behind_others, described, described_name, description, generic_name}
+use Rattle.cfi_perf.specs.declared.event_entry.EventEntry.{EventEntry}
+use Rattle.cfi_perf.specs.declared.layout.EventLayout.{EventLayout}
+use Rattle.cfi_perf.specs.ByteReads.{item_bytes, entries, header_text}
+use Rattle.cfi_perf.specs.Attributes.{sample_format, sample_id_all, chosen, sized_attribute, attribute}
+use Rattle.cfi_perf.specs.EventEntries.{event, pipe_event, events, first_event}
+use Rattle.cfi_perf.specs.EventNames.{after_others, described_event, described_name, description, generic_name}
 use Rattle.cfi_perf.specs.EventTables.{EventTable, event_of_id, known_event}
-use Rattle.cfi_perf.specs.FileParts.{parts_of}
+use Rattle.cfi_perf.specs.FileParts.{file_parts}
 use Rattle.cfi_perf.specs.FileHeaders.{byte_order, file_section, feature_bits, header_fields, file_header}
 use Rattle.cfi_perf.specs.CallChains.{PERF_CONTEXT_KERNEL, PERF_CONTEXT_USER}
-use Rattle.cfi_perf.specs.Samples.{Sample, UserRegisters, kernel_frames, user_frames, register_of, thread, sample_numbers, processor, later_numbers, group_values, single_value, call_chain, raw_data, branch_stack, lists, registers, copied_stack, stack, user_state, sample}
+use Rattle.cfi_perf.specs.Samples.{Sample, UserRegisters, kernel_frames, user_frames, sampled_register, thread, sample_numbers, processor, later_numbers, group_values, single_value, call_chain, raw_data, branch_stack, lists, registers, copied_stack, stack, user_state, sample}
 use Rattle.cfi_perf.specs.Events.{LostEvent, lost, lost_samples, Mapping, own_build_id, MappingEvent, ProgramEvent, ForkEvent, SampleEvent, OtherEvent, mapped_range, mapping, mapping2, program, fork}
-use Rattle.cfi_perf.specs.RecordHeaders.{record_header}
-use Rattle.cfi_perf.specs.Records.{split_record, id_of, id_up_to, with_build_id, sample_id_time, without_id, record_of, first_record, records_up_to, records_of}
-use Rattle.cfi_perf.specs.Sections.{EventSection, ProfileHead, Sections, head_of, architecture_in, build_ids, descriptions, event_table, events_by, machine_by}
+use Rattle.cfi_perf.specs.RecordFrames.{record_header}
+use Rattle.cfi_perf.specs.RecordFrames.{split_record}
+use Rattle.cfi_perf.specs.BuildIds.{listed_build_id, id_up_to, with_build_id}
+use Rattle.cfi_perf.specs.SampleIds.{sample_id_time, without_id}
+use Rattle.cfi_perf.specs.RecordTypes.{record_by_type}
+use Rattle.cfi_perf.specs.Records.{first_record, records_up_to, records_of}
+use Rattle.cfi_perf.specs.EventSections.{EventSection, events_by}
+use Rattle.cfi_perf.specs.ProfileHeads.{ProfileHead, head_of}
+use Rattle.cfi_perf.specs.Sections.{Sections, architecture_in, build_ids, descriptions, event_table}
+use Rattle.cfi_perf.specs.Architectures.{machine_by}
 use Rattle.cfi_perf.specs.Pipes.{attributes_up_to, build_ids_up_to, feature_up_to, pipe_head}
 use Rattle.cfi_perf.specs.Profiles.{Profile, file_profile, profile, profile_records}
-use Rattle.cfi_perf.specs.declared.attribute.EntryForm.TheVariants.{Sized}
+use Rattle.cfi_perf.specs.declared.event_entry.EntryForm.TheVariants.{Sized}
 use Rattle.cfi_perf.specs.ProfilesAround.{profile_around}
 
 -- to name it on an `unfolding` line is to open all these
 unfoldable computing : ℕ
-unfolding unsigned items entries sample_format sample_id_all chosen sized_attribute attribute event pipe_event file_section feature_bits header_fields file_header thread sample_numbers processor later_numbers group_values single_value call_chain raw_data branch_stack lists registers copied_stack stack user_state sample mapped_range mapping mapping2 program fork lost lost_samples record_header split_record sample_id_time without_id record_of first_record id_up_to records_up_to behind_others described description events_by attributes_up_to build_ids_up_to feature_up_to pipe_head file_profile profile profile_around architecture_in descriptions build_ids event_table header_text lib.Count.ones
+unfolding unsigned item_bytes entries sample_format sample_id_all chosen sized_attribute attribute event pipe_event file_section feature_bits header_fields file_header thread sample_numbers processor later_numbers group_values single_value call_chain raw_data branch_stack lists registers copied_stack stack user_state sample mapped_range mapping mapping2 program fork lost lost_samples record_header split_record sample_id_time without_id record_by_type first_record id_up_to records_up_to after_others described_event description events_by attributes_up_to build_ids_up_to feature_up_to pipe_head file_profile profile profile_around architecture_in descriptions build_ids event_table header_text lib.Count.ones
 computing = 0
 
 -- the bytes of hexadecimal text, whose letters are small
 abbrev digit_of : ℕ → ℕ
 digit_of c = if nat_lt c 58 then c - 48 else c - 87
 
-abbrev bytes_behind : Option ℕ → List ℕ → List ℕ
-bytes_behind high [] = []
-bytes_behind None (c ∷ cs) = bytes_behind (Some (digit_of c)) cs
-bytes_behind (Some high) (c ∷ cs) = (16 * high + digit_of c) ∷ bytes_behind None cs
+abbrev bytes_after : Option ℕ → List ℕ → List ℕ
+bytes_after high [] = []
+bytes_after None (c ∷ cs) = bytes_after (Some (digit_of c)) cs
+bytes_after (Some high) (c ∷ cs) = (16 * high + digit_of c) ∷ bytes_after None cs
 
 abbrev hex : List ℕ → List ℕ
-hex text = bytes_behind None text
+hex text = bytes_after None text
 
 -- ---- the header
 
@@ -78,9 +86,9 @@ of_a_folder : file_header Little (hex (codes "50455246494c4532680000000000000070
 unfolding computing
 of_a_folder = refl
 
-nothing_behind_the_header : profile little_header ≡ Err AttributesOutOfBounds
+nothing_after_the_header : profile little_header ≡ Err AttributesOutOfBounds
 unfolding computing
-nothing_behind_the_header = refl
+nothing_after_the_header = refl
 
 -- ---- the event
 
@@ -92,7 +100,7 @@ worked_event = record { attribute = record { kind = 1; config = 0; layout = work
 
 -- it is cpu-clock, alone
 abbrev worked_table : Bool → EventTable
-worked_table big = record { big_endian = big; descriptions = []; entries = map (known_event big (parts_of [])) (worked_event ∷ []); first = record { layout = worked_layout; name = codes "cpu-clock" }; is_alone = true; build_ids = [] }
+worked_table big = record { big_endian = big; descriptions = []; entries = map (known_event big (file_parts [])) (worked_event ∷ []); first = record { layout = worked_layout; name = codes "cpu-clock" }; is_alone = true; build_ids = [] }
 
 abbrev little_event : List ℕ
 little_event = hex (codes "01000000600000000000000000000000102700000000000027310000000000000000000000000000000004000000000000000000000000000000000000000000000000000000000000000000000000008101000000000000100000000000000000000000000000000000000000000000")
@@ -165,7 +173,7 @@ little_sample_read : records_of (worked_table false) false little_sample ≡ rec
 unfolding computing
 little_sample_read = refl
 
-little_sp : register_of little_registers 7 ≡ Some 0x7ffe
+little_sp : sampled_register little_registers 7 ≡ Some 0x7ffe
 unfolding computing
 little_sp = refl
 
@@ -202,11 +210,11 @@ big_sample_read : records_of (worked_table true) true big_sample ≡ record {
 unfolding computing
 big_sample_read = refl
 
-big_sp : register_of big_registers 7 ≡ Some 0x7ffe
+big_sp : sampled_register big_registers 7 ≡ Some 0x7ffe
 unfolding computing
 big_sp = refl
 
-no_register_1 : register_of little_registers 1 ≡ None
+no_register_1 : sampled_register little_registers 1 ≡ None
 unfolding computing
 no_register_1 = refl
 
@@ -237,7 +245,7 @@ lost_without_a_count : records_of (worked_table false) false (hex (codes "0d0000
 unfolding computing
 lost_without_a_count = refl
 
--- four bytes of trace behind PERF_RECORD_AUXTRACE
+-- four bytes of trace after PERF_RECORD_AUXTRACE
 passed_trace : records_of (worked_table false) false (hex (codes "470000000000300004000000000000000000000000000000000000000000000000000000000000000000000000000000010203044400000000000800")) ≡ record { records = record { time = 0; event = OtherEvent } ∷ record { time = 0; event = OtherEvent } ∷ []; error = None }
 unfolding computing
 passed_trace = refl
@@ -278,18 +286,18 @@ compressed = refl
 
 -- ---- its architecture
 
-abbrev behind : List ℕ
-behind = hex (codes "f8010000000000000c0000000000000004020000000000000c0000000000000008000000686f737400000000080000007838365f36340000")
+abbrev after : List ℕ
+after = hex (codes "f8010000000000000c0000000000000004020000000000000c0000000000000008000000686f737400000000080000007838365f36340000")
 
 abbrev worked_section : EventSection
 worked_section = record { form = Sized 112; count = 1; attrs = little_event; first = worked_event }
 
 -- with the sections of bits 3 and 6, whose places begin with those of the whole file
 abbrev worked_file : List ℕ
-worked_file = little_header ++ (little_event ++ (little_program ++ (little_mapping ++ (little_sample ++ behind))))
+worked_file = little_header ++ (little_event ++ (little_program ++ (little_mapping ++ (little_sample ++ after))))
 
 abbrev worked_sections : ℕ → Sections
-worked_sections features = record { parts = parts_of worked_file; endian = Little; events = worked_section; features = features; is_cut = false; end = 472; behind = behind }
+worked_sections features = record { parts = file_parts worked_file; endian = Little; events = worked_section; features = features; is_cut = false; end = 472; after = after }
 
 its_architecture : architecture_in (worked_sections 0x48) ≡ Ok (Some (codes "x86_64"))
 unfolding computing
@@ -314,20 +322,20 @@ unfolding computing
 its_parts = refl
 
 -- the same without the bytes of its records
-its_head : profile_around (little_header ++ little_event) behind 528 ≡ Ok (Some (head_of (worked_sections 0x48) 256))
+its_head : profile_around (little_header ++ little_event) after 528 ≡ Ok (Some (head_of (worked_sections 0x48) 256))
 unfolding computing
 its_head = refl
 
--- with a byte of them, and without one behind them
-a_byte_more : profile_around (little_header ++ (little_event ++ take 1 little_program)) behind 528 ≡ Ok None
+-- with a byte of them, and without one after them
+a_byte_more : profile_around (little_header ++ (little_event ++ take 1 little_program)) after 528 ≡ Ok None
 unfolding computing
 a_byte_more = refl
 
-a_byte_less : profile_around (little_header ++ little_event) (drop 1 behind) 528 ≡ Ok None
+a_byte_less : profile_around (little_header ++ little_event) (drop 1 after) 528 ≡ Ok None
 unfolding computing
 a_byte_less = refl
 
--- ---- the same records of a pipe, behind records with the event and the architecture
+-- ---- the same records of a pipe, after records with the event and the architecture
 
 abbrev piped_records : List ℕ
 piped_records = hex (codes "4000000000006800") ++ (take 96 little_event ++ (hex (codes "5000000000001c000600000000000000080000007838365f36340000") ++ (little_program ++ (little_mapping ++ little_sample))))
@@ -339,7 +347,7 @@ its_pipe : profile (hex (codes "50455246494c45321000000000000000") ++ piped_reco
 unfolding computing
 its_pipe = refl
 
--- with the event behind another record
+-- with the event after another record
 a_later_event : pipe_head Little (little_program ++ piped_records) ≡ Err NoEvents
 unfolding computing
 a_later_event = refl
@@ -348,7 +356,7 @@ another_later_event : pipe_head Little (piped_records ++ piped_records) ≡ Err 
 unfolding computing
 another_later_event = refl
 
--- with descriptions of tracepoints, eight bytes behind their record, before the other records
+-- with descriptions of tracepoints, eight bytes after their record, before the other records
 abbrev records_with_tracepoints : List ℕ
 records_with_tracepoints = take 104 piped_records ++ (hex (codes "4200000000000c00080000000102030405060708") ++ drop 104 piped_records)
 
@@ -364,7 +372,7 @@ cut_tracepoints : records_of (worked_table false) false (hex (codes "42000000000
 unfolding computing
 cut_tracepoints = refl
 
--- PERF_RECORD_HEADER_BUILD_ID behind another record: of the file "b", with an id of two bytes
+-- PERF_RECORD_HEADER_BUILD_ID after another record: of the file "b", with an id of two bytes
 abbrev two_kinds : List ℕ
 two_kinds = hex (codes "440000000000080043000000008028000700000001020000000000000000000000000000000000000200000062000000")
 
@@ -407,8 +415,8 @@ its_call_chain = refl
 in_the_kernel : kernel_frames chained ≡ 0xffffffff821e870b ∷ 0xffffffff81d335fc ∷ 0xffffffff816b82eb ∷ 0xffffffff816b8f46 ∷ 0xffffffff821ecc51 ∷ 0xffffffff81000130 ∷ []
 in_the_kernel = refl
 
-behind_the_kernel : user_frames chained ≡ 0x7f6bc33282ad ∷ []
-behind_the_kernel = refl
+after_the_kernel : user_frames chained ≡ 0x7f6bc33282ad ∷ []
+after_the_kernel = refl
 
 -- without a call chain, as by perf record alone
 its_instruction_alone : kernel_frames (record chained { call_chain = None }) ≡ 0xffffffff821e870b ∷ []
@@ -429,7 +437,7 @@ of_a_guest = refl
 abbrev two_attrs : List ℕ
 two_attrs = hex (codes "01000000800000000000000000000000a00f000000000000afb101000000000014000000000000000337d661000000000000000000000000000000000000000000000000000000000000000000000000ff0fff0000000000080000000000000000000000000000000000000000000000000000000000000000000000000000006800000000000000200000000000000001000000800000000200000000000000a00f000000000000870101000000000014000000000000000314140000000000000000000000000000000000000000000000000000000000000000000000000000000000000000000000000000000000000000000000000000000000000000000000000000000000000000000000000088000000000000002000000000000000")
 
--- the eight ids, behind the header's 104 bytes
+-- the eight ids, after the header's 104 bytes
 abbrev two_ids : List ℕ
 two_ids = replicate 104 0 ++ hex (codes "d000000000000000d100000000000000d200000000000000d300000000000000d400000000000000d500000000000000d600000000000000d700000000000000")
 
@@ -468,7 +476,7 @@ told_apart : first_event (clock ∷ faults ∷ []) ≡ Ok clock
 told_apart = refl
 
 abbrev two : EventTable
-two = record { big_endian = false; descriptions = two_names; entries = map (known_event false (parts_of two_ids)) (clock ∷ faults ∷ []); first = record { layout = clock_layout; name = codes "cpu-clock/call-graph=dwarf,stack-size=8/" }; is_alone = false; build_ids = [] }
+two = record { big_endian = false; descriptions = two_names; entries = map (known_event false (file_parts two_ids)) (clock ∷ faults ∷ []); first = record { layout = clock_layout; name = codes "cpu-clock/call-graph=dwarf,stack-size=8/" }; is_alone = false; build_ids = [] }
 
 by_its_id : event_of_id two 214 ≡ Some (record { layout = faults_layout; name = codes "page-faults" })
 unfolding computing
@@ -495,25 +503,25 @@ a_thread = refl
 abbrev listed_builds : List ℕ
 listed_builds = hex (codes "0000000002806400ffffffffe1acfd5cc78671620325b4d7fc60da13931c8332140000002f62696e2f76760000000000000000000000000000000000000000000000000000000000000000000000000000000000000000000000000000000000000000000000000002806400ffffffffa599807156a2a62fe956a82e388aeeabc874119c140000005b7664736f5d00000000000000000000000000000000000000000000000000000000000000000000000000000000000000000000000000000000000000000000")
 
-the_first_build : id_of false (codes "/bin/vv") listed_builds ≡ Some (hex (codes "e1acfd5cc78671620325b4d7fc60da13931c8332"))
+the_first_build : listed_build_id false (codes "/bin/vv") listed_builds ≡ Some (hex (codes "e1acfd5cc78671620325b4d7fc60da13931c8332"))
 unfolding computing
 the_first_build = refl
 
-the_second_build : id_of false (codes "[vdso]") listed_builds ≡ Some (hex (codes "a599807156a2a62fe956a82e388aeeabc874119c"))
+the_second_build : listed_build_id false (codes "[vdso]") listed_builds ≡ Some (hex (codes "a599807156a2a62fe956a82e388aeeabc874119c"))
 unfolding computing
 the_second_build = refl
 
-not_listed : id_of false (codes "/bin/v") listed_builds ≡ None
+not_listed : listed_build_id false (codes "/bin/v") listed_builds ≡ None
 unfolding computing
 not_listed = refl
 
 -- the second entry less its last byte
-cut_listed : id_of false (codes "[vdso]") (take 199 listed_builds) ≡ None
+cut_listed : listed_build_id false (codes "[vdso]") (take 199 listed_builds) ≡ None
 unfolding computing
 cut_listed = refl
 
 -- without PERF_RECORD_MISC_BUILD_ID_SIZE, as before Linux 5.12
-twenty_bytes : id_of false (codes "/bin/old") (hex (codes "0000000002006400ffffffffa599807156a2a62fe956a82e388aeeabc8000000000000002f62696e2f6f6c640000000000000000000000000000000000000000000000000000000000000000000000000000000000000000000000000000000000000000")) ≡ Some (hex (codes "a599807156a2a62fe956a82e388aeeabc8000000"))
+twenty_bytes : listed_build_id false (codes "/bin/old") (hex (codes "0000000002006400ffffffffa599807156a2a62fe956a82e388aeeabc8000000000000002f62696e2f6f6c640000000000000000000000000000000000000000000000000000000000000000000000000000000000000000000000000000000000000000")) ≡ Some (hex (codes "a599807156a2a62fe956a82e388aeeabc8000000"))
 unfolding computing
 twenty_bytes = refl
 
@@ -543,7 +551,7 @@ build_of_the_table = refl
 
 abbrev cut_profile : Profile
 cut_profile = record {
-  head = head_of (record { parts = parts_of (take 400 worked_file); endian = Little; events = worked_section; features = 0x48; is_cut = true; end = 400; behind = [] }) 184;
+  head = head_of (record { parts = file_parts (take 400 worked_file); endian = Little; events = worked_section; features = 0x48; is_cut = true; end = 400; after = [] }) 184;
   records = little_program ++ (little_mapping ++ take 48 little_sample);
 }
 

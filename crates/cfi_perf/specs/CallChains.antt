@@ -1,6 +1,5 @@
 -- The call chain of a sample (perf_event_open(2), PERF_SAMPLE_CALLCHAIN; enum
 -- perf_callchain_context).
---     numbers_of big bytes      the numbers of eight bytes in some bytes
 --     chain_view chain      what a `CallChain` of the code is
 --     in_context wanted context chain      the addresses of one context, where the chain begins in
 --         another
@@ -13,10 +12,7 @@ use Rattle.cfi_read_core.specs.Numbers.{unsigned}
 use Rattle.cfi_read_core.specs.SliceReaders.{slice_over, slice_position}
 use Rattle.cfi_perf.specs.declared.call_chain.Addresses.{Addresses}
 use Rattle.cfi_perf.specs.declared.call_chain.CallChain.{CallChain}
-use Rattle.cfi_perf.specs.Results.{entries}
-
-abbrev pub numbers_of : Bool → List ℕ → List ℕ
-numbers_of big bytes = entries (length bytes / 8) (unsigned w64) (slice_over bytes big).source 0
+use Rattle.cfi_perf.specs.ByteReads.{entries, numbers_of}
 
 -- from the innermost call out
 abbrev pub chain_view : CallChain → List ℕ
@@ -43,8 +39,8 @@ in_context wanted context (entry ∷ chain) =
 
 -- ---- the iterator of the code
 
-abbrev pub entries_left : Addresses → List ℕ
-entries_left walk =
+abbrev pub chain_left : Addresses → List ℕ
+chain_left walk =
     let now = slice_position is_big walk.entries in
     in_context walk.wanted walk.context (entries walk.left (unsigned w64) now.source now.place)
 
@@ -53,4 +49,4 @@ at_first None = []
 at_first (Some address) = address ∷ []
 
 abbrev pub addresses_left : Addresses → List ℕ
-addresses_left walk = at_first walk.first ++ entries_left walk
+addresses_left walk = at_first walk.first ++ chain_left walk

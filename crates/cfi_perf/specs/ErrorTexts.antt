@@ -1,5 +1,5 @@
 -- What an error says, in a sentence, with the number that it carries.
---     text_of_perf error      the sentence, and the number behind it if there is one
+--     text_of_perf error      the sentence, and the number after it if there is one
 use Rattle.std.specs.Prelude.{ℕ, List, [], ◌++◌, Option, Some, None, codes}
 use Rattle.std.specs.Fmt.{decimal}
 use Rattle.cfi_perf.specs.declared.error.PerfError.{PerfError}
@@ -33,9 +33,9 @@ number_of_perf (AttributeSize size) = Some size
 number_of_perf (RecordSize size) = Some size
 number_of_perf _ = None
 
-abbrev pub number_text : Option ℕ → List ℕ
-number_text None = []
-number_text (Some n) = decimal n
+abbrev pub decimal_if : Option ℕ → List ℕ
+decimal_if None = []
+decimal_if (Some n) = decimal n
 
 abbrev pub text_of_perf : PerfError → List ℕ
-text_of_perf error = sentence_of_perf error ++ number_text (number_of_perf error)
+text_of_perf error = sentence_of_perf error ++ decimal_if (number_of_perf error)

@@ -7,7 +7,7 @@ use Rattle.cfi_read_core.specs.declared.error.Error.{Error}
 use Rattle.cfi_read_core.specs.ReadFunctions.{Read, ◌>>=◌, give}
 use Rattle.cfi_read_core.specs.Numbers.{unsigned}
 use Rattle.cfi_perf.specs.declared.attribute.Attribute.{Attribute}
-use Rattle.cfi_perf.specs.Results.{before_zero, items, read_from, header_text}
+use Rattle.cfi_perf.specs.ByteReads.{before_zero, item_bytes, read_from, header_text}
 
 -- ---- the kernel's own
 
@@ -57,33 +57,33 @@ generic_name attribute =
 -- of an event whose attributes have this size: these, the number of its ids, its name, its ids
 unfoldable pub description : ℕ → Read (List ℕ)
 description size = do
-  attribute ← items size 1
+  attribute ← item_bytes size 1
   id_count ← unsigned w32
   text ← header_text
-  ids ← items id_count 8
+  ids ← item_bytes id_count 8
   give text
 
--- what comes behind as many others
-unfoldable pub behind_others : {A : Type 0} → ℕ → Read A → Read A
-behind_others zero read = read
-behind_others (suc n) read = do
+-- what comes after as many others
+unfoldable pub after_others : {A : Type 0} → ℕ → Read A → Read A
+after_others zero read = read
+after_others (suc n) read = do
   other ← read
-  behind_others n read
+  after_others n read
 
--- behind the number of events and the size of their attributes, those of each
-unfoldable pub described : ℕ → Read (List ℕ)
-described index = do
+-- after the number of events and the size of their attributes, those of each
+unfoldable pub described_event : ℕ → Read (List ℕ)
+described_event index = do
   count ← unsigned w32
   size ← unsigned w32
-  behind_others index (description size)
+  after_others index (description size)
 
-abbrev pub name_in : Result (List ℕ) Error → Option (List ℕ)
-name_in (Ok text) = before_zero text
-name_in (Err e) = None
+abbrev pub name_of_text : Result (List ℕ) Error → Option (List ℕ)
+name_of_text (Ok text) = before_zero text
+name_of_text (Err e) = None
 
 -- the name of the event of an index, by the section that describes all of them
 abbrev pub described_name : Bool → List ℕ → ℕ → Option (List ℕ)
-described_name big section index = name_in (read_from big section (described index))
+described_name big section index = name_of_text (read_from big section (described_event index))
 
 abbrev pub event_name : Bool → List ℕ → ℕ → Attribute → List ℕ
 event_name big section index attribute =

@@ -13,15 +13,17 @@ use Rattle.cfi_read_core.specs.ByteOrder.{is_big}
 use Rattle.cfi_read_core.specs.Numbers.{unsigned}
 use Rattle.cfi_read_core.specs.SliceReaders.{slice_over}
 use Rattle.cfi_perf.specs.declared.attribute.Attribute.{Attribute}
-use Rattle.cfi_perf.specs.declared.attribute.EntryForm.{EntryForm}
-use Rattle.cfi_perf.specs.declared.attribute.EventEntry.{EventEntry}
-use Rattle.cfi_perf.specs.declared.attribute.EventLayout.{EventLayout}
+use Rattle.cfi_perf.specs.declared.event_entry.EntryForm.{EntryForm}
+use Rattle.cfi_perf.specs.declared.event_entry.EventEntry.{EventEntry}
+use Rattle.cfi_perf.specs.declared.layout.EventLayout.{EventLayout}
 use Rattle.cfi_perf.specs.declared.event_table.EventTable.{EventTable as EventTableOfCode}
 use Rattle.cfi_perf.specs.declared.event_table.ProfileEvent.{ProfileEvent as EventOfCode}
-use Rattle.cfi_perf.specs.FileParts.{Parts, parts_in}
-use Rattle.cfi_perf.specs.Results.{entries, read_from}
-use Rattle.cfi_perf.specs.Layouts.{has, entry, PERF_SAMPLE_IDENTIFIER}
+use Rattle.cfi_perf.specs.FileParts.{Parts, parts_at_hand}
+use Rattle.cfi_perf.specs.ByteReads.{entries, numbers_of, read_from}
+use Rattle.cfi_perf.specs.Layouts.{has, PERF_SAMPLE_IDENTIFIER}
+use Rattle.cfi_perf.specs.EventEntries.{entry}
 use Rattle.cfi_perf.specs.EventNames.{event_name}
+use Rattle.cfi_perf.specs.EventSections.{EventSection}
 
 pub record ProfileEvent : Type 0 where
   pub layout : EventLayout
@@ -43,11 +45,10 @@ pub record EventTable : Type 0 where
 
 -- ---- the ids of events
 
--- the numbers of eight bytes in a part of the file
+-- those in a part of the file
 abbrev pub numbers_in : Bool → Option (List ℕ) → List ℕ
 numbers_in big None = []
-numbers_in big (Some bytes) =
-    entries (length bytes / 8) (unsigned w64) (slice_over bytes big).source 0
+numbers_in big (Some bytes) = numbers_of big bytes
 
 abbrev pub known_event : Bool → Parts → EventEntry → KnownEvent
 known_event big parts e =
@@ -60,19 +61,33 @@ known_events big parts n form attrs =
 
 -- ---- what these are in the code
 
-abbrev pub event_view : EventOfCode → ProfileEvent
-event_view e = record { layout = e.layout; name = e.name.now }
+abbrev pub profile_event_view : EventOfCode → ProfileEvent
+profile_event_view e = record { layout = e.layout; name = e.name.now }
 
-abbrev pub table_view : EventTableOfCode → EventTable
-table_view table = record {
+abbrev pub event_table_view : EventTableOfCode → EventTable
+event_table_view table = record {
   big_endian = is_big table.endian;
   descriptions = table.descriptions.now;
   entries =
-      known_events (is_big table.endian) (parts_in table.bytes) table.count table.form
+      known_events (is_big table.endian) (parts_at_hand table.bytes) table.count table.form
       table.attrs.now;
-  first = event_view table.first;
+  first = profile_event_view table.first;
   is_alone = table.count == 1;
   build_ids = table.build_ids.now;
+}
+
+-- those of a section, by the sections of their names and of builds
+abbrev pub event_table_of : Bool → Parts → EventSection → List ℕ → List ℕ → EventTable
+event_table_of big parts events descriptions build_ids = record {
+  big_endian = big;
+  descriptions = descriptions;
+  entries = known_events big parts events.count events.form events.attrs;
+  first = record {
+    layout = events.first.attribute.layout;
+    name = event_name big descriptions 0 events.first.attribute;
+  };
+  is_alone = events.count == 1;
+  build_ids = build_ids;
 }
 
 -- ---- the event of an id
@@ -100,7 +115,7 @@ event_of_id table id =
 
 -- ---- the event of a record
 
--- PERF_SAMPLE_IDENTIFIER stands first in a sample, and PERF_SAMPLE_ID behind IP, TID, TIME and ADDR
+-- PERF_SAMPLE_IDENTIFIER stands first in a sample, and PERF_SAMPLE_ID after IP, TID, TIME and ADDR
 abbrev pub id_place : EventLayout → ℕ
 id_place layout =
     if has PERF_SAMPLE_IDENTIFIER layout then 0

@@ -1,7 +1,7 @@
 -- The records of mapped files, programs and new processes (perf_event_open(2), "MMAP layout";
 -- include/uapi/linux/perf_event.h).
 use Rattle.std.specs.Prelude.{ℕ, Bool, not, List, drop, length, take, Option, Some, None, Result}
-use Rattle.std.specs.Prelude.{Ok, slice_get, option_map, unwrap_or, ◌==◌, if◌then◌else◌}
+use Rattle.std.specs.Prelude.{Ok, slice_get, option_map, unwrap_or, ◌==◌, if◌then◌else◌, ok_or}
 use Rattle.std.specs.Int.{w32, w64}
 use Rattle.cfi_read_core.specs.ReadFunctions.{Read, ◌>>=◌, give}
 use Rattle.cfi_read_core.specs.Numbers.{unsigned}
@@ -20,7 +20,8 @@ use Rattle.cfi_perf.specs.declared.record.Event.TheVariants.{Lost as LostOfCode}
 use Rattle.cfi_perf.specs.declared.record.Fork.{Fork}
 use Rattle.cfi_perf.specs.declared.record.Lost.{Lost}
 use Rattle.cfi_perf.specs.declared.record_fields.MappedRange.{MappedRange}
-use Rattle.cfi_perf.specs.Results.{and_then, or_error, or_missing, before_zero, read_from}
+use Rattle.cfi_perf.specs.Results.{and_then, or_error}
+use Rattle.cfi_perf.specs.ByteReads.{before_zero, read_from}
 use Rattle.cfi_perf.specs.Layouts.{has_any}
 use Rattle.cfi_perf.specs.Samples.{Sample, sample_view, thread}
 
@@ -54,8 +55,8 @@ pub record Record : Type 0 where
   pub event : Event
 
 -- what these are in the code
-abbrev pub mapping_view : MappingFields → Mapping
-mapping_view m = record {
+abbrev pub mapping_record_view : MappingFields → Mapping
+mapping_record_view m = record {
   pid = m.pid;
   address = m.address;
   length = m.length;
@@ -69,7 +70,7 @@ abbrev pub program_view : ProgramFields → Program
 program_view p = record { pid = p.pid; tid = p.tid; name = p.name.now; is_exec = p.is_exec }
 
 abbrev pub event_view : EventOfCode → Event
-event_view (MappingOfCode m) = MappingEvent (mapping_view m)
+event_view (MappingOfCode m) = MappingEvent (mapping_record_view m)
 event_view (ProgramOfCode p) = ProgramEvent (program_view p)
 event_view (ForkOfCode f) = ForkEvent f
 event_view (SampleOfCode s) = SampleEvent (sample_view s)
@@ -124,16 +125,16 @@ mapping_of range is_executable name build_id =
 unfoldable pub mapping : Bool → ℕ → List ℕ → Result Mapping PerfError
 mapping big misc fields =
     and_then (or_error RecordCut (read_from big fields mapped_range)) (λ range.
-    and_then (or_missing RecordCut (before_zero (drop 32 fields))) (λ name.
+    and_then (ok_or (before_zero (drop 32 fields)) RecordCut) (λ name.
     Ok (mapping_of range (not (has_any 0x2000 misc)) name None)))
 
--- PERF_RECORD_MMAP2: behind 24 bytes that say which file it is, prot, flags and the name. PROT_EXEC
+-- PERF_RECORD_MMAP2: after 24 bytes that say which file it is, prot, flags and the name. PROT_EXEC
 -- is 4
 unfoldable pub mapping2 : Bool → ℕ → List ℕ → Result Mapping PerfError
 mapping2 big misc fields =
     and_then (or_error RecordCut (read_from big fields mapped_range)) (λ range.
     and_then (or_error RecordCut (read_from big (drop 56 fields) (unsigned w32))) (λ prot.
-    and_then (or_missing RecordCut (before_zero (drop 64 fields))) (λ name.
+    and_then (ok_or (before_zero (drop 64 fields)) RecordCut) (λ name.
     Ok (mapping_of range (has_any 0x4 prot) name (own_build_id misc fields)))))
 
 -- ---- programs and processes
@@ -142,7 +143,7 @@ mapping2 big misc fields =
 unfoldable pub program : Bool → ℕ → List ℕ → Result Program PerfError
 program big misc fields =
     and_then (or_error RecordCut (read_from big fields thread)) (λ thread.
-    and_then (or_missing RecordCut (before_zero (drop 8 fields))) (λ name.
+    and_then (ok_or (before_zero (drop 8 fields)) RecordCut) (λ name.
     Ok (record { pid = thread.pid; tid = thread.tid; name = name; is_exec = has_any 0x2000 misc })))
 
 -- PERF_RECORD_FORK, up to the thread that made it

@@ -16,7 +16,8 @@ use Rattle.cfi_perf.specs.declared.error.PerfError.TheVariants.{NotPerf, HeaderC
 use Rattle.cfi_perf.specs.declared.error.PerfError.TheVariants.{HeaderSize, Directory}
 use Rattle.cfi_perf.specs.declared.file_header.FileSection.{FileSection}
 use Rattle.cfi_perf.specs.declared.file_header.FileHeader.{FileHeader}
-use Rattle.cfi_perf.specs.Results.{and_then, or_error, read_from}
+use Rattle.cfi_perf.specs.Results.{and_then, or_error}
+use Rattle.cfi_perf.specs.ByteReads.{read_from}
 
 -- the magic number 0x32454c4946524550, in the byte order of the file
 abbrev pub byte_order : List ℕ → Result RunTimeEndian PerfError
@@ -32,7 +33,7 @@ file_section = do
   size ← unsigned w64
   give (record { offset = offset; size = size })
 
--- which sections stand behind the records, as 256 bits; bits from 64 on aren't used here
+-- which sections stand after the records, as 256 bits; bits from 64 on aren't used here
 unfoldable pub feature_bits : Read ℕ
 feature_bits = do
   features ← unsigned w64
@@ -52,8 +53,8 @@ header_fields = do
   give (record { attr_size = attr_size; attrs = attrs; records = records; features = features })
 
 -- HEADER_DIR_FORMAT, bit 24, says that the samples are in other files, beside this one
-abbrev pub of_one_file : FileHeader → Result FileHeader PerfError
-of_one_file header = if bit_and header.features 0x1000000 == 0 then Ok header else Err Directory
+abbrev pub in_one_file : FileHeader → Result FileHeader PerfError
+in_one_file header = if bit_and header.features 0x1000000 == 0 then Ok header else Err Directory
 
 -- the header, of a file of this byte order
 unfoldable pub file_header : RunTimeEndian → List ℕ → Result FileHeader PerfError
@@ -62,7 +63,7 @@ file_header endian bytes =
     if not (size == 104) then Err (HeaderSize size)
     else
     and_then (or_error HeaderCut (read_from (is_big endian) (drop 16 bytes) header_fields))
-    of_one_file)
+    in_one_file)
 
 -- where a part begins and where it ends, at the last offset of 64 bits at most
 abbrev pub bounds : FileSection → ℕ × ℕ

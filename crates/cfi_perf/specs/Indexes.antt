@@ -20,13 +20,13 @@ use Rattle.cfi_perf.specs.declared.windows.RecordWalk.{RecordWalk}
 use Rattle.cfi_perf.specs.Events.{Event, OtherEvent, Record, SampleEvent}
 use Rattle.cfi_perf.specs.Windows.{record_alone}
 
-abbrev pub bytes_at : RecordPlace → List ℕ → List ℕ
-bytes_at place bytes = slice_range bytes place.offset (place.offset + place.size)
+abbrev pub record_bytes : RecordPlace → List ℕ → List ℕ
+record_bytes place bytes = slice_range bytes place.offset (place.offset + place.size)
 
 abbrev pub record_by :
     PlaceKind → RecordWalk → List ℕ → List ℕ → RecordPlace → Result Record PerfError
-record_by InFile walk all kept place = record_alone walk (bytes_at place all)
-record_by Kept walk all kept place = record_alone walk (bytes_at place kept)
+record_by InFile walk all kept place = record_alone walk (record_bytes place all)
+record_by Kept walk all kept place = record_alone walk (record_bytes place kept)
 record_by Nothing walk all kept place = Ok (record { time = place.time; event = OtherEvent })
 
 abbrev pub record_in : RecordWalk → List ℕ → List ℕ → RecordPlace → Result Record PerfError
@@ -39,8 +39,8 @@ IsKeptIn _ count place = Unit {0}
 
 -- ---- all, in order
 
-abbrev pub IsAt : RecordWalk → List ℕ → List ℕ → RecordPlace → Record → Type 0
-IsAt walk all kept place r =
+abbrev pub IsRecordAt : RecordWalk → List ℕ → List ℕ → RecordPlace → Record → Type 0
+IsRecordAt walk all kept place r =
     (place.time ≡ r.time) × (record_in walk all kept place ≡ Ok r)
     × IsKeptIn place.kind (length kept) place
 
@@ -48,7 +48,7 @@ abbrev pub AreAt : RecordWalk → List ℕ → List ℕ → List RecordPlace →
 AreAt walk all kept [] records = records ≡ []
 AreAt walk all kept (place ∷ places) records =
     (r : Record) × (others : List Record) × (records ≡ r ∷ others)
-    × IsAt walk all kept place r × AreAt walk all kept places others
+    × IsRecordAt walk all kept place r × AreAt walk all kept places others
 
 abbrev pub places_of : RecordIndex → List RecordPlace
 places_of index = index.places.items
@@ -68,11 +68,11 @@ kept_bytes (SampleEvent s) bytes = []
 kept_bytes OtherEvent bytes = []
 kept_bytes _ bytes = bytes
 
--- where its bytes are, and the place that it is given: its own, or that behind those that were kept
-abbrev pub kind_of : Event → PlaceKind
-kind_of (SampleEvent s) = InFile
-kind_of OtherEvent = Nothing
-kind_of _ = Kept
+-- where its bytes are, and the place that it is given: its own, or that after those that were kept
+abbrev pub place_kind : Event → PlaceKind
+place_kind (SampleEvent s) = InFile
+place_kind OtherEvent = Nothing
+place_kind _ = Kept
 
 abbrev pub offset_for : PlaceKind → ℕ → ℕ → ℕ
 offset_for Kept offset kept = kept
@@ -81,9 +81,9 @@ offset_for _ offset kept = offset
 abbrev pub place_for : Record → ℕ → ℕ → ℕ → RecordPlace
 place_for r offset size kept = record {
   time = r.time;
-  offset = offset_for (kind_of r.event) offset kept;
+  offset = offset_for (place_kind r.event) offset kept;
   size = size;
-  kind = kind_of r.event;
+  kind = place_kind r.event;
 }
 
 abbrev pub IsOfBytes : RecordWalk → List ℕ → Record → ℕ → List ℕ → Type 0

@@ -12,17 +12,19 @@ use Rattle.cfi_read_core.specs.ByteOrder.{is_big}
 use Rattle.cfi_read_core.specs.Numbers.{unsigned}
 use Rattle.cfi_read_core.specs.ReaderCalls.{map_ok}
 use Rattle.cfi_read_core.specs.SliceReaders.{slice_over}
-use Rattle.cfi_perf.specs.declared.attribute.EntryForm.TheVariants.{Records as RecordsForm}
-use Rattle.cfi_perf.specs.declared.attribute.EventEntry.{EventEntry}
+use Rattle.cfi_perf.specs.declared.event_entry.EntryForm.TheVariants.{Records as RecordsForm}
+use Rattle.cfi_perf.specs.declared.event_entry.EventEntry.{EventEntry}
 use Rattle.cfi_perf.specs.declared.error.PerfError.{PerfError}
 use Rattle.cfi_perf.specs.declared.error.PerfError.TheVariants.{PipeMode}
-use Rattle.cfi_perf.specs.EventNames.{event_name}
-use Rattle.cfi_perf.specs.EventTables.{EventTable, known_events}
-use Rattle.cfi_perf.specs.FileParts.{parts_of}
-use Rattle.cfi_perf.specs.Layouts.{first_event, pipe_event}
-use Rattle.cfi_perf.specs.Records.{Framed, split_record}
-use Rattle.cfi_perf.specs.Results.{and_then, entries, read_from}
-use Rattle.cfi_perf.specs.Sections.{EventSection, ProfileHead, machine_by, text_in}
+use Rattle.cfi_perf.specs.EventTables.{EventTable, event_table_of}
+use Rattle.cfi_perf.specs.FileParts.{file_parts}
+use Rattle.cfi_perf.specs.EventEntries.{first_event, pipe_event}
+use Rattle.cfi_perf.specs.RecordFrames.{Framed, split_record}
+use Rattle.cfi_perf.specs.Results.{and_then}
+use Rattle.cfi_perf.specs.ByteReads.{entries, read_from}
+use Rattle.cfi_perf.specs.EventSections.{EventSection}
+use Rattle.cfi_perf.specs.ProfileHeads.{ProfileHead}
+use Rattle.cfi_perf.specs.Architectures.{machine_by, text_in}
 
 -- the header has 16 bytes
 abbrev pub is_size : Result ℕ Error → ℕ → Bool
@@ -53,7 +55,7 @@ attributes_in big records = attributes_up_to (length records) big records
 abbrev pub pipe_entries : Bool → List ℕ → ℕ → List EventEntry
 pipe_entries big records count = entries count pipe_event (slice_over records big).source 0
 
--- whether so many of them stand first, one behind the other
+-- whether so many of them stand first, one after the other
 abbrev pub stand_first : Bool → List ℕ → ℕ → Bool
 stand_first big records count = length (pipe_entries big records count) == count
 
@@ -118,17 +120,9 @@ build_ids_in big records = build_ids_up_to (length records) big records
 -- ---- the profile
 
 abbrev pub pipe_table : Bool → List ℕ → EventSection → EventTable
-pipe_table big records events = record {
-  big_endian = big;
-  descriptions = pipe_descriptions big records;
-  entries = known_events big (parts_of records) events.count events.form events.attrs;
-  first = record {
-    layout = events.first.attribute.layout;
-    name = event_name big (pipe_descriptions big records) 0 events.first.attribute;
-  };
-  is_alone = events.count == 1;
-  build_ids = build_ids_in big records;
-}
+pipe_table big records events =
+    event_table_of big (file_parts records) events (pipe_descriptions big records)
+    (build_ids_in big records)
 
 unfoldable pub pipe_head : RunTimeEndian → List ℕ → Result ProfileHead PerfError
 pipe_head endian records =

@@ -1,37 +1,24 @@
 -- A profile (perf.data-file-format.txt).
 --     profile bytes      the profile of these bytes, or the first error
 --     profile_view p      what a `Profile` of the code is
-use Rattle.std.specs.Prelude.{ℕ, ◌-◌, List, drop, length, Option, Result, Ok, option_map}
-use Rattle.std.specs.Prelude.{if◌then◌else◌}
+use Rattle.std.specs.Prelude.{ℕ, List, drop, length, Option, Result, Ok, if◌then◌else◌}
 use Rattle.cfi_read_core.specs.declared.endianity.RunTimeEndian.{RunTimeEndian}
 use Rattle.cfi_read_core.specs.ByteOrder.{is_big}
 use Rattle.cfi_read_core.specs.ReaderCalls.{map_ok}
 use Rattle.cfi_perf.specs.declared.error.PerfError.{PerfError}
 use Rattle.cfi_perf.specs.declared.file_header.FileHeader.{FileHeader}
 use Rattle.cfi_perf.specs.declared.profile.Profile.{Profile as ProfileOfCode}
-use Rattle.cfi_perf.specs.declared.profile.ProfileHead.{ProfileHead as HeadOfCode}
 use Rattle.cfi_perf.specs.Results.{and_then}
-use Rattle.cfi_perf.specs.EventTables.{table_view}
 use Rattle.cfi_perf.specs.FileHeaders.{byte_order, file_header}
 use Rattle.cfi_perf.specs.Records.{Records, records_of, until_cut}
 use Rattle.cfi_perf.specs.Pipes.{is_pipe, pipe_head}
-use Rattle.cfi_perf.specs.Sections.{EventSection, ProfileHead, events_by, head_of, records_at}
-use Rattle.cfi_perf.specs.Sections.{sections_by}
+use Rattle.cfi_perf.specs.EventSections.{EventSection, events_by}
+use Rattle.cfi_perf.specs.ProfileHeads.{ProfileHead, head_of, head_view}
+use Rattle.cfi_perf.specs.Sections.{records_at, sections_by}
 
 pub record Profile : Type 0 where
   pub head : ProfileHead
   pub records : List ℕ  -- the bytes of the records
-
--- what these are in the code
-abbrev pub head_view : HeadOfCode → ProfileHead
-head_view h = record {
-  endian = h.endian;
-  events = table_view h.events;
-  architecture = map_ok (option_map (λ name. name.now)) h.architecture;
-  place = h.end - h.size;
-  size = h.size;
-  is_cut = h.is_cut;
-}
 
 abbrev pub profile_view : ProfileOfCode → Profile
 profile_view p = record { head = head_view p.head; records = p.records.now }
@@ -51,7 +38,7 @@ file_profile endian bytes =
     and_then (events_by endian bytes header) (λ events.
     Ok (profile_by endian bytes header events)))
 
--- of a pipe the records stand behind the header
+-- of a pipe the records stand after the header
 abbrev pub with_head : List ℕ → ProfileHead → Profile
 with_head records head = record { head = head; records = records }
 

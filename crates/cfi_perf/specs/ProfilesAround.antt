@@ -1,6 +1,6 @@
 -- A profile of which the bytes of the records are left out.
---     IsAround before behind count bytes      the bytes, so many, begin and end so
---     profile_around before behind count      what is read of these alone
+--     IsAround before after count bytes      the bytes, so many, begin and end so
+--     profile_around before after count      what is read of these alone
 --     IsProfileAround bytes result      that this is the profile of the bytes
 use Rattle.std.specs.Prelude.{◌≡◌, ℕ, ◌+◌, ◌-◌, Bool, true, not, ◌&&◌, ◌||◌, List, drop, length}
 use Rattle.std.specs.Prelude.{take, min, Option, Some, None, Result, Ok, Err, bit_and, count_ones}
@@ -13,20 +13,23 @@ use Rattle.cfi_read_core.specs.SliceReaders.{slice_over}
 use Rattle.cfi_perf.specs.declared.error.PerfError.{PerfError}
 use Rattle.cfi_perf.specs.declared.file_header.FileHeader.{FileHeader}
 use Rattle.cfi_perf.specs.declared.file_header.FileSection.{FileSection}
-use Rattle.cfi_perf.specs.Results.{and_then, entries}
-use Rattle.cfi_perf.specs.Layouts.{entry}
+use Rattle.cfi_perf.specs.Results.{and_then}
+use Rattle.cfi_perf.specs.ByteReads.{entries}
+use Rattle.cfi_perf.specs.EventEntries.{entry}
 use Rattle.cfi_perf.specs.FileHeaders.{byte_order, file_header}
-use Rattle.cfi_perf.specs.FileParts.{parts_around, parts_of}
+use Rattle.cfi_perf.specs.FileParts.{parts_around, file_parts}
 use Rattle.cfi_perf.specs.Pipes.{is_pipe}
-use Rattle.cfi_perf.specs.Sections.{EventSection, ProfileHead, Sections, events_by, feature_place}
-use Rattle.cfi_perf.specs.Sections.{head_of}
+use Rattle.cfi_perf.specs.EventSections.{EventSection, events_by}
+use Rattle.cfi_perf.specs.ProfileHeads.{ProfileHead}
+use Rattle.cfi_perf.specs.Sections.{Sections, feature_place}
+use Rattle.cfi_perf.specs.ProfileHeads.{head_of}
 use Rattle.cfi_perf.specs.Profiles.{Profile, profile}
 
 -- These bytes, so many, begin and end so.
-pub record IsAround (before behind : List ℕ) (count : ℕ) (bytes : List ℕ) : Type 0 where
+pub record IsAround (before after : List ℕ) (count : ℕ) (bytes : List ℕ) : Type 0 where
   pub first : take (length before) bytes ≡ before
-  pub last : drop (length bytes - length behind) bytes ≡ behind
-  pub apart : length before + length behind ≤ length bytes
+  pub last : drop (length bytes - length after) bytes ≡ after
+  pub apart : length before + length after ≤ length bytes
   pub all : length bytes ≡ count
 
 -- the profile of these bytes, by what it says before its records
@@ -47,10 +50,10 @@ IsProfileAround bytes result = IsReadAs bytes (profile bytes) result
 
 -- whether the records are all that lies between, and the attributes before them
 abbrev pub lies_between : FileHeader → List ℕ → List ℕ → ℕ → Bool
-lies_between header before behind count =
+lies_between header before after count =
     (header.records.offset == length before)
-    && ((min (header.records.offset + header.records.size) count == count - length behind)
-    && is_some (parts_of before header.attrs))
+    && ((min (header.records.offset + header.records.size) count == count - length after)
+    && is_some (file_parts before header.attrs))
 
 -- whether the ids of all events are
 abbrev pub has_ids : Sections → Bool
@@ -59,15 +62,15 @@ has_ids s =
     (entries s.events.count (entry s.events.form)
     (slice_over s.events.attrs (is_big s.endian)).source 0)
 
-abbrev pub has_place : Sections → Result FileSection PerfError → Bool
-has_place s (Ok place) = is_some (s.parts place)
-has_place s (Err e) = true
+abbrev pub has_section : Sections → Result FileSection PerfError → Bool
+has_section s (Ok place) = is_some (s.parts place)
+has_section s (Err e) = true
 
 -- whether the section of a feature is, by its bit and those before it
 abbrev pub has_feature : Sections → ℕ → ℕ → Bool
 has_feature s bit lower =
     (bit_and s.features bit == 0)
-    || has_place s (feature_place s (count_ones (bit_and s.features lower)))
+    || has_section s (feature_place s (count_ones (bit_and s.features lower)))
 
 -- HEADER_BUILD_ID, HEADER_ARCH and HEADER_EVENT_DESC
 abbrev pub has_all : Sections → Bool
@@ -79,14 +82,14 @@ has_all s =
 
 abbrev pub sections_around :
     RunTimeEndian → List ℕ → List ℕ → ℕ → FileHeader → EventSection → Sections
-sections_around endian before behind count header events = record {
-  parts = parts_around before (count - length behind) behind;
+sections_around endian before after count header events = record {
+  parts = parts_around before (count - length after) after;
   endian = endian;
   events = events;
   features = header.features;
-  is_cut = nat_lt ((count - length behind) - length before) header.records.size;
-  end = count - length behind;
-  behind = behind;
+  is_cut = nat_lt ((count - length after) - length before) header.records.size;
+  end = count - length after;
+  after = after;
 }
 
 abbrev pub head_if : Sections → ℕ → Option ProfileHead
@@ -95,12 +98,12 @@ head_if s size = if has_all s then Some (head_of s size) else None
 -- the header has 104 bytes
 unfoldable pub profile_around :
     List ℕ → List ℕ → ℕ → Result (Option ProfileHead) PerfError
-profile_around before behind count =
+profile_around before after count =
     if nat_lt (length before) 104 then Ok None
     else and_then (byte_order before) (λ endian.
     if is_pipe endian before then Ok None
     else and_then (file_header endian before) (λ header.
-    if not (lies_between header before behind count) then Ok None
+    if not (lies_between header before after count) then Ok None
     else and_then (events_by endian before header) (λ events.
-    Ok (head_if (sections_around endian before behind count header events)
-    ((count - length behind) - length before)))))
+    Ok (head_if (sections_around endian before after count header events)
+    ((count - length after) - length before)))))

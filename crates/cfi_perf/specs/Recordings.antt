@@ -26,15 +26,15 @@ abbrev pub is_sample : Event → Bool
 is_sample (SampleEvent s) = true
 is_sample _ = false
 
-abbrev pub copies_stack : Event → Bool
-copies_stack (SampleEvent s) = s.copies_stack
-copies_stack _ = false
+abbrev pub is_stack_sample : Event → Bool
+is_stack_sample (SampleEvent s) = s.copies_stack
+is_stack_sample _ = false
 
 abbrev pub has_samples : List Record → Bool
 has_samples records = list_any (λ r. is_sample r.event) records
 
 abbrev pub has_stacks : List Record → Bool
-has_stacks records = list_any (λ r. copies_stack r.event) records
+has_stacks records = list_any (λ r. is_stack_sample r.event) records
 
 abbrev pub lacks_stacks : List Record → Bool
 lacks_stacks records = has_samples records && not (has_stacks records)

@@ -1,4 +1,5 @@
 -- Samples, field by field (perf_event_open(2), PERF_RECORD_SAMPLE).
+use Rattle.std.specs.Result.{result_ok}
 use Rattle.std.specs.Prelude.{ℕ, ◌+◌, ◌*◌, ◌^◌, ◌/◌, ◌%◌, Bool, not, List, [], drop, take, Option}
 use Rattle.std.specs.Prelude.{Some, None, Result, Ok, Err, count_ones, bit_and, option_map, ◌==◌}
 use Rattle.std.specs.Prelude.{◌&&◌, ◌∷◌, if◌then◌else◌}
@@ -7,7 +8,7 @@ use Rattle.std.specs.Int.{w32, w64}
 use Rattle.cfi_read_core.specs.ByteOrder.{is_big}
 use Rattle.cfi_read_core.specs.ReadFunctions.{Read, ◌>>=◌, give}
 use Rattle.cfi_read_core.specs.Numbers.{unsigned}
-use Rattle.cfi_perf.specs.declared.attribute.EventLayout.{EventLayout}
+use Rattle.cfi_perf.specs.declared.layout.EventLayout.{EventLayout}
 use Rattle.cfi_perf.specs.declared.sample.Sample.{Sample as SampleOfCode}
 use Rattle.cfi_perf.specs.declared.sample.UserState.{UserState as UserStateOfCode}
 use Rattle.cfi_perf.specs.declared.sample.UserRegisters.{UserRegisters as UserRegistersOfCode}
@@ -17,8 +18,9 @@ use Rattle.cfi_perf.specs.declared.sample_fields.LaterNumbers.{LaterNumbers}
 use Rattle.cfi_perf.specs.declared.sample_fields.TimedSample.{TimedSample as TimedSampleOfCode}
 use Rattle.cfi_perf.specs.EventTables.{ProfileEvent}
 use Rattle.cfi_perf.specs.CallChains.{PERF_CONTEXT_KERNEL, PERF_CONTEXT_USER, chain_view}
-use Rattle.cfi_perf.specs.CallChains.{in_context, numbers_of}
-use Rattle.cfi_perf.specs.Results.{items, read_from}
+use Rattle.cfi_perf.specs.CallChains.{in_context}
+use Rattle.cfi_perf.specs.ByteReads.{numbers_of}
+use Rattle.cfi_perf.specs.ByteReads.{item_bytes, read_from}
 use Rattle.cfi_perf.specs.Layouts.{has, has_any, PERF_SAMPLE_IP, PERF_SAMPLE_TID, PERF_SAMPLE_TIME}
 use Rattle.cfi_perf.specs.Layouts.{PERF_SAMPLE_ADDR, PERF_SAMPLE_READ, PERF_SAMPLE_CALLCHAIN}
 use Rattle.cfi_perf.specs.Layouts.{PERF_SAMPLE_ID, PERF_SAMPLE_CPU, PERF_SAMPLE_PERIOD}
@@ -52,20 +54,15 @@ pub record Sample : Type 0 where
   pub copies_stack : Bool  -- whether its event has registers and a copy of the stack
   pub user : UserState
 
--- the value in a result
-abbrev pub ok_value : {A E : Type 0} → Result A E → Option A
-ok_value (Ok x) = Some x
-ok_value (Err e) = None
-
 -- whether the mask has the bit of a number
 abbrev pub has_register : UserRegisters → ℕ → Bool
 has_register registers number = not ((registers.mask / 2 ^ number) % 2 == 0)
 
 -- the register of a number: as many values stand before it as bits are set below its own
-abbrev pub register_of : UserRegisters → ℕ → Option ℕ
-register_of registers number =
+abbrev pub sampled_register : UserRegisters → ℕ → Option ℕ
+sampled_register registers number =
     if has_register registers number
-    then ok_value
+    then result_ok
     (read_from registers.big_endian
     (drop (8 * count_ones (registers.mask % 2 ^ number)) registers.values) (unsigned w64))
     else None
@@ -136,7 +133,7 @@ sample_numbers layout = do
   time ← number_if (has PERF_SAMPLE_TIME layout)
   give (record { ip = ip; thread = thread'; time = time })
 
--- ---- the numbers behind the time, up to the counts
+-- ---- the numbers after the time, up to the counts
 
 -- the processor, and four bytes that say nothing
 unfoldable pub processor : Read ℕ
@@ -169,13 +166,13 @@ later_numbers layout = do
 unfoldable pub group_values : ℕ → Read Unit
 group_values format = do
   count ← unsigned w64
-  times ← items (count_ones (bit_and format 0x3)) 8
-  values ← items count (8 * (1 + count_ones (bit_and format 0x14)))
+  times ← item_bytes (count_ones (bit_and format 0x3)) 8
+  values ← item_bytes count (8 * (1 + count_ones (bit_and format 0x14)))
   give tt
 
 unfoldable pub single_value : ℕ → Read Unit
 single_value format = do
-  value ← items (1 + count_ones (bit_and format 0x17)) 8
+  value ← item_bytes (1 + count_ones (bit_and format 0x17)) 8
   give tt
 
 abbrev pub read_values : EventLayout → Read Unit
@@ -191,7 +188,7 @@ read_values layout =
 unfoldable pub call_chain : Read (List ℕ)
 call_chain = do
   count ← unsigned w64
-  addresses ← items count 8
+  addresses ← item_bytes count 8
   λ source. give (numbers_of source.big_endian addresses) source
 
 abbrev pub call_chain_if : Bool → Read (Option (List ℕ))
@@ -201,7 +198,7 @@ call_chain_if is_there = if is_there then call_chain >>= (λ chain. give (Some c
 unfoldable pub raw_data : Read Unit
 raw_data = do
   size ← unsigned w32
-  bytes ← items size 1
+  bytes ← item_bytes size 1
   give tt
 
 -- PERF_SAMPLE_BRANCH_HW_INDEX is 1 << 17; PERF_SAMPLE_BRANCH_COUNTERS is 1 << 19: another eight
@@ -213,7 +210,7 @@ unfoldable pub branch_stack : ℕ → Read Unit
 branch_stack chosen = do
   count ← unsigned w64
   hw_idx ← number_if (has_any 0x20000 chosen)
-  branches ← items count (branch_size chosen)
+  branches ← item_bytes count (branch_size chosen)
   give tt
 
 abbrev pub passed_if : Bool → Read Unit → Read Unit
@@ -231,11 +228,11 @@ lists layout = do
 -- ---- registers and stack
 
 -- an ABI, and the registers unless that is PERF_SAMPLE_REGS_ABI_NONE (0)
-abbrev pub registers_by : ℕ → ℕ → Read (Option UserRegisters)
-registers_by mask abi =
+abbrev pub registers_of_abi : ℕ → ℕ → Read (Option UserRegisters)
+registers_of_abi mask abi =
     if abi == 0 then give None
     else
-    (items (count_ones mask) 8 >>=
+    (item_bytes (count_ones mask) 8 >>=
     λ values source.
     give
     (Some (record {
@@ -249,7 +246,7 @@ registers_by mask abi =
 unfoldable pub registers : ℕ → Read (Option UserRegisters)
 registers mask = do
   abi ← unsigned w64
-  registers_by mask abi
+  registers_of_abi mask abi
 
 abbrev pub user_registers : EventLayout → Read (Option UserRegisters)
 user_registers layout =
@@ -258,7 +255,7 @@ user_registers layout =
 -- the bytes that were to be copied, and how many of them were
 unfoldable pub copied_stack : ℕ → Read (List ℕ)
 copied_stack size = do
-  bytes ← items size 1
+  bytes ← item_bytes size 1
   dyn_size ← unsigned w64
   give (take dyn_size bytes)
 

@@ -1,30 +1,31 @@
 //! A profile of which the bytes of the records aren't at hand.
 ghost use Rattle.std.specs.Prelude.{◌≡◌, option_map};
 ghost use Rattle.cfi_read_core.specs.ReaderCalls.{map_ok};
-ghost use Rattle.cfi_perf.specs.Profiles.{head_view};
+ghost use Rattle.cfi_perf.specs.ProfileHeads.{head_view};
 ghost use Rattle.cfi_perf.specs.ProfilesAround.{has_all, has_feature, has_ids, head_if};
 ghost use Rattle.cfi_perf.specs.ProfilesAround.{lies_between, profile_around};
 ghost use Rattle.cfi_perf.specs.Sections.{sections_view};
 
-use crate::attribute::read_entry;
 use crate::bytes::part;
 use crate::error::PerfError;
+use crate::event_entry::read_entry;
+use crate::event_section::events_by;
 use crate::file_bytes::FileBytes;
 use crate::file_header::{FILE_HEADER_SIZE, FileHeader, byte_order, file_header};
 use crate::pipe::is_pipe;
 use crate::profile::ProfileHead;
-use crate::sections::{HEADER_ARCH, HEADER_BUILD_ID, HEADER_EVENT_DESC, Sections, events_by};
+use crate::sections::{HEADER_ARCH, HEADER_BUILD_ID, HEADER_EVENT_DESC, Sections};
 use cfi_read_core::{EndianSlice, Reader};
 
-/// Reads what a profile says before its records, by its bytes before them and behind them.
+/// Reads what a profile says before its records, by its bytes before them and after them.
 #[tactic(auto, unfolding(crate::specs::ProfilesAround::profile_around))]
 pub(crate) fn head_around<'input>(
     before: &'input [u8],
-    behind: &'input [u8],
+    after: &'input [u8],
     length: u64,
 ) -> Result<Option<ProfileHead<'input>>, PerfError>
     ensures { map_ok (option_map head_view) result
-        ≡ profile_around before.now behind.now length }
+        ≡ profile_around before.now after.now length }
 {
     if (before.len() as u64) < FILE_HEADER_SIZE {
         return Ok(None);
@@ -34,18 +35,14 @@ pub(crate) fn head_around<'input>(
         return Ok(None);
     }
     let header = file_header(endian, before)?;
-    if !lies_between(&header, before, behind, length) {
+    if !lies_between(&header, before, after, length) {
         return Ok(None);
     }
     let events = events_by(endian, before, &header)?;
-    let end = length.saturating_sub(behind.len() as u64);
+    let end = length.saturating_sub(after.len() as u64);
     let size = end.saturating_sub(before.len() as u64);
     let sections = Sections {
-        bytes: FileBytes {
-            before,
-            end,
-            behind,
-        },
+        bytes: FileBytes { before, end, after },
         endian,
         events,
         features: header.features,
@@ -55,12 +52,12 @@ pub(crate) fn head_around<'input>(
 }
 
 /// Whether the records are all that lies between the bytes, and the attributes lie before them.
-fn lies_between(header: &FileHeader, before: &[u8], behind: &[u8], length: u64) -> bool
-    ensures { result ≡ lies_between header.now before.now behind.now length }
+fn lies_between(header: &FileHeader, before: &[u8], after: &[u8], length: u64) -> bool
+    ensures { result ≡ lies_between header.now before.now after.now length }
 {
     let end = header.records.offset.saturating_add(header.records.size);
     header.records.offset == before.len() as u64
-        && end.min(length) == length.saturating_sub(behind.len() as u64)
+        && end.min(length) == length.saturating_sub(after.len() as u64)
         && part(before, header.attrs.offset, header.attrs.size).is_some()
 }
 

@@ -2,14 +2,15 @@
 //! `PERF_RECORD_HEADER_BUILD_ID`).
 ghost use Rattle.std.specs.Prelude.{◌≡◌, option_map};
 ghost use Rattle.cfi_read_core.specs.ByteOrder.{is_big};
-ghost use Rattle.cfi_perf.specs.Events.{count_at, counted_id, mapping_view};
-ghost use Rattle.cfi_perf.specs.Records.{entry_id, framed_view, has_build_id, id_of, is_named};
-ghost use Rattle.cfi_perf.specs.Records.{with_build_id};
+ghost use Rattle.cfi_perf.specs.Events.{count_at, counted_id, mapping_record_view};
+ghost use Rattle.cfi_perf.specs.BuildIds.{entry_id, has_build_id, listed_build_id, is_entry_named};
+ghost use Rattle.cfi_perf.specs.RecordFrames.{framed_view};
+ghost use Rattle.cfi_perf.specs.BuildIds.{with_build_id};
 
-use crate::attribute::has_any;
 use crate::bytes::{before_zero, bytes_from, first_bytes};
+use crate::layout::has_any;
 use crate::record::Mapping;
-use crate::records::{Framed, split_record};
+use crate::record_frame::{Framed, split_record};
 use cfi_read_core::RunTimeEndian;
 
 /// The type of an entry in a pipe, where entries stand among other records.
@@ -47,8 +48,8 @@ pub(crate) fn with_build_id<'input>(
     table: &'input [u8],
     mapping: Mapping<'input>,
 ) -> Mapping<'input>
-    ensures { mapping_view result
-        ≡ with_build_id (is_big endian) table.now (mapping_view mapping.entry) }
+    ensures { mapping_record_view result
+        ≡ with_build_id (is_big endian) table.now (mapping_record_view mapping.entry) }
 {
     match mapping.build_id {
         Some(_) => mapping,
@@ -61,7 +62,8 @@ pub(crate) fn with_build_id<'input>(
 
 /// The identification that the first entry of this name has. An entry that can't be read ends them.
 fn id_of<'input>(endian: RunTimeEndian, name: &[u8], table: &'input [u8]) -> Option<&'input [u8]>
-    ensures { option_map (λ id. id.now) result ≡ id_of (is_big endian) name.now table.now }
+    ensures { option_map (λ id. id.now) result
+        ≡ listed_build_id (is_big endian) name.now table.now }
 {
     let mut left = table;
     // Each entry takes a byte at least.
@@ -81,7 +83,7 @@ fn id_of<'input>(endian: RunTimeEndian, name: &[u8], table: &'input [u8]) -> Opt
 
 /// Whether an entry is of the file with this name.
 fn is_named(name: &[u8], entry: &Framed<'_>) -> bool
-    ensures { result ≡ is_named name.now (framed_view entry.now) }
+    ensures { result ≡ is_entry_named name.now (framed_view entry.now) }
 {
     match before_zero(bytes_from(entry.body, 28)) {
         Some(found) => has_build_id(entry) && found == name,

@@ -4,7 +4,7 @@ ghost use Rattle.std.specs.Prelude.{option_map, position, take};
 ghost use Rattle.cfi_read_core.specs.ReaderCalls.{ReadsBy};
 ghost use Rattle.cfi_read_core.specs.ByteOrder.{is_big};
 ghost use Rattle.cfi_read_core.specs.SliceReaders.{slice_position};
-ghost use Rattle.cfi_perf.specs.Results.{before_zero, header_text, items, part};
+ghost use Rattle.cfi_perf.specs.ByteReads.{before_zero, header_text, item_bytes, part};
 
 use cfi_read_core::{EndianSlice, Error, Reader, Result, RunTimeEndian};
 
@@ -64,13 +64,13 @@ fn first_zero(bytes: &[u8]) -> Option<usize>
 }
 
 /// Reads the bytes of `count` items of one size. Fails where fewer are left.
-#[tactic(auto, unfolding(crate::specs::Results::items))]
+#[tactic(auto, unfolding(crate::specs::ByteReads::item_bytes))]
 pub(crate) fn read_items<'input>(
     count: u64,
     size: u64,
     input: &mut Input<'input>,
 ) -> Result<&'input [u8]>
-    ensures read { ReadsBy (slice_position is_big) (λ found. found.now) (items count size)
+    ensures read { ReadsBy (slice_position is_big) (λ found. found.now) (item_bytes count size)
         input.old result input.new }
     ensures total { IfOk result (λ found. length found.now ≡ count * size) }
 {
@@ -82,7 +82,7 @@ pub(crate) fn read_items<'input>(
 }
 
 /// Reads a text of a profile's header, with the zeros at its end.
-#[tactic(auto, unfolding(crate::specs::Results::header_text))]
+#[tactic(auto, unfolding(crate::specs::ByteReads::header_text))]
 pub(crate) fn read_header_text<'input>(input: &mut Input<'input>) -> Result<&'input [u8]>
     ensures { ReadsBy (slice_position is_big) (λ text. text.now) header_text
         input.old result input.new }

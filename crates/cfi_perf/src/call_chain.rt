@@ -1,7 +1,7 @@
 //! The call chain of a sample (perf_event_open(2), `PERF_SAMPLE_CALLCHAIN`).
 ghost use Rattle.std.specs.Prelude.{◌≡◌};
 ghost use Rattle.std.specs.Iterator.{YieldsFirst};
-ghost use Rattle.cfi_perf.specs.CallChains.{addresses_left, at_first, entries_left};
+ghost use Rattle.cfi_perf.specs.CallChains.{addresses_left, at_first, chain_left};
 
 use cfi_read_core::{EndianSlice, Reader, RunTimeEndian};
 
@@ -28,7 +28,7 @@ pub struct CallChain<'input> {
 impl<'input> CallChain<'input> {
     ghost use Rattle.cfi_read_core.specs.ByteOrder.{is_big};
     ghost use Rattle.cfi_perf.specs.CallChains.{PERF_CONTEXT_USER, chain_view, in_context};
-    ghost use Rattle.cfi_perf.specs.CallChains.{numbers_of};
+    ghost use Rattle.cfi_perf.specs.ByteReads.{numbers_of};
 
     /// The call chain with these entries of eight bytes.
     #[inline(always)]
@@ -83,7 +83,7 @@ impl<'input> Addresses<'input> {
 
     /// The next address that stands in the entries.
     fn next_entry(&mut self) -> Option<u64>
-        ensures next { YieldsFirst entries_left self.old result self.new }
+        ensures next { YieldsFirst chain_left self.old result self.new }
         ensures first { self.new.first ≡ self.old.first }
     {
         while self.left > 0 {

@@ -12,7 +12,7 @@ pub enum PerfError {
     /// The file doesn't begin with `PERFILE2`, in either byte order.
     NotPerf,
     /// Of a profile that was written to a pipe: the attributes of an event can't be read, or stand
-    /// behind another record.
+    /// after another record.
     PipeMode,
     /// The file ends before its header does.
     HeaderCut,
@@ -32,7 +32,7 @@ pub enum PerfError {
     MixedEvents,
     /// The file ends before the records do.
     DataOutOfBounds,
-    /// A section behind the records goes past the end of the file.
+    /// A section after the records goes past the end of the file.
     FeatureOutOfBounds,
     /// A record is smaller than its header. Carries its size.
     RecordSize(u16),

@@ -4,8 +4,9 @@ ghost use Rattle.std.specs.Prelude.{◌≡◌, option_map};
 ghost use Rattle.cfi_read_core.specs.ByteOrder.{is_big};
 ghost use Rattle.cfi_read_core.specs.ReaderCalls.{ReadsBy};
 ghost use Rattle.cfi_read_core.specs.SliceReaders.{slice_position};
-ghost use Rattle.cfi_perf.specs.EventNames.{described, described_name, description, event_name};
-ghost use Rattle.cfi_perf.specs.EventNames.{behind_others, generic_name, hardware_name};
+ghost use Rattle.cfi_perf.specs.EventNames.{described_event, described_name, description};
+ghost use Rattle.cfi_perf.specs.EventNames.{event_name};
+ghost use Rattle.cfi_perf.specs.EventNames.{after_others, generic_name, hardware_name};
 ghost use Rattle.cfi_perf.specs.EventNames.{software_name};
 
 use crate::attribute::Attribute;
@@ -45,24 +46,24 @@ fn described_name(endian: RunTimeEndian, section: &[u8], index: u64) -> Option<&
 }
 
 /// Reads the text of the event of an index.
-#[tactic(auto, unfolding(crate::specs::EventNames::described))]
+#[tactic(auto, unfolding(crate::specs::EventNames::described_event))]
 fn read_described<'input>(index: u64, input: &mut Input<'input>) -> Result<&'input [u8]>
-    ensures { ReadsBy (slice_position is_big) (λ text. text.now) (described index)
+    ensures { ReadsBy (slice_position is_big) (λ text. text.now) (described_event index)
         input.old result input.new }
 {
     let _count = input.read_u32()?;
     let size = input.read_u32()?;
-    read_behind_others(index, u64::from(size), input)
+    read_after_others(index, u64::from(size), input)
 }
 
-/// Reads the text of an event behind as many others.
-fn read_behind_others<'input>(
+/// Reads the text of an event after as many others.
+fn read_after_others<'input>(
     index: u64,
     size: u64,
     input: &mut Input<'input>,
 ) -> Result<&'input [u8]>
     ensures { ReadsBy (slice_position is_big) (λ text. text.now)
-        (behind_others index (description size)) input.old result input.new }
+        (after_others index (description size)) input.old result input.new }
 {
     for passed in 0..index {
         match read_description(size, input) {

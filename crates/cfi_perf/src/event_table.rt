@@ -4,19 +4,23 @@ ghost use Rattle.std.specs.Prelude.{◌≡◌, option_map};
 ghost use Rattle.std.specs.Int.{w64};
 ghost use Rattle.cfi_read_core.specs.ByteOrder.{is_big};
 ghost use Rattle.cfi_read_core.specs.Numbers.{unsigned};
-ghost use Rattle.cfi_perf.specs.FileParts.{parts_in};
-ghost use Rattle.cfi_perf.specs.Results.{read_from};
-ghost use Rattle.cfi_perf.specs.EventTables.{event_by, event_of_id, event_of_sample, event_view};
+ghost use Rattle.cfi_perf.specs.FileParts.{parts_at_hand};
+ghost use Rattle.cfi_perf.specs.ByteReads.{read_from};
+ghost use Rattle.cfi_perf.specs.EventSections.{event_section_view};
+ghost use Rattle.cfi_perf.specs.EventTables.{event_table_of};
+ghost use Rattle.cfi_perf.specs.EventTables.{event_by, event_of_id, event_of_sample};
+ghost use Rattle.cfi_perf.specs.EventTables.{profile_event_view};
 ghost use Rattle.cfi_perf.specs.EventTables.{first_with_id, has_id, id_place, known_event};
 ghost use Rattle.cfi_perf.specs.EventTables.{layout_of_other};
-ghost use Rattle.cfi_perf.specs.EventTables.{numbered_event, table_view};
+ghost use Rattle.cfi_perf.specs.EventTables.{numbered_event, event_table_view};
 
-use crate::attribute::{
-    Attribute, EntryForm, EventEntry, EventLayout, PERF_SAMPLE_IDENTIFIER, read_entry,
-};
+use crate::attribute::Attribute;
 use crate::bytes::bytes_from;
+use crate::event_entry::{EntryForm, EventEntry, read_entry};
 use crate::event_names::event_name;
+use crate::event_section::EventSection;
 use crate::file_bytes::FileBytes;
+use crate::layout::{EventLayout, PERF_SAMPLE_IDENTIFIER};
 use cfi_read_core::{EndianSlice, Reader, RunTimeEndian};
 
 /// `PERF_SAMPLE_ID` and `PERF_SAMPLE_IDENTIFIER`.
@@ -51,9 +55,39 @@ pub(crate) struct EventTable<'input> {
 }
 
 impl<'input> EventTable<'input> {
+    /// The events of this section, in a file of these bytes, with the sections of their names and
+    /// of builds.
+    pub(crate) fn new(
+        endian: RunTimeEndian,
+        bytes: FileBytes<'input>,
+        events: &EventSection<'input>,
+        descriptions: &'input [u8],
+        build_ids: &'input [u8],
+    ) -> Self
+        ensures { event_table_view result ≡ event_table_of (is_big endian)
+            (parts_at_hand bytes.entry) (event_section_view events.now) descriptions.now
+            build_ids.now }
+    {
+        let attribute = &events.first.attribute;
+        EventTable {
+            endian,
+            bytes,
+            descriptions,
+            attrs: events.attrs,
+            count: events.count,
+            form: events.form,
+            first: ProfileEvent {
+                layout: attribute.layout,
+                name: event_name(endian, descriptions, 0, attribute),
+            },
+            build_ids,
+        }
+    }
+
     /// The event of a sample. `None` where no event has its id.
     pub(crate) fn event_of_sample(&self, body: &[u8]) -> Option<ProfileEvent<'input>>
-        ensures { option_map event_view result ≡ event_of_sample (table_view self.now) body.now }
+        ensures { option_map profile_event_view result
+            ≡ event_of_sample (event_table_view self.now) body.now }
     {
         if self.count == 1 || !self.first.layout.has(SAMPLE_IDS) {
             return Some(self.first);
@@ -63,7 +97,7 @@ impl<'input> EventTable<'input> {
 
     /// The layout of the event of another record; that of the first where no event has its id.
     pub(crate) fn layout_of_other(&self, body: &[u8]) -> EventLayout
-        ensures { result ≡ layout_of_other (table_view self.now) body.now }
+        ensures { result ≡ layout_of_other (event_table_view self.now) body.now }
     {
         if self.count == 1 || !self.first.layout.has(PERF_SAMPLE_IDENTIFIER) {
             return self.first.layout;
@@ -77,7 +111,7 @@ impl<'input> EventTable<'input> {
 
     /// The event whose id these bytes begin with.
     fn event_by(&self, bytes: &[u8]) -> Option<ProfileEvent<'input>>
-        ensures { option_map event_view result ≡ event_by (table_view self.now)
+        ensures { option_map profile_event_view result ≡ event_by (event_table_view self.now)
             (read_from (is_big self.now.endian) bytes.now (unsigned w64)) }
     {
         let mut input = EndianSlice::new(bytes, self.endian);
@@ -90,8 +124,8 @@ impl<'input> EventTable<'input> {
 
     /// The first event with this id.
     fn first_with_id(&self, id: u64) -> Option<ProfileEvent<'input>>
-        ensures { option_map event_view result
-            ≡ first_with_id (table_view self.now) id 0 (table_view self.now).entries }
+        ensures { option_map profile_event_view result
+            ≡ first_with_id (event_table_view self.now) id 0 (event_table_view self.now).entries }
     {
         let mut entries = EndianSlice::new(self.attrs, self.endian);
         for index in 0..self.count {
@@ -107,7 +141,8 @@ impl<'input> EventTable<'input> {
 
     /// What the event of an index has in it, and its name.
     fn numbered_event(&self, index: u64, attribute: &Attribute) -> ProfileEvent<'input>
-        ensures { event_view result ≡ numbered_event (table_view self.now) index attribute.now }
+        ensures { profile_event_view result
+            ≡ numbered_event (event_table_view self.now) index attribute.now }
     {
         ProfileEvent {
             layout: attribute.layout,
@@ -118,7 +153,7 @@ impl<'input> EventTable<'input> {
     /// Whether the id is among those of an event.
     fn has_id(&self, entry: &EventEntry, id: u64) -> bool
         ensures { result ≡ has_id
-            (known_event (is_big self.now.endian) (parts_in self.now.bytes) entry.now) id }
+            (known_event (is_big self.now.endian) (parts_at_hand self.now.bytes) entry.now) id }
     {
         let Some(bytes) = self.bytes.part(entry.ids) else {
             return false;

@@ -2,7 +2,7 @@
 ghost use Rattle.std.specs.Prelude.{◌≡◌};
 ghost use Rattle.cfi_read_core.specs.ReaderCalls.{ReadsValue};
 ghost use Rattle.cfi_perf.specs.FileHeaders.{byte_order, feature_bits, file_header, file_section};
-ghost use Rattle.cfi_perf.specs.FileHeaders.{header_fields, of_one_file};
+ghost use Rattle.cfi_perf.specs.FileHeaders.{header_fields, in_one_file};
 
 use crate::bytes::bytes_from;
 use crate::error::PerfError;
@@ -33,7 +33,7 @@ pub(crate) struct FileHeader {
     pub(crate) attrs: FileSection,
     /// Where the records are.
     pub(crate) records: FileSection,
-    /// Which sections stand behind the records.
+    /// Which sections stand after the records.
     pub(crate) features: u64,
 }
 
@@ -74,7 +74,7 @@ pub(crate) fn file_header(
 
 /// Returns the header, if the samples are in its file. Fails with `Directory`.
 fn of_one_file(header: FileHeader) -> std::result::Result<FileHeader, PerfError>
-    ensures { result ≡ of_one_file header }
+    ensures { result ≡ in_one_file header }
 {
     if header.features & HEADER_DIR_FORMAT == 0 {
         Ok(header)

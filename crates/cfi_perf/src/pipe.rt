@@ -3,26 +3,26 @@
 ghost use Rattle.std.specs.Prelude.{◌≡◌, ◌≤◌, option_map};
 ghost use Rattle.cfi_read_core.specs.ByteOrder.{is_big};
 ghost use Rattle.cfi_read_core.specs.ReaderCalls.{map_ok};
-ghost use Rattle.cfi_perf.specs.EventTables.{table_view};
+ghost use Rattle.cfi_perf.specs.EventTables.{event_table_view};
 ghost use Rattle.cfi_perf.specs.Pipes.{attributes_in, build_ids_in, events_of, feature};
 ghost use Rattle.cfi_perf.specs.Pipes.{is_feature, is_pipe};
 ghost use Rattle.cfi_perf.specs.Pipes.{pipe_architecture, pipe_descriptions, pipe_head};
 ghost use Rattle.cfi_perf.specs.Pipes.{pipe_section, pipe_table, stand_first};
-ghost use Rattle.cfi_perf.specs.Profiles.{head_view};
-ghost use Rattle.cfi_perf.specs.Records.{framed_view};
-ghost use Rattle.cfi_perf.specs.Sections.{section_view};
+ghost use Rattle.cfi_perf.specs.ProfileHeads.{head_view};
+ghost use Rattle.cfi_perf.specs.RecordFrames.{framed_view};
+ghost use Rattle.cfi_perf.specs.EventSections.{event_section_view};
 
-use crate::attribute::{EntryForm, EventEntry, first_event, read_entry};
+use crate::architecture::{machine_by, text_in};
 use crate::build_ids::PERF_RECORD_HEADER_BUILD_ID;
 use crate::bytes::bytes_from;
 use crate::error::PerfError;
-use crate::event_names::event_name;
-use crate::event_table::{EventTable, ProfileEvent};
+use crate::event_entry::{EntryForm, EventEntry, first_event, read_entry};
+use crate::event_section::EventSection;
+use crate::event_table::EventTable;
 use crate::file_bytes::FileBytes;
 use crate::file_header::PIPE_HEADER_SIZE;
 use crate::profile::ProfileHead;
-use crate::records::{Framed, split_record};
-use crate::sections::{EventSection, machine_by, text_in};
+use crate::record_frame::{Framed, split_record};
 use cfi_read_core::{EndianSlice, Reader, RunTimeEndian};
 
 /// `PERF_RECORD_HEADER_ATTR`.
@@ -50,7 +50,7 @@ pub(crate) fn is_pipe(endian: RunTimeEndian, bytes: &[u8]) -> bool
 /// What the records of a pipe say before they are read.
 ///
 /// Fails with `NoEvents` or `MixedEvents`, and with `PipeMode` where the attributes of an event
-/// can't be read, or stand behind another record.
+/// can't be read, or stand after another record.
 #[tactic(auto, unfolding(crate::specs::Pipes::pipe_head))]
 pub(crate) fn pipe_head<'input>(
     endian: RunTimeEndian,
@@ -71,7 +71,7 @@ pub(crate) fn pipe_head<'input>(
 
 /// The events.
 fn pipe_section(endian: RunTimeEndian, records: &[u8]) -> Result<EventSection<'_>, PerfError>
-    ensures { map_ok section_view result ≡ pipe_section (is_big endian) records.now }
+    ensures { map_ok event_section_view result ≡ pipe_section (is_big endian) records.now }
 {
     let count = attributes_in(endian, records);
     let form = EntryForm::Records;
@@ -118,7 +118,7 @@ fn events_of(framed: &Framed<'_>) -> u64
     }
 }
 
-/// Whether the attributes of so many events stand first, one behind the other.
+/// Whether the attributes of so many events stand first, one after the other.
 fn stand_first(endian: RunTimeEndian, records: &[u8], count: u64) -> bool
     ensures { result ≡ stand_first (is_big endian) records.now count }
 {
@@ -138,24 +138,18 @@ fn pipe_table<'input>(
     records: &'input [u8],
     events: &EventSection<'input>,
 ) -> EventTable<'input>
-    ensures { table_view result
-        ≡ pipe_table (is_big endian) records.now (section_view events.now) }
+    ensures { event_table_view result
+        ≡ pipe_table (is_big endian) records.now (event_section_view events.now) }
 {
     let descriptions = pipe_descriptions(endian, records);
-    let attribute = &events.first.attribute;
-    EventTable {
+    let bytes = FileBytes::whole(records, u64::MAX);
+    EventTable::new(
         endian,
-        bytes: FileBytes::whole(records, u64::MAX),
+        bytes,
+        events,
         descriptions,
-        attrs: events.attrs,
-        count: events.count,
-        form: events.form,
-        first: ProfileEvent {
-            layout: attribute.layout,
-            name: event_name(endian, descriptions, 0, attribute),
-        },
-        build_ids: build_ids_in(endian, records),
-    }
+        build_ids_in(endian, records),
+    )
 }
 
 /// The records from the first on that has the build of a file; none where there is no such record.

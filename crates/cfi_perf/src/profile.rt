@@ -1,25 +1,27 @@
 //! A profile, by its header (`perf.data-file-format.txt`).
 ghost use Rattle.std.specs.Prelude.{◌≡◌, ◌-◌, ℕ, List, option_map};
 ghost use Rattle.cfi_read_core.specs.ReaderCalls.{map_ok};
-ghost use Rattle.cfi_perf.specs.EventTables.{table_view};
+ghost use Rattle.cfi_perf.specs.EventTables.{event_table_view};
 ghost use Rattle.cfi_perf.specs.FileHeaders.{records_section};
-ghost use Rattle.cfi_perf.specs.Profiles.{architecture, file_profile, head_view, pipe_profile};
+ghost use Rattle.cfi_perf.specs.Profiles.{architecture, file_profile, pipe_profile};
+ghost use Rattle.cfi_perf.specs.ProfileHeads.{head_view};
 ghost use Rattle.cfi_perf.specs.Profiles.{profile, profile_records};
 ghost use Rattle.cfi_perf.specs.Profiles.{profile_view, records_by, records_place};
 ghost use Rattle.cfi_perf.specs.ProfilesAround.{IsAround, IsProfileAround, profile_around};
 ghost use Rattle.cfi_perf.specs.Records.{records_left};
-ghost use Rattle.cfi_perf.specs.Windows.{bytes_left, place_in, records_in};
+ghost use Rattle.cfi_perf.specs.Windows.{record_bytes_left, next_place, records_in};
 
 use crate::around::head_around;
-use crate::attribute::EventLayout;
 use crate::bytes::{bytes_from, first_bytes};
 use crate::error::PerfError;
+use crate::event_section::events_by;
 use crate::event_table::EventTable;
 use crate::file_bytes::FileBytes;
 use crate::file_header::{PIPE_HEADER_SIZE, byte_order, file_header};
+use crate::layout::EventLayout;
 use crate::pipe::{is_pipe, pipe_head};
 use crate::records::Records;
-use crate::sections::{Sections, events_by};
+use crate::sections::Sections;
 use crate::windows::RecordWalk;
 use cfi_read_core::RunTimeEndian;
 
@@ -48,7 +50,7 @@ impl<'input> ProfileHead<'input> {
     ) -> Self
         ensures { head_view result ≡ record {
           endian = endian;
-          events = table_view events.entry;
+          events = event_table_view events.entry;
           architecture = map_ok (option_map (λ name. name.now)) architecture.entry;
           place = end - size;
           size = size;
@@ -82,7 +84,7 @@ impl<'input> ProfileHead<'input> {
     }
 
     /// Whether the file ends before the records do, as after a disk was full. Then what stands
-    /// behind the records is lost too.
+    /// after the records is lost too.
     #[inline(always)]
     pub fn is_cut(&self) -> bool
         ensures { result ≡ (head_view self.now).is_cut }
@@ -109,8 +111,8 @@ impl<'input> ProfileHead<'input> {
     pub fn walk(&self) -> RecordWalk<'input>
         ensures records { (bytes : List ℕ)
             → records_in result bytes ≡ records_by (head_view self.now) bytes }
-        ensures left { bytes_left result ≡ (head_view self.now).size }
-        ensures place { place_in result ≡ (head_view self.now).place }
+        ensures left { record_bytes_left result ≡ (head_view self.now).size }
+        ensures place { next_place result ≡ (head_view self.now).place }
     {
         RecordWalk::new(self.events, self.endian, self.end, self.size, self.is_cut)
     }
@@ -176,7 +178,7 @@ impl<'input> Profile<'input> {
         })
     }
 
-    /// Reads a profile without the bytes of its records: by those before them and those behind
+    /// Reads a profile without the bytes of its records: by those before them and those after
     /// them, of `length` bytes in all. What lies between, by the header, are the records.
     ///
     /// Returns `None` where more is needed: where these bytes aren't all but the records, or the
@@ -184,15 +186,15 @@ impl<'input> Profile<'input> {
     /// Fails as `parse` does. Does not allocate.
     pub fn parse_around(
         before: &'input [u8],
-        behind: &'input [u8],
+        after: &'input [u8],
         length: u64,
     ) -> Result<Option<ProfileHead<'input>>, PerfError>
         ensures head { map_ok (option_map head_view) result
-            ≡ profile_around before.now behind.now length }
-        ensures around { (bytes : List ℕ) → IsAround before.now behind.now length bytes
+            ≡ profile_around before.now after.now length }
+        ensures around { (bytes : List ℕ) → IsAround before.now after.now length bytes
             → IsProfileAround bytes (map_ok (option_map head_view) result) }
     {
-        head_around(before, behind, length)
+        head_around(before, after, length)
     }
 
     /// What it says before its records.
@@ -220,7 +222,7 @@ impl<'input> Profile<'input> {
     }
 
     /// Whether the file ends before the records do, as after a disk was full. Then what stands
-    /// behind the records is lost too.
+    /// after the records is lost too.
     #[inline(always)]
     pub fn is_cut(&self) -> bool
         ensures { result ≡ (profile_view self.now).head.is_cut }
@@ -255,8 +257,8 @@ impl<'input> Profile<'input> {
     pub fn walk(&self) -> RecordWalk<'input>
         ensures records { records_in result (profile_view self.now).records
             ≡ profile_records (profile_view self.now) }
-        ensures left { bytes_left result ≡ (profile_view self.now).head.size }
-        ensures place { place_in result ≡ records_place (profile_view self.now) }
+        ensures left { record_bytes_left result ≡ (profile_view self.now).head.size }
+        ensures place { next_place result ≡ records_place (profile_view self.now) }
     {
         self.head.walk()
     }

@@ -2,14 +2,14 @@
 ghost use Rattle.std.specs.Prelude.{◌≡◌, option_map};
 ghost use Rattle.cfi_read_core.specs.ReaderCalls.{ReadsValue, map_ok};
 ghost use Rattle.cfi_read_core.specs.ByteOrder.{is_big};
-ghost use Rattle.cfi_perf.specs.Events.{fork, mapped_range, mapping, mapping2, mapping_view};
+ghost use Rattle.cfi_perf.specs.Events.{fork, mapped_range, mapping, mapping2, mapping_record_view};
 ghost use Rattle.cfi_perf.specs.Events.{lost, lost_samples, own_build_id};
 ghost use Rattle.cfi_perf.specs.Events.{program, program_view};
 
-use crate::attribute::has_any;
 use crate::build_ids::{count_at, counted_id};
 use crate::bytes::{before_zero, bytes_from};
 use crate::error::PerfError;
+use crate::layout::has_any;
 use crate::record::{Fork, Lost, Mapping, Program};
 use crate::sample_fields::read_thread;
 use cfi_read_core::{EndianSlice, Reader, Result, RunTimeEndian};
@@ -38,7 +38,7 @@ pub(crate) fn mapping(
     misc: u16,
     fields: &[u8],
 ) -> std::result::Result<Mapping<'_>, PerfError>
-    ensures { map_ok mapping_view result ≡ mapping (is_big endian) misc fields.now }
+    ensures { map_ok mapping_record_view result ≡ mapping (is_big endian) misc fields.now }
 {
     let mut input = EndianSlice::new(fields, endian);
     let Ok(range) = read_mapped_range(&mut input) else {
@@ -65,7 +65,7 @@ pub(crate) fn mapping2(
     misc: u16,
     fields: &[u8],
 ) -> std::result::Result<Mapping<'_>, PerfError>
-    ensures { map_ok mapping_view result ≡ mapping2 (is_big endian) misc fields.now }
+    ensures { map_ok mapping_record_view result ≡ mapping2 (is_big endian) misc fields.now }
 {
     let mut input = EndianSlice::new(fields, endian);
     let Ok(range) = read_mapped_range(&mut input) else {

@@ -1,7 +1,7 @@
 //! What the records of a profile say of the recording.
 ghost use Rattle.std.specs.Prelude.{◌≡◌, map};
 ghost use Rattle.cfi_perf.specs.Events.{record_view};
-ghost use Rattle.cfi_perf.specs.Recordings.{copies_stack, has_samples, has_stacks, is_sample};
+ghost use Rattle.cfi_perf.specs.Recordings.{is_stack_sample, has_samples, has_stacks, is_sample};
 ghost use Rattle.cfi_perf.specs.Recordings.{lacks_stacks, lost_in, lost_of};
 
 use crate::record::{Event, Lost, Record};
@@ -71,7 +71,7 @@ fn is_sample(item: &Record<'_>) -> bool
 
 /// Whether a record is a sample whose event copies stacks.
 fn copies_stack(item: &Record<'_>) -> bool
-    ensures { result ≡ copies_stack (record_view item.now).event }
+    ensures { result ≡ is_stack_sample (record_view item.now).event }
 {
     match item.event {
         Event::Sample(sample) => sample.copies_stack,

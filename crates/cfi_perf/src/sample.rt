@@ -88,7 +88,7 @@ pub struct UserRegisters<'input> {
 impl<'input> UserRegisters<'input> {
     ghost use Rattle.std.specs.Prelude.{◌↔◌, IsSome, IsTrue};
     ghost use Rattle.cfi_read_core.specs.ByteOrder.{is_big};
-    ghost use Rattle.cfi_perf.specs.Samples.{has_register, register_of, registers_view};
+    ghost use Rattle.cfi_perf.specs.Samples.{has_register, sampled_register, registers_view};
 
     /// Returns the registers whose bits are set in `mask`, with their values in that order.
     #[inline(always)]
@@ -108,7 +108,7 @@ impl<'input> UserRegisters<'input> {
     /// The register with this number of perf's (`asm/perf_regs.h` of the machine). Returns `None`
     /// where the sample doesn't have it.
     pub fn get(&self, number: u32) -> Option<u64>
-        ensures value { result ≡ register_of (registers_view self.now) number }
+        ensures value { result ≡ sampled_register (registers_view self.now) number }
         ensures there { IsSome result ↔ IsTrue (has_register (registers_view self.now) number) }
     {
         let mask = self.mask;

@@ -6,24 +6,24 @@ ghost use Rattle.cfi_read_core.specs.SliceReaders.{slice_position};
 ghost use Rattle.cfi_perf.specs.CallChains.{chain_view};
 ghost use Rattle.cfi_perf.specs.Samples.{branch_size, branch_stack, call_chain, call_chain_if};
 ghost use Rattle.cfi_perf.specs.Samples.{copied_stack, copies_stack, is_in_kernel, lists};
-ghost use Rattle.cfi_perf.specs.EventTables.{event_view};
+ghost use Rattle.cfi_perf.specs.EventTables.{profile_event_view};
 ghost use Rattle.cfi_perf.specs.Samples.{group_values, later_numbers, number_if, passed_if};
 ghost use Rattle.cfi_perf.specs.Samples.{period_of, processor, processor_if};
 ghost use Rattle.cfi_perf.specs.Samples.{raw_data, read_values, registers};
-ghost use Rattle.cfi_perf.specs.Samples.{registers_by, registers_view, sample, sample_numbers};
+ghost use Rattle.cfi_perf.specs.Samples.{registers_of_abi, registers_view, sample, sample_numbers};
 ghost use Rattle.cfi_perf.specs.Samples.{single_value, stack, stack_of_size, thread, thread_if};
 ghost use Rattle.cfi_perf.specs.Samples.{timed_view, user_registers, user_stack, user_state};
 ghost use Rattle.cfi_perf.specs.Samples.{user_view};
 
-use crate::attribute::{
+use crate::bytes::{Input, first_bytes, read_items};
+use crate::call_chain::CallChain;
+use crate::event_table::ProfileEvent;
+use crate::layout::{
     EventLayout, PERF_SAMPLE_ADDR, PERF_SAMPLE_BRANCH_STACK, PERF_SAMPLE_CALLCHAIN,
     PERF_SAMPLE_CPU, PERF_SAMPLE_ID, PERF_SAMPLE_IDENTIFIER, PERF_SAMPLE_IP, PERF_SAMPLE_PERIOD,
     PERF_SAMPLE_RAW, PERF_SAMPLE_READ, PERF_SAMPLE_REGS_USER, PERF_SAMPLE_STACK_USER,
     PERF_SAMPLE_STREAM_ID, PERF_SAMPLE_TID, PERF_SAMPLE_TIME, has_any,
 };
-use crate::bytes::{Input, first_bytes, read_items};
-use crate::call_chain::CallChain;
-use crate::event_table::ProfileEvent;
 use crate::sample::{Sample, UserRegisters, UserState};
 use cfi_read_core::{Reader, Result};
 
@@ -59,7 +59,7 @@ pub(crate) struct SampleNumbers {
     pub(crate) time: u64,
 }
 
-/// The numbers behind the time of which a sample keeps something.
+/// The numbers after the time of which a sample keeps something.
 #[derive(Clone, Copy, Debug, PartialEq, Eq)]
 pub(crate) struct LaterNumbers {
     pub(crate) cpu: Option<u32>,
@@ -80,7 +80,8 @@ pub(crate) fn read_sample<'input>(
     misc: u16,
     input: &mut Input<'input>,
 ) -> Result<TimedSample<'input>>
-    ensures { ReadsBy (slice_position is_big) timed_view (sample (event_view event.now) misc)
+    ensures { ReadsBy (slice_position is_big) timed_view
+        (sample (profile_event_view event.now) misc)
         input.old result input.new }
 {
     let layout = &event.layout;
@@ -161,7 +162,7 @@ fn read_sample_numbers<R: Reader>(layout: &EventLayout, input: &mut R) -> Result
     Ok(SampleNumbers { ip, thread, time })
 }
 
-/// Reads the numbers behind the time.
+/// Reads the numbers after the time.
 #[tactic(auto, unfolding(crate::specs::Samples::later_numbers))]
 fn read_later_numbers<R: Reader>(layout: &EventLayout, input: &mut R) -> Result<LaterNumbers>
     ensures { ReadsValue R.position (later_numbers layout.now) input.old result input.new }

@@ -4,20 +4,26 @@ ghost use Rattle.std.specs.Prelude.{◌≡◌, ◌⊎◌, ◌≤◌, ◌-◌, �
 ghost use Rattle.std.specs.Prelude.{length, min, option_map, take};
 ghost use Rattle.cfi_read_core.specs.ByteOrder.{is_big};
 ghost use Rattle.cfi_read_core.specs.ReaderCalls.{map_ok};
-ghost use Rattle.cfi_perf.specs.EventTables.{table_view};
+ghost use Rattle.cfi_perf.specs.EventTables.{event_table_view};
 ghost use Rattle.cfi_perf.specs.Events.{OtherEvent, record_view};
-ghost use Rattle.cfi_perf.specs.Records.{HasUncounted, Meets, after_record, first_record};
+ghost use Rattle.cfi_perf.specs.RecordFrames.{HasUncounted, after_record};
+ghost use Rattle.cfi_perf.specs.Records.{IsNextRecord, first_record};
 ghost use Rattle.cfi_perf.specs.Records.{no_records};
-ghost use Rattle.cfi_perf.specs.Records.{records_of, split_record, until_cut};
-ghost use Rattle.cfi_perf.specs.Windows.{IsAlone, IsSameWalk, IsWindow, IsWithin, bytes_left};
-ghost use Rattle.cfi_perf.specs.Windows.{first_in, framed_in, passed, place_in, record_alone};
+ghost use Rattle.cfi_perf.specs.Records.{records_of, until_cut};
+ghost use Rattle.cfi_perf.specs.RecordFrames.{split_record};
+ghost use Rattle.cfi_perf.specs.Windows.{IsAlone, ReadsOn, IsWindow, PassesWithin};
+ghost use Rattle.cfi_perf.specs.Windows.{record_bytes_left};
+ghost use Rattle.cfi_perf.specs.Windows.{first_of_window, frame_of_window, bytes_passed};
+ghost use Rattle.cfi_perf.specs.Windows.{next_place, record_alone};
 ghost use Rattle.cfi_perf.specs.Windows.{records_in};
 
 use crate::bytes::part;
 use crate::error::PerfError;
 use crate::event_table::EventTable;
 use crate::record::Record;
-use crate::records::{RecordHeader, first_record, read_record_header, record_of, uncounted_size};
+use crate::record_frame::{RecordHeader, read_record_header, uncounted_size};
+use crate::record_types::record_of;
+use crate::records::{end_error, first_record};
 use cfi_read_core::{EndianSlice, Reader, RunTimeEndian};
 
 /// The greatest size of a record, in bytes.
@@ -49,9 +55,9 @@ impl<'input> RecordWalk<'input> {
         is_cut: bool,
     ) -> Self
         ensures records { (bytes : List ℕ) → records_in result bytes ≡ until_cut is_cut
-            (records_of (table_view events.entry) (is_big endian) bytes) }
-        ensures left { bytes_left result ≡ left }
-        ensures place { place_in result ≡ end - left }
+            (records_of (event_table_view events.entry) (is_big endian) bytes) }
+        ensures left { record_bytes_left result ≡ left }
+        ensures place { next_place result ≡ end - left }
     {
         RecordWalk {
             events,
@@ -65,7 +71,7 @@ impl<'input> RecordWalk<'input> {
     /// How many bytes the records have that were not passed; 0 after an error.
     #[inline(always)]
     pub fn left(&self) -> u64
-        ensures { result ≡ bytes_left self.now }
+        ensures { result ≡ record_bytes_left self.now }
     {
         self.left
     }
@@ -73,7 +79,7 @@ impl<'input> RecordWalk<'input> {
     /// Where the next record is in the file.
     #[inline(always)]
     pub fn place(&self) -> u64
-        ensures { result ≡ place_in self.now }
+        ensures { result ≡ next_place self.now }
     {
         self.end.saturating_sub(self.left)
     }
@@ -82,32 +88,32 @@ impl<'input> RecordWalk<'input> {
     /// at most.
     #[inline(always)]
     pub fn needed(&self) -> u64
-        ensures { result ≡ min 65535 (bytes_left self.now) }
+        ensures { result ≡ min 65535 (record_bytes_left self.now) }
     {
         GREATEST_SIZE.min(self.left)
     }
 
     /// Returns the next record, by a window that begins at its place, or `None` at the end. The
     /// bytes that `left` is less by are the record's own: they are all in the window, but of an
-    /// `Event::Other`, behind which may be bytes that its size doesn't count.
+    /// `Event::Other`, after which may be bytes that its size doesn't count.
     ///
     /// Fails as `Records::next` does. Does not allocate.
     pub fn next<'w>(&mut self, window: &'w [u8]) -> Result<Option<Record<'w>>, PerfError>
     where
         'input: 'w,
-        ensures met { (others : List ℕ) → IsWindow window.now others (bytes_left self.old)
-            → Meets (map_ok (option_map record_view) result)
+        ensures met { (others : List ℕ) → IsWindow window.now others (record_bytes_left self.old)
+            → IsNextRecord (map_ok (option_map record_view) result)
             (records_in self.old (window.now ++ others))
-            (records_in self.new (drop (passed self.old self.new) (window.now ++ others))) }
-        ensures alone { (others : List ℕ) → IsWindow window.now others (bytes_left self.old)
-            → IsAlone self.old (take (passed self.old self.new) (window.now ++ others))
+            (records_in self.new (drop (bytes_passed self.old self.new) (window.now ++ others))) }
+        ensures alone { (others : List ℕ) → IsWindow window.now others (record_bytes_left self.old)
+            → IsAlone self.old (take (bytes_passed self.old self.new) (window.now ++ others))
             (map_ok (option_map record_view) result) }
-        ensures within { IsWithin (passed self.old self.new) (length window.now)
+        ensures within { PassesWithin (bytes_passed self.old self.new) (length window.now)
             (map_ok (option_map record_view) result) }
-        ensures fewer { bytes_left self.new ≤ bytes_left self.old }
+        ensures fewer { record_bytes_left self.new ≤ record_bytes_left self.old }
         ensures same { (bytes : List ℕ)
             → record_alone self.new bytes ≡ record_alone self.old bytes }
-        ensures walk { IsSameWalk self.old self.new (map_ok (option_map record_view) result) }
+        ensures walk { ReadsOn self.old self.new (map_ok (option_map record_view) result) }
     {
         if self.left == 0 {
             if self.is_cut {
@@ -148,7 +154,7 @@ impl<'input> RecordWalk<'input> {
     }
 }
 
-/// A record's header, its other bytes, and how many bytes it takes, with those behind it that
+/// A record's header, its other bytes, and how many bytes it takes, with those after it that
 /// its size doesn't count.
 #[derive(Clone, Copy, Debug)]
 pub(crate) struct FramedIn<'w> {
@@ -164,16 +170,6 @@ pub(crate) struct FirstIn<'w> {
     pub(crate) size: u64,
 }
 
-/// The error that ends the records where one of them has this.
-fn end_error(is_cut: bool, error: PerfError) -> PerfError
-    ensures { Some result ≡ (until_cut is_cut (no_records (Some error))).error }
-{
-    match error {
-        PerfError::RecordCut if is_cut => PerfError::DataOutOfBounds,
-        _ => error,
-    }
-}
-
 /// Reads the first record of the bytes that are left, by a window of them.
 fn first_in_window<'w>(
     events: &EventTable<'w>,
@@ -182,8 +178,8 @@ fn first_in_window<'w>(
     left: u64,
 ) -> Result<FirstIn<'w>, PerfError>
     ensures first { (others : List ℕ) → IsWindow window.now others left
-        → map_ok (first_in (window.now ++ others)) result
-        ≡ first_record (table_view events.now) (is_big endian) (window.now ++ others) }
+        → map_ok (first_of_window (window.now ++ others)) result
+        ≡ first_record (event_table_view events.now) (is_big endian) (window.now ++ others) }
     ensures within { IfOk result (λ found.
         ((record_view found.first).event ≡ OtherEvent) ⊎ (found.size ≤ length window.now)) }
 {
@@ -198,7 +194,7 @@ fn first_in_window<'w>(
 /// Splits the first record off the bytes that are left, by a window of them.
 fn split_window(endian: RunTimeEndian, window: &[u8], left: u64) -> Result<FramedIn<'_>, PerfError>
     ensures framed { (others : List ℕ) → IsWindow window.now others left
-        → map_ok (framed_in (window.now ++ others)) result
+        → map_ok (frame_of_window (window.now ++ others)) result
         ≡ split_record (is_big endian) (window.now ++ others) }
     ensures within { IfOk result (λ found.
         HasUncounted found.header.kind ⊎ (found.size ≤ length window.now)) }
@@ -214,7 +210,7 @@ fn split_window(endian: RunTimeEndian, window: &[u8], left: u64) -> Result<Frame
     let Some(body) = part(window, 8, size - 8) else {
         return Err(PerfError::RecordCut);
     };
-    let more = size_behind(endian, &header, body, left.saturating_sub(size))?;
+    let more = size_after(endian, &header, body, left.saturating_sub(size))?;
     Ok(FramedIn {
         header,
         body,
@@ -222,21 +218,21 @@ fn split_window(endian: RunTimeEndian, window: &[u8], left: u64) -> Result<Frame
     })
 }
 
-/// How many bytes stand between a record and the next, of so many behind it.
-fn size_behind(
+/// How many bytes stand between a record and the next, of so many after it.
+fn size_after(
     endian: RunTimeEndian,
     header: &RecordHeader,
     body: &[u8],
-    behind: u64,
+    after: u64,
 ) -> Result<u64, PerfError>
-    ensures others { (others : List ℕ) → length others ≡ behind
+    ensures others { (others : List ℕ) → length others ≡ after
         → map_ok (λ size. drop size others) result
         ≡ after_record (is_big endian) header.now body.now others }
-    ensures within { IfOk result (λ size. size ≤ behind) }
+    ensures within { IfOk result (λ size. size ≤ after) }
     ensures none { IfOk result (λ size. HasUncounted header.now.kind ⊎ (size ≡ 0)) }
 {
     let size = uncounted_size(endian, header, body)?;
-    if behind < size {
+    if after < size {
         return Err(PerfError::RecordCut);
     }
     Ok(size)

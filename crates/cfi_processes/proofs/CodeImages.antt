@@ -1,49 +1,51 @@
 -- What is found of a file of code by its parts is what is found by all of its bytes.
-use Rattle.std.proofs.Common.{◌≡◌, ◌∙◌, ◌+◌, ◌-◌, ◌*◌, ℕ, Bool, true, false, true≢false, List, [], ◌∷◌, length, take, Option, Some, None, Result, Ok, Err, refl, sym, ap, subst, arith, codes, option_map}
+use Rattle.std.proofs.Common.{◌≡◌, ◌∙◌, ℕ, Bool, true, false, true≢false, List, [], length, Option, Some, None, Result, Ok, Err, IfOk, refl, sym, ap, subst, option_map}
 use borrow.Author.Tests.{eqb-true}
-use Rattle.std.proofs.lemmas.Bool.Decides.{nat_tests}
-use Rattle.std.specs.Prelude.{not, nat_le, slice_get, ◌==◌, ◌&&◌, ◌||◌, if◌then◌else◌}
-use Rattle.std.specs.Option.{is_some, option_and_then}
+use Rattle.std.specs.Prelude.{not, ◌&&◌, ◌||◌, if◌then◌else◌}
+use Rattle.std.specs.Option.{is_some, option_and_then, option_or}
 use Rattle.std.specs.Result.{result_ok}
 use Rattle.cfi_elf.specs.declared.error.ElfError.{ElfError}
-use Rattle.cfi_elf.specs.declared.error.ElfError.TheVariants.{NotRead, ProgramEntrySize, ProgramTableOutOfBounds, SectionTableOutOfBounds, SegmentOutOfBounds}
-use Rattle.cfi_elf.specs.declared.program_header.ProgramHeader.{ProgramHeader}
-use Rattle.cfi_elf.specs.declared.section_header.SectionHeader.{SectionHeader}
+use Rattle.cfi_elf.specs.declared.error.ElfError.TheVariants.{NotRead}
 use Rattle.cfi_elf.specs.DebugLinks.{debug_link}
-use Rattle.cfi_elf.specs.ElfFiles.{File, class_of_file, elf_file, elf_file_of}
+use Rattle.cfi_elf.specs.ElfFiles.{File, elf_file, elf_file_of}
 use Rattle.cfi_elf.specs.FunctionNames.{function_place}
 use Rattle.cfi_elf.specs.Headers.{program_header_bytes, section_header_bytes}
 use Rattle.cfi_elf.specs.Images.{Image, IsImageOf, IsRead, whole}
-use Rattle.cfi_elf.specs.Notes.{build_id, build_id_among, build_id_of, or_others}
-use Rattle.cfi_elf.specs.Options.{or_else, or_this}
+use Rattle.cfi_elf.specs.BuildIds.{build_id}
+use Rattle.cfi_elf.specs.Options.{or_this}
 use Rattle.cfi_elf.specs.Results.{and_then}
-use Rattle.cfi_elf.specs.Sections.{first_section_header, or_by_first, section_headers}
 use Rattle.cfi_elf.specs.SegmentLists.{segments}
-use Rattle.cfi_elf.specs.Segments.{address_of_offset, program_table, segment_bytes, segment_count, wanted_segment}
+use Rattle.cfi_elf.specs.Segments.{address_of_offset, wanted_segment}
+use Rattle.cfi_elf.specs.SegmentLists.{program_table}
 use Rattle.cfi_elf.specs.SymbolTables.{symbol_table}
-use Rattle.cfi_elf.proofs.FileImages.{file_found, file_refused, image_kept, whole_file_read}
-use Rattle.cfi_elf.proofs.Images.{in_whole, same_address_of_offset, same_bytes_at, same_function_place, same_section_named, same_symbol_table}
-use Rattle.cfi_elf.proofs.SameResults.{Same, ok_read, same_err, same_if, same_ok, same_or_missing, same_then, then_read}
+use Rattle.cfi_elf.proofs.FileImages.{file_found, file_refused}
+use Rattle.cfi_elf.proofs.Images.{in_whole, same_address_of_offset, same_function_place}
+use Rattle.cfi_elf.proofs.SameResults.{ok_read, then_read}
 use Rattle.cfi_object.specs.CallFrames.{debug_frame_of, eh_frame_of, section_in}
 use Rattle.cfi_object.proofs.ReadParts.{whole_read}
+use Rattle.cfi_object.proofs.SameBuilds.{same_build, same_link}
 use Rattle.cfi_object.proofs.SameFrames.{same_debug, same_eh_frame}
+use Rattle.cfi_object.specs.NeededParts.{AreEnough, HasAll}
 use Rattle.gimli_cfi.specs.SectionSources.{GivenSection}
 use Rattle.cfi_processes.specs.declared.code_parts.CodeParts.{CodeParts}
-use Rattle.cfi_processes.specs.CodeParts.{IsOf, first_of, image_in, is_told, is_whole, parts_of}
+use Rattle.cfi_processes.specs.CodeParts.{IsOf, beginning_in, image_in, is_told, is_whole, parts_of}
 use Rattle.cfi_processes.specs.Enough.{are_enough, has_needed, has_needed_of, is_lack, is_read}
-use Rattle.cfi_processes.specs.FileFunctions.{symbols_of, with_symbols}
-use Rattle.cfi_processes.specs.Objects.{addresses_in, debug_in, if_bytes, object_with, there, with_either, with_frames}
+use Rattle.cfi_processes.specs.NeededCode.{needed_of_code}
+use Rattle.cfi_processes.specs.FileFunctions.{with_symbols}
+use Rattle.cfi_processes.specs.FileFunctions.{symbol_file}
+use Rattle.cfi_processes.specs.Objects.{debug_in, if_bytes, object_with, there, with_either}
+use Rattle.cfi_processes.specs.Objects.{code_addresses, with_call_frames}
 use Rattle.gimli_cfi.specs.declared.source.SectionKind.TheVariants as given
-use Rattle.cfi_processes.specs.OpenedFiles.{functions_if, kernel_of, kernel_text, map_of, object_if}
+use Rattle.cfi_processes.specs.ProfileFiles.{functions_if, kernel_of, kernel_text, map_of, object_if}
 use Rattle.cfi_processes.specs.KernelSymbols.{is_kernel_name}
-use Rattle.cfi_processes.specs.Wanted.{id_in, link_in}
+use Rattle.cfi_processes.specs.FileBuilds.{id_in, link_in}
 
 -- ---- results that need no more bytes
 
-pub read_by : {A : Type 0} (r : Result A ElfError) → is_read r ≡ true → IsRead r
+read_by : {A : Type 0} (r : Result A ElfError) → is_read r ≡ true → IsRead r
 read_by {A = A} r is offset size same = true≢false (sym is ∙ ap (λ (r : Result A ElfError). is_read r) same)
 
-pub is_by : {A : Type 0} (r : Result A ElfError) → IsRead r → is_read r ≡ true
+is_by : {A : Type 0} (r : Result A ElfError) → IsRead r → is_read r ≡ true
 is_by (Ok x) read = refl
 is_by (Err e) read = by e read
   where
@@ -58,33 +60,35 @@ both false b is = absurd (cc)
 joined : (a b : Bool) → a ≡ true → b ≡ true → (a && b) ≡ true
 joined a b first second = ap (λ (a : Bool). a && b) first ∙ second
 
--- what a file has that needs no more bytes
-record Needed (file : File) : Type 0 where
-  build : IsRead (build_id file)
-  link : IsRead (debug_link file)
-  eh_frame : IsRead (eh_frame_of file)
-  debug_frame : IsRead (debug_frame_of file)
-  symbols : IsRead (symbol_table file)
-
-needed_by : (file : File) → has_needed file ≡ true → Needed file
+needed_by : (file : File) → has_needed file ≡ true → HasAll needed_of_code file
 needed_by file is =
     let (build, others) = both (is_read (build_id file)) _ is in
     let (link, frames) = both (is_read (debug_link file)) _ others in
     let (eh_frame, more) = both (is_read (eh_frame_of file)) _ frames in
     let (debug_frame, symbols) = both (is_read (debug_frame_of file)) _ more in
     record {
-      build = read_by (build_id file) build;
-      link = read_by (debug_link file) link;
-      eh_frame = read_by (eh_frame_of file) eh_frame;
-      debug_frame = read_by (debug_frame_of file) debug_frame;
-      symbols = read_by (symbol_table file) symbols;
+      frames = record { eh_frame = read_by (eh_frame_of file) eh_frame; debug_frame = read_by (debug_frame_of file) debug_frame };
+      build = record { id = λ needed. read_by (build_id file) build; link = λ needed. read_by (debug_link file) link };
+      symbols = λ needed. read_by (symbol_table file) symbols;
+      plt = λ needed. absurd (true≢false (sym needed));
     }
 
--- ---- by parts and by all bytes
+has_by : (file : File) → HasAll needed_of_code file → has_needed file ≡ true
+has_by file has =
+    joined (is_read (build_id file)) _ (is_by (build_id file) (has.build.id refl))
+    (joined (is_read (debug_link file)) _ (is_by (debug_link file) (has.build.link refl))
+    (joined (is_read (eh_frame_of file)) _ (is_by (eh_frame_of file) has.frames.eh_frame)
+    (joined (is_read (debug_frame_of file)) _ (is_by (debug_frame_of file) has.frames.debug_frame)
+    (is_by (symbol_table file) (has.symbols refl)))))
 
-same_or_others : (found : Option (List ℕ)) {r r' : Result (Option (List ℕ)) ElfError} → Same r r' → Same (or_others found r) (or_others found r')
-same_or_others (Some id) same = same_ok (Some id)
-same_or_others None same = same
+pub enough_by : (image : Image) → AreEnough needed_of_code image → are_enough image ≡ true
+enough_by image (read, has) = by (elf_file_of image) read has
+  where
+    by : (r : Result File ElfError) → IsRead r → IfOk r (HasAll needed_of_code) → has_needed_of r ≡ true
+    by (Ok file) read has = has_by file has
+    by (Err e) read has = is_by {A = File} (Err e) read
+
+-- ---- by parts and by all bytes
 
 then_first : {A B : Type 0} (r : Result A ElfError) (next : A → Result B ElfError) → IsRead (and_then r next) → IsRead r
 then_first {A = A} r next read offset size is = read offset size (ap (λ (r : Result A ElfError). and_then r next) is)
@@ -92,50 +96,6 @@ then_first {A = A} r next read offset size is = read offset size (ap (λ (r : Re
 module _ {bytes : List ℕ} (file : File) (of : IsImageOf file.image bytes) where
   abbrev all : File
   all = in_whole bytes file
-
-  same_first_header : Same (first_section_header file) (first_section_header all)
-  unfolding first_section_header
-  same_first_header =
-      same_then (same_bytes_at of file.header.offsets.e_shoff (section_header_bytes (class_of_file file)) SectionTableOutOfBounds refl)
-      (λ found. same_or_missing SectionTableOutOfBounds refl (slice_get (section_headers file found) 0))
-
-  same_by_first : (number : ℕ) (by_first : Bool) (of_first : SectionHeader → ℕ) → Same (or_by_first file number by_first of_first) (or_by_first all number by_first of_first)
-  same_by_first number by_first of_first = same_if by_first (same_then same_first_header (λ first. same_ok (of_first first))) (same_ok number)
-
-  same_segment_count : Same (segment_count file) (segment_count all)
-  unfolding segment_count
-  same_segment_count = same_by_first file.header.sizes.e_phnum ((file.header.sizes.e_phnum == 0xffff) && not (file.header.offsets.e_shoff == 0)) (λ first. first.sh_info)
-
-  same_program_table : Same (program_table file) (program_table all)
-  unfolding program_table
-  same_program_table =
-      let size = program_header_bytes (class_of_file file) in
-      same_if (file.header.offsets.e_phoff == 0) (same_ok [])
-      (same_if (not (file.header.sizes.e_phentsize == size)) (same_err (ProgramEntrySize file.header.sizes.e_phentsize) refl)
-      (same_then same_segment_count (λ count. same_bytes_at of file.header.offsets.e_phoff (count * size) ProgramTableOutOfBounds refl)))
-
-  same_segments : Same (segments file) (segments all)
-  unfolding segments
-  same_segments = same_then same_program_table (λ table. same_ok _)
-
-  same_bytes : (header : ProgramHeader) → Same (segment_bytes file header) (segment_bytes all header)
-  same_bytes header = same_bytes_at of header.p_offset header.p_filesz SegmentOutOfBounds refl
-
-  same_build_of : (header : ProgramHeader) → Same (build_id_of file header) (build_id_of all header)
-  unfolding build_id_of
-  same_build_of header = same_if (header.p_type == 4) (same_then (same_bytes header) (λ bytes. same_ok _)) (same_ok None)
-
-  same_build_among : (headers : List ProgramHeader) → Same (build_id_among file headers) (build_id_among all headers)
-  same_build_among [] = same_ok None
-  same_build_among (header ∷ headers) = same_then (same_build_of header) (λ found. same_or_others found (same_build_among headers))
-
-  pub same_build : Same (build_id file) (build_id all)
-  unfolding build_id
-  same_build = same_then same_segments same_build_among
-
-  pub same_link : Same (debug_link file) (debug_link all)
-  unfolding debug_link
-  same_link = same_then (same_section_named file of (codes ".gnu_debuglink")) (λ found. same_ok _)
 
   -- the note of the build needs the program headers
   table_read : IsRead (build_id file) → IsRead (program_table file)
@@ -146,48 +106,17 @@ module _ {bytes : List ℕ} (file : File) (of : IsImageOf file.image bytes) wher
   unfolding address_of_offset wanted_segment
   address_read read offset = then_read _ _ (then_read _ _ (table_read read) (λ table. ok_read _)) (λ found. ok_read _)
 
-  same_addresses : IsRead (build_id file) → addresses_in file ≡ addresses_in all
+  same_addresses : IsRead (build_id file) → code_addresses file ≡ code_addresses all
   same_addresses read = λ i offset. there ((same_address_of_offset file of offset).same (address_read read offset) i)
 
   same_places : IsRead (symbol_table file) → function_place file ≡ function_place all
   same_places read = λ i address. same_function_place file of read address i
 
-  -- all bytes have all that is needed
-  pub all_needed : has_needed all ≡ true
-  all_needed =
-      joined (is_read (build_id all)) _ (is_by (build_id all) same_build.read)
-      (joined (is_read (debug_link all)) _ (is_by (debug_link all) same_link.read)
-      (joined (is_read (eh_frame_of all)) _ (is_by (eh_frame_of all) (same_eh_frame file bytes of).read)
-      (joined (is_read (debug_frame_of all)) _ (is_by (debug_frame_of all) (same_debug file bytes of).read)
-      (is_by (symbol_table all) (same_symbol_table file of).read))))
-
--- ---- a file of all bytes
-
-all_taken : (xs : List ℕ) → take (length xs) xs ≡ xs
-all_taken [] = refl
-all_taken (x ∷ xs) = ap (λ (l : List ℕ). x ∷ l) (all_taken xs)
-
-pub whole_is : (bytes : List ℕ) → IsImageOf (whole bytes) bytes
-whole_is bytes =
-    let size : 0 + length bytes - 0 ≡ length bytes = omega arith in
-    let fits : nat_le (0 + length bytes) (length bytes) ≡ true = grind (arith, nat_tests) in
-    record { length_is = refl; first_is = rw (fits, size, all_taken) refl; parts_are = tt }
-
-pub whole_enough : (bytes : List ℕ) → are_enough (whole bytes) ≡ true
-whole_enough bytes = by (elf_file bytes) refl
-  where
-    by : (r : Result File ElfError) → elf_file bytes ≡ r → has_needed_of r ≡ true
-    by (Ok file) is =
-        let (same, kept) = file_found (whole_is bytes) file is in
-        let alone : in_whole bytes file ≡ file = λ i. record file { image = sym (image_kept (whole bytes) file is) i } in
-        subst (λ (file : File). has_needed file ≡ true) alone (all_needed file kept)
-    by (Err e) is = is_by {A = File} (Err e) (subst (λ (r : Result File ElfError). IsRead r) is (whole_file_read (whole_is bytes)))
-
 -- ---- a file by its parts, and by all bytes
 
 abbrev AreSame : List ℕ → Option File → Option File → Type 0
 AreSame bytes None other = other ≡ None
-AreSame bytes (Some file) other = (other ≡ Some (in_whole bytes file)) × IsImageOf file.image bytes × Needed file
+AreSame bytes (Some file) other = (other ≡ Some (in_whole bytes file)) × IsImageOf file.image bytes × HasAll needed_of_code file
 
 found : (image : Image) (bytes : List ℕ) → IsImageOf image bytes → are_enough image ≡ true → AreSame bytes (result_ok (elf_file_of image)) (result_ok (elf_file bytes))
 found image bytes of enough = by (elf_file_of image) refl enough
@@ -204,15 +133,15 @@ module _ (bytes : List ℕ) where
   same_id : (a b : Option File) → AreSame bytes a b → option_and_then (λ (file : File). there (build_id file)) a ≡ option_and_then (λ (file : File). there (build_id file)) b
   same_id None b same = ap (option_and_then (λ (file : File). there (build_id file))) (sym same)
   same_id (Some file) b (same, of, needed) =
-      ap there ((same_build file of).same needed.build) ∙ ap (option_and_then (λ (file : File). there (build_id file))) (sym same)
+      ap there ((same_build file of).same (needed.build.id refl)) ∙ ap (option_and_then (λ (file : File). there (build_id file))) (sym same)
 
   same_linked : (a b : Option File) → AreSame bytes a b → option_and_then (λ (file : File). there (debug_link file)) a ≡ option_and_then (λ (file : File). there (debug_link file)) b
   same_linked None b same = ap (option_and_then (λ (file : File). there (debug_link file))) (sym same)
   same_linked (Some file) b (same, of, needed) =
-      ap there ((same_link file of).same needed.link) ∙ ap (option_and_then (λ (file : File). there (debug_link file))) (sym same)
+      ap there ((same_link file of).same (needed.build.link refl)) ∙ ap (option_and_then (λ (file : File). there (debug_link file))) (sym same)
 
-  own_debug : (file : File) → IsImageOf file.image bytes → Needed file → debug_in file ≡ debug_in (in_whole bytes file)
-  own_debug file of needed = ap (λ (found : Result (Option GivenSection) ElfError). option_and_then if_bytes (there found)) ((same_debug file bytes of).same needed.debug_frame)
+  own_debug : (file : File) → IsImageOf file.image bytes → HasAll needed_of_code file → debug_in file ≡ debug_in (in_whole bytes file)
+  own_debug file of needed = ap (λ (found : Result (Option GivenSection) ElfError). option_and_then if_bytes (there found)) ((same_debug file bytes of).same needed.frames.debug_frame)
 
   same_debug_in : (a b : Option File) → AreSame bytes a b → option_and_then debug_in a ≡ option_and_then debug_in b
   same_debug_in None b same = ap (option_and_then debug_in) (sym same)
@@ -234,23 +163,23 @@ same_debug_frames None bytes is = ap (λ (bytes : Option (List ℕ)). debug_fram
 same_debug_frames (Some code) None is = absurd is
 same_debug_frames (Some code) (Some bytes) is = same_debug_in bytes _ _ (code_found code bytes is)
 
-either_same : (file : File) (bytes : List ℕ) → addresses_in file ≡ addresses_in (in_whole bytes file) → (frames debug : Option GivenSection) → with_either file frames debug ≡ with_either (in_whole bytes file) frames debug
+either_same : (file : File) (bytes : List ℕ) → code_addresses file ≡ code_addresses (in_whole bytes file) → (frames debug : Option GivenSection) → with_either file frames debug ≡ with_either (in_whole bytes file) frames debug
 either_same file bytes same (Some frames) debug = λ i. Some (record (object_with file frames debug) { addresses = same i })
 either_same file bytes same None None = refl
 either_same file bytes same None (Some frames) = λ i. Some (record (object_with file (section_in file given.EhFrame []) (Some frames)) { addresses = same i })
 
 module _ (debug : Option CodeParts) (all_debug : Option (List ℕ)) (debug_is : IsOf debug all_debug) where
-  frames_same : (file : File) (bytes : List ℕ) → IsImageOf file.image bytes → Needed file → with_frames (image_in debug) file ≡ with_frames (option_map whole all_debug) (in_whole bytes file)
+  frames_same : (file : File) (bytes : List ℕ) → IsImageOf file.image bytes → HasAll needed_of_code file → with_call_frames (image_in debug) file ≡ with_call_frames (option_map whole all_debug) (in_whole bytes file)
   frames_same file bytes of needed =
-      let eh = (same_eh_frame file bytes of).same needed.eh_frame in
+      let eh = (same_eh_frame file bytes of).same needed.frames.eh_frame in
       let own = own_debug bytes file of needed in
       let others = same_debug_frames debug all_debug debug_is in
-      (λ i. with_either file (there (eh i)) (or_else (own i) (others i)))
-      ∙ either_same file bytes (same_addresses file of needed.build) _ _
+      (λ i. with_either file (there (eh i)) (option_or (own i) (others i)))
+      ∙ either_same file bytes (same_addresses file of (needed.build.id refl)) _ _
 
-  object_found : (bytes : List ℕ) (a b : Option File) → AreSame bytes a b → option_and_then (with_frames (image_in debug)) a ≡ option_and_then (with_frames (option_map whole all_debug)) b
-  object_found bytes None b same = ap (option_and_then (with_frames (option_map whole all_debug))) (sym same)
-  object_found bytes (Some file) b (same, of, needed) = frames_same file bytes of needed ∙ ap (option_and_then (with_frames (option_map whole all_debug))) (sym same)
+  object_found : (bytes : List ℕ) (a b : Option File) → AreSame bytes a b → option_and_then (with_call_frames (image_in debug)) a ≡ option_and_then (with_call_frames (option_map whole all_debug)) b
+  object_found bytes None b same = ap (option_and_then (with_call_frames (option_map whole all_debug))) (sym same)
+  object_found bytes (Some file) b (same, of, needed) = frames_same file bytes of needed ∙ ap (option_and_then (with_call_frames (option_map whole all_debug))) (sym same)
 
   pub same_object : (code : Option CodeParts) (bytes : Option (List ℕ)) → IsOf code bytes → object_if (image_in code) (image_in debug) ≡ object_if (option_map whole bytes) (option_map whole all_debug)
   same_object None bytes is = ap (λ (bytes : Option (List ℕ)). object_if (option_map whole bytes) (option_map whole all_debug)) (sym is)
@@ -262,21 +191,21 @@ module _ (debug : Option CodeParts) (all_debug : Option (List ℕ)) (debug_is : 
   abbrev other_file : Option Image → Option File
   other_file debug = option_and_then (λ image. result_ok (elf_file_of image)) debug
 
-  other_places : (file : File) (bytes : List ℕ) → IsImageOf file.image bytes → Needed file → (b : List ℕ) (x y : Option File) → AreSame b x y → function_place (or_this file x) ≡ function_place (or_this (in_whole bytes file) y)
-  other_places file bytes of needed b None y same = same_places file of needed.symbols ∙ ap (λ (y : Option File). function_place (or_this (in_whole bytes file) y)) (sym same)
+  other_places : (file : File) (bytes : List ℕ) → IsImageOf file.image bytes → HasAll needed_of_code file → (b : List ℕ) (x y : Option File) → AreSame b x y → function_place (or_this file x) ≡ function_place (or_this (in_whole bytes file) y)
+  other_places file bytes of needed b None y same = same_places file of (needed.symbols refl) ∙ ap (λ (y : Option File). function_place (or_this (in_whole bytes file) y)) (sym same)
   other_places file bytes of needed b (Some other) y (same, other_of, other_needed) =
-      same_places other other_of other_needed.symbols ∙ ap (λ (y : Option File). function_place (or_this (in_whole bytes file) y)) (sym same)
+      same_places other other_of (other_needed.symbols refl) ∙ ap (λ (y : Option File). function_place (or_this (in_whole bytes file) y)) (sym same)
 
-  places_same : (debug : Option CodeParts) (all_debug : Option (List ℕ)) → IsOf debug all_debug → (file : File) (bytes : List ℕ) → IsImageOf file.image bytes → Needed file →
-      function_place (symbols_of file (image_in debug)) ≡ function_place (symbols_of (in_whole bytes file) (option_map whole all_debug))
+  places_same : (debug : Option CodeParts) (all_debug : Option (List ℕ)) → IsOf debug all_debug → (file : File) (bytes : List ℕ) → IsImageOf file.image bytes → HasAll needed_of_code file →
+      function_place (symbol_file file (image_in debug)) ≡ function_place (symbol_file (in_whole bytes file) (option_map whole all_debug))
   places_same None other is file bytes of needed =
-      same_places file of needed.symbols ∙ ap (λ (all : Option (List ℕ)). function_place (symbols_of (in_whole bytes file) (option_map whole all))) (sym is)
+      same_places file of (needed.symbols refl) ∙ ap (λ (all : Option (List ℕ)). function_place (symbol_file (in_whole bytes file) (option_map whole all))) (sym is)
   places_same (Some code) None is file bytes of needed = absurd is
   places_same (Some code) (Some debug_bytes) is file bytes of needed = other_places file bytes of needed debug_bytes _ _ (code_found code debug_bytes is)
 
-  symbols_same : (file : File) (bytes : List ℕ) → IsImageOf file.image bytes → Needed file → with_symbols (image_in debug) file ≡ with_symbols (option_map whole all_debug) (in_whole bytes file)
+  symbols_same : (file : File) (bytes : List ℕ) → IsImageOf file.image bytes → HasAll needed_of_code file → with_symbols (image_in debug) file ≡ with_symbols (option_map whole all_debug) (in_whole bytes file)
   symbols_same file bytes of needed =
-      let addresses = same_addresses file of needed.build in
+      let addresses = same_addresses file of (needed.build.id refl) in
       let places = places_same debug all_debug debug_is file bytes of needed in
       λ i. record { addresses = addresses i; places = places i }
 
@@ -296,8 +225,13 @@ module _ (debug : Option CodeParts) (all_debug : Option (List ℕ)) (debug_is : 
 
 -- ---- texts
 
+-- what is read as code
+pub code_kept : (text : Bool) (code : Option CodeParts) (bytes : Option (List ℕ)) → IsOf code bytes → IsOf (if text then None else code) (if text then None else bytes)
+code_kept true code bytes is = refl
+code_kept false code bytes is = is
+
 -- all bytes of what was read whole
-pub whole_first : (code : Option CodeParts) (bytes : Option (List ℕ)) → IsOf code bytes → is_whole code ≡ true → first_of code ≡ bytes
+pub whole_first : (code : Option CodeParts) (bytes : Option (List ℕ)) → IsOf code bytes → is_whole code ≡ true → beginning_in code ≡ bytes
 whole_first None bytes is every = sym is
 whole_first (Some code) None is every = absurd is
 whole_first (Some code) (Some bytes) is every =
@@ -314,16 +248,16 @@ either true b is = refl
 either false b is = is
 
 -- what the kernel tells
-pub kernel_told : {A : Type 0} (name : List ℕ) (map_name : Option A) (code : Option CodeParts) (bytes : Option (List ℕ)) → IsOf code bytes → is_told name map_name code ≡ true → kernel_of name (first_of code) ≡ kernel_of name bytes
+pub kernel_told : {A : Type 0} (name : List ℕ) (map_name : Option A) (code : Option CodeParts) (bytes : Option (List ℕ)) → IsOf code bytes → is_told name map_name code ≡ true → kernel_of name (beginning_in code) ≡ kernel_of name bytes
 kernel_told name map_name code bytes of told = by (is_kernel_name name) refl
   where
-    by : (b : Bool) → is_kernel_name name ≡ b → (if b then option_map (kernel_text name) (first_of code) else None) ≡ (if b then option_map (kernel_text name) bytes else None)
+    by : (b : Bool) → is_kernel_name name ≡ b → (if b then option_map (kernel_text name) (beginning_in code) else None) ≡ (if b then option_map (kernel_text name) bytes else None)
     by true is = ap (option_map (kernel_text name)) (whole_first code bytes of (rest_of (is_kernel_name name || is_some map_name) (is_whole code) (ap (λ (b : Bool). b || is_some map_name) is) told))
     by false is = refl
 
 -- what a process tells
 pub map_told : {A : Type 0} (f : A → List ℕ) (name : List ℕ) (map_name : Option A) (code : Option CodeParts) (bytes : Option (List ℕ)) → IsOf code bytes → is_told name map_name code ≡ true
-    → map_of (first_of code) (option_map f map_name) ≡ map_of bytes (option_map f map_name)
+    → map_of (beginning_in code) (option_map f map_name) ≡ map_of bytes (option_map f map_name)
 map_told f name None code bytes of told = refl
 map_told f name (Some m) code bytes of told =
     ap (λ (text : Option (List ℕ)). map_of text (Some (f m))) (whole_first code bytes of (rest_of (is_kernel_name name || true) (is_whole code) (either (is_kernel_name name) true refl) told))

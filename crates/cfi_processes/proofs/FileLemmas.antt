@@ -6,7 +6,9 @@ use Rattle.std.specs.List.{list_any, position_or_len, prefix_len}
 use Rattle.cfi_processes.specs.declared.opened_file.OpenedFile.{OpenedFile}
 use Rattle.cfi_processes.specs.CodeParts.{is_whole}
 use Rattle.cfi_processes.specs.KnownFiles.{KnownFile}
-use Rattle.cfi_processes.specs.OpenedFiles.{AreFilesOf, AreOpened, AreOpenedAs, IsContents, IsDebugOf, IsFileOf, IsOpenedAs, Opened, are_whole, opened_as}
+use Rattle.cfi_processes.specs.ProfileFiles.{AreProfileFilesOf, IsFileOf}
+use Rattle.cfi_processes.specs.FileReads.{AreOpened, IsContents, IsDebugFor}
+use Rattle.cfi_processes.specs.OpenedFiles.{AreOpenedAs, IsOpenedAs, Opened, are_whole, opened_as}
 use Rattle.cfi_processes.specs.declared.wanted.WantedFile.{WantedFile}
 use Rattle.cfi_processes.specs.Wanted.{FilePlace, Wanted, wanted_view}
 
@@ -33,7 +35,7 @@ module _ {Handle : Type 0} (may_open : FilePlace → Option Handle → Type 0) (
 
   pub one_opened : (all : List Wanted) (files : List WantedFile) (i : ℕ) (d : WantedFile) (first next : List Opened) (bytes debug : Option (List ℕ)) → i < length files
       → next ≡ first ++ opened_as (wanted_view (get_or files i d)) bytes debug ∷ [] → OpensOn all (map wanted_view (drop i files)) first → IsContents may_open remaining (wanted_view (get_or files i d)) bytes
-      → IsDebugOf may_open remaining (wanted_view (get_or files i d)).name bytes debug
+      → IsDebugFor may_open remaining (wanted_view (get_or files i d)) bytes debug
       → OpensOn all (map wanted_view (drop (i + 1) files)) next
   one_opened all files i d first next bytes debug inside is so contents of_debug = record {
     opens_on = λ others are.
@@ -95,13 +97,13 @@ one_file named all opened i d first next file inside is so one = record {
       subst (λ (files : List KnownFile). AreFilesFor named all files) (sym (ap (λ (front : List KnownFile). front ++ others) is ∙ append_assoc first (file ∷ []) others)) whole;
 }
 
-files_for : (named : Bool) (opened : List OpenedFile) (files : List KnownFile) (all : List Opened) → AreOpenedAs opened all → AreFilesFor named opened files → AreFilesOf named all files
-files_for named [] files all are is = subst (λ (all : List Opened). AreFilesOf named all files) (sym are) is
+files_for : (named : Bool) (opened : List OpenedFile) (files : List KnownFile) (all : List Opened) → AreOpenedAs opened all → AreFilesFor named opened files → AreProfileFilesOf named all files
+files_for named [] files all are is = subst (λ (all : List Opened). AreProfileFilesOf named all files) (sym are) is
 files_for named (one ∷ opened) files all (w, ws, hold, others_as, same) (first, others, is, are, files_are) =
-    subst (λ (all : List Opened). AreFilesOf named all files) (sym same) (first, others, is w hold, files_for named opened others ws others_as are, files_are)
+    subst (λ (all : List Opened). AreProfileFilesOf named all files) (sym same) (first, others, is w hold, files_for named opened others ws others_as are, files_are)
 
 pub all_files : (named : Bool) (opened : List OpenedFile) (i : ℕ) (files : List KnownFile) → length opened ≤ i → IsFilesOn named opened (drop i opened) files
-    → (all : List Opened) → AreOpenedAs opened all → AreFilesOf named all files
+    → (all : List Opened) → AreOpenedAs opened all → AreProfileFilesOf named all files
 all_files named opened i files behind so all are =
     let none : drop i opened ≡ [] = rw drop_all refl in
     files_for named opened files all are

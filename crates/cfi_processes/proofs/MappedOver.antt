@@ -4,7 +4,7 @@ use Rattle.std.specs.List.{filter_map, cons_option}
 use Rattle.std.proofs.lemmas.Bool.{and_from, and_left, and_right, le-leb, lt-leb, lt-ltb, le-ltb, cases_lt, cond-true, cond-false}
 use Rattle.std.proofs.Math.Nat.{mod-add-mod}
 use Rattle.cfi_processes.specs.declared.mappings.MappedCode.{MappedCode}
-use Rattle.cfi_processes.specs.Mappings.{IsMappedOver, Place, has_byte_at, mapped_over, part_below, part_from, place_in, place_of}
+use Rattle.cfi_processes.specs.Mappings.{IsMappedOver, Place, has_byte_at, mapped_over, part_below, part_from, mapped_place, place_at_address}
 
 -- a list that is made of two others and what stands between them
 pub joined : {X : Type 0} {none first second third : List X} (xs : List X) (x : X) (ys : List X) → none ≡ [] → first ≡ none ++ xs → second ≡ first ++ x ∷ [] → third ≡ second ++ ys → third ≡ xs ++ x ∷ ys
@@ -21,7 +21,7 @@ module _ (limit : ℕ) (m : MappedCode) where
   rest_below = cond (nat_le m.end limit) (Some m) (Some cut_below)
 
   abbrev pub cut_from : MappedCode
-  cut_from = record m { start = limit; offset = (place_in m limit).offset }
+  cut_from = record m { start = limit; offset = (mapped_place m limit).offset }
 
   abbrev rest_from : Option MappedCode
   rest_from = cond (nat_le limit m.start) (Some m) (Some cut_from)
@@ -58,54 +58,54 @@ module _ (m : MappedCode) (a : ℕ) where
   has_it from up_to = and_from (nat_le m.start a) (nat_lt a m.end) (le-leb m.start a from) (lt-ltb a m.end up_to)
 
   module _ (list : List MappedCode) where
-    here : has_byte_at m a ≡ true → place_of (m ∷ list) a ≡ Some (place_in m a)
-    here has = cond-true (has_byte_at m a) (Some (place_in m a)) (place_of list a) has
+    here : has_byte_at m a ≡ true → place_at_address (m ∷ list) a ≡ Some (mapped_place m a)
+    here has = cond-true (has_byte_at m a) (Some (mapped_place m a)) (place_at_address list a) has
 
-    there : has_byte_at m a ≡ false → place_of (m ∷ list) a ≡ place_of list a
-    there has_not = cond-false (has_byte_at m a) (Some (place_in m a)) (place_of list a) has_not
+    there : has_byte_at m a ≡ false → place_at_address (m ∷ list) a ≡ place_at_address list a
+    there has_not = cond-false (has_byte_at m a) (Some (mapped_place m a)) (place_at_address list a) has_not
 
 -- one mapping in place of another that has the same place for the byte
-replaced : (m n : MappedCode) (a : ℕ) (p q : Option Place) → has_byte_at n a ≡ has_byte_at m a → place_in n a ≡ place_in m a → p ≡ q →
-    cond (has_byte_at n a) (Some (place_in n a)) p ≡ cond (has_byte_at m a) (Some (place_in m a)) q
+replaced : (m n : MappedCode) (a : ℕ) (p q : Option Place) → has_byte_at n a ≡ has_byte_at m a → mapped_place n a ≡ mapped_place m a → p ≡ q →
+    cond (has_byte_at n a) (Some (mapped_place n a)) p ≡ cond (has_byte_at m a) (Some (mapped_place m a)) q
 replaced m n a p q has place rest =
-    ap (λ (t : Bool). cond t (Some (place_in n a)) p) has
+    ap (λ (t : Bool). cond t (Some (mapped_place n a)) p) has
     ∙ ap (λ (x : Place). cond (has_byte_at m a) (Some x) p) place
-    ∙ ap (λ (x : Option Place). cond (has_byte_at m a) (Some (place_in m a)) x) rest
+    ∙ ap (λ (x : Option Place). cond (has_byte_at m a) (Some (mapped_place m a)) x) rest
 
 -- ---- below a limit, and from it on
 
 module _ (limit a : ℕ) where
-  below_kept : a < limit → (rest : List MappedCode) → place_of rest a ≡ None → (list : List MappedCode) →
-      place_of (filter_map (part_below limit) list ++ rest) a ≡ place_of list a
+  below_kept : a < limit → (rest : List MappedCode) → place_at_address rest a ≡ None → (list : List MappedCode) →
+      place_at_address (filter_map (part_below limit) list ++ rest) a ≡ place_at_address list a
   below_kept less rest none [] = none
   below_kept less rest none (m ∷ list) =
       let kept = filter_map (part_below limit) list in
       let same = below_kept less rest none list in
-      by_below (λ (part : Option MappedCode). place_of (cons_option part kept ++ rest) a ≡ place_of (m ∷ list) a) limit m
+      by_below (λ (part : Option MappedCode). place_at_address (cons_option part kept ++ rest) a ≡ place_at_address (m ∷ list) a) limit m
       (λ later. same ∙ sym (there m a list (has_not_below m a (omega arith))))
-      (λ begins ends. replaced m m a (place_of (kept ++ rest) a) (place_of list a) refl refl same)
-      (λ begins more. replaced m (record m { end = limit }) a (place_of (kept ++ rest) a) (place_of list a)
+      (λ begins ends. replaced m m a (place_at_address (kept ++ rest) a) (place_at_address list a) refl refl same)
+      (λ begins more. replaced m (record m { end = limit }) a (place_at_address (kept ++ rest) a) (place_at_address list a)
       (ap (λ (t : Bool). nat_le m.start a && t) (lt-ltb a limit less ∙ sym (lt-ltb a m.end (omega arith)))) refl same)
 
-  below_gone : limit ≤ a → (rest list : List MappedCode) → place_of (filter_map (part_below limit) list ++ rest) a ≡ place_of rest a
+  below_gone : limit ≤ a → (rest list : List MappedCode) → place_at_address (filter_map (part_below limit) list ++ rest) a ≡ place_at_address rest a
   below_gone up rest [] = refl
   below_gone up rest (m ∷ list) =
       let kept = filter_map (part_below limit) list in
       let gone = below_gone up rest list in
-      by_below (λ (part : Option MappedCode). place_of (cons_option part kept ++ rest) a ≡ place_of rest a) limit m
+      by_below (λ (part : Option MappedCode). place_at_address (cons_option part kept ++ rest) a ≡ place_at_address rest a) limit m
       (λ later. gone)
       (λ begins ends. there m a (kept ++ rest) (has_not_above m a (omega arith)) ∙ gone)
       (λ begins more. there (record m { end = limit }) a (kept ++ rest) (has_not_above (record m { end = limit }) a up) ∙ gone)
 
-  from_kept : limit ≤ a → (list : List MappedCode) → place_of (filter_map (part_from limit) list) a ≡ place_of list a
+  from_kept : limit ≤ a → (list : List MappedCode) → place_at_address (filter_map (part_from limit) list) a ≡ place_at_address list a
   from_kept up [] = refl
   from_kept up (m ∷ list) =
       let kept = filter_map (part_from limit) list in
       let same = from_kept up list in
-      by_from (λ (part : Option MappedCode). place_of (cons_option part kept) a ≡ place_of (m ∷ list) a) limit m
+      by_from (λ (part : Option MappedCode). place_at_address (cons_option part kept) a ≡ place_at_address (m ∷ list) a) limit m
       (λ ends. same ∙ sym (there m a list (has_not_above m a (omega arith))))
-      (λ more later. replaced m m a (place_of kept a) (place_of list a) refl refl same)
-      (λ more begins. replaced m (cut_from limit m) a (place_of kept a) (place_of list a)
+      (λ more later. replaced m m a (place_at_address kept a) (place_at_address list a) refl refl same)
+      (λ more begins. replaced m (cut_from limit m) a (place_at_address kept a) (place_at_address list a)
       (ap (λ (t : Bool). t && nat_lt a m.end) (le-leb limit a up ∙ sym (le-leb m.start a (omega arith))))
       (ap (λ (n : ℕ). record { object = m.object; offset = n }) (moved m begins))
       same)
@@ -115,12 +115,12 @@ module _ (limit a : ℕ) where
           let sum : m.offset + (limit - m.start) + (a - limit) ≡ m.offset + (a - m.start) = omega arith in
           mod-add-mod (m.offset + (limit - m.start)) (2 ^ 64) (a - limit) ∙ ap (λ (n : ℕ). n % 2 ^ 64) sum
 
-  from_gone : a < limit → (list : List MappedCode) → place_of (filter_map (part_from limit) list) a ≡ None
+  from_gone : a < limit → (list : List MappedCode) → place_at_address (filter_map (part_from limit) list) a ≡ None
   from_gone less [] = refl
   from_gone less (m ∷ list) =
       let kept = filter_map (part_from limit) list in
       let gone = from_gone less list in
-      by_from (λ (part : Option MappedCode). place_of (cons_option part kept) a ≡ None) limit m
+      by_from (λ (part : Option MappedCode). place_at_address (cons_option part kept) a ≡ None) limit m
       (λ ends. gone)
       (λ more later. there m a kept (has_not_below m a (omega arith)) ∙ gone)
       (λ more begins.
@@ -141,17 +141,17 @@ module _ (new : MappedCode) (list : List MappedCode) where
 
   module _ (a : ℕ) where
     abbrev due : Option Place
-    due = cond (has_byte_at new a) (Some (place_in new a)) (place_of list a)
+    due = cond (has_byte_at new a) (Some (mapped_place new a)) (place_at_address list a)
 
-    inside : has_byte_at new a ≡ true → new.start ≤ a → place_of over a ≡ due
+    inside : has_byte_at new a ≡ true → new.start ≤ a → place_at_address over a ≡ due
     inside has up =
         let above = filter_map (part_from new.end) list in
-        below_gone new.start a up (new ∷ above) list ∙ here new a above has ∙ sym (cond-true (has_byte_at new a) (Some (place_in new a)) (place_of list a) has)
+        below_gone new.start a up (new ∷ above) list ∙ here new a above has ∙ sym (cond-true (has_byte_at new a) (Some (mapped_place new a)) (place_at_address list a) has)
 
-    outside : has_byte_at new a ≡ false → place_of over a ≡ place_of list a → place_of over a ≡ due
-    outside has_not same = same ∙ sym (cond-false (has_byte_at new a) (Some (place_in new a)) (place_of list a) has_not)
+    outside : has_byte_at new a ≡ false → place_at_address over a ≡ place_at_address list a → place_at_address over a ≡ due
+    outside has_not same = same ∙ sym (cond-false (has_byte_at new a) (Some (mapped_place new a)) (place_at_address list a) has_not)
 
-    over_place : new.start < new.end → place_of over a ≡ due
+    over_place : new.start < new.end → place_at_address over a ≡ due
     over_place bytes =
         let above = filter_map (part_from new.end) list in
         ⊎_elim
@@ -166,8 +166,8 @@ module _ (new : MappedCode) (list : List MappedCode) where
         (cases_lt a new.end))
         (cases_lt a new.start)
 
-    no_place : new.end ≤ new.start → place_of list a ≡ due
-    no_place no_bytes = sym (cond-false (has_byte_at new a) (Some (place_in new a)) (place_of list a)
+    no_place : new.end ≤ new.start → place_at_address list a ≡ due
+    no_place no_bytes = sym (cond-false (has_byte_at new a) (Some (mapped_place new a)) (place_at_address list a)
         (⊎_elim
         (λ (less : a < new.start). has_not_below new a less)
         (λ (up : new.start ≤ a). has_not_above new a (omega arith))
@@ -175,6 +175,6 @@ module _ (new : MappedCode) (list : List MappedCode) where
 
   pub is_mapped_over : IsMappedOver new list (mapped_over new list)
   is_mapped_over a = ⊎_elim
-      (λ (bytes : new.start < new.end). ap (λ (l : List MappedCode). place_of l a) (over_is bytes) ∙ over_place a bytes)
-      (λ (no_bytes : new.end ≤ new.start). ap (λ (l : List MappedCode). place_of l a) (none_over no_bytes) ∙ no_place a no_bytes)
+      (λ (bytes : new.start < new.end). ap (λ (l : List MappedCode). place_at_address l a) (over_is bytes) ∙ over_place a bytes)
+      (λ (no_bytes : new.end ≤ new.start). ap (λ (l : List MappedCode). place_at_address l a) (none_over no_bytes) ∙ no_place a no_bytes)
       (cases_lt new.start new.end)

@@ -5,35 +5,45 @@ use Rattle.std.proofs.lemmas.Bool.{eq-eqb}
 use Rattle.std.specs.Option.{is_some}
 use Rattle.cfi_elf.specs.DebugLinks.{Link}
 use Rattle.cfi_elf.specs.Images.{Image, IsImageOf, whole}
-use Rattle.cfi_object.specs.FileParts.{AreOfInput}
+use Rattle.cfi_object.specs.FileParts.{AreOfInput, IsAllOf}
 use Rattle.cfi_processes.specs.declared.code_parts.CodeParts.{CodeParts}
 use Rattle.cfi_processes.specs.declared.wanted.LinkFolder.{LinkFolder}
 use Rattle.cfi_processes.specs.declared.wanted.LinkFolder.TheVariants.{Below, Beside, Central}
 use Rattle.cfi_processes.specs.CodeParts.{AreOf, IsOf, is_told, is_whole, parts_of}
+use Rattle.cfi_processes.specs.FileReads.{IsBuild, IsBuildOf, IsByLink, IsContents, IsDebug, IsDebugOf, IsElsewhere, IsFileFound, IsLinkedIn, IsLinkedReading, IsOr, IsOrCopy, IsPlaceRead, IsReadIfOpened, IsAllLeft, IsTold, if_built, names_a_file}
 use Rattle.cfi_processes.specs.KernelSymbols.{is_kernel_name}
-use Rattle.cfi_processes.specs.OpenedFiles.{IsBuild, IsBuildOf, IsByLink, IsContents, IsDebug, IsDebugOf, IsElsewhere, IsFound, IsLinkedIn, IsLinkedReading, IsOr, IsOrCopy, IsRead, IsReadOf, IsReading, IsTold, if_built, is_file_name}
-use Rattle.cfi_processes.specs.Wanted.{FilePlace, Wanted, at_path, code_map, copy_of, debug_of, has_build, id_in, id_of, is_known_build, is_linked, kernel_symbols, link_in, link_of, linked}
-use Rattle.cfi_processes.proofs.CodeImages.{id_found, link_found, whole_is}
+use Rattle.cfi_processes.specs.Wanted.{FilePlace, Wanted, at_path, code_map, copy_of, debug_of, is_text, kernel_symbols, linked}
+use Rattle.cfi_processes.specs.FileBuilds.{has_build, id_in, id_of, is_known_build, is_linked, link_in, link_of}
+use Rattle.cfi_object.proofs.WholeParts.{all_of_input, whole_is}
+use Rattle.cfi_processes.proofs.CodeImages.{id_found, link_found}
 
 -- ---- a file that is read
 
 -- none where it couldn't be read
-pub none_of : (known : Option (List ℕ)) → AreOf (IsReading known) None
+pub none_of : (known : Option (List ℕ)) → AreOf (IsAllLeft known) None
 none_of known = (None, tt, refl)
 
-pub reading_of : (known : Option (List ℕ)) (code : CodeParts) → AreOfInput known (parts_of code) → AreOf (IsReading known) (Some code)
+pub reading_of : (known : Option (List ℕ)) (code : CodeParts) → AreOfInput known (parts_of code) → AreOf (IsAllLeft known) (Some code)
 reading_of known code (bytes, left, of) = (Some bytes, left, of)
 
 -- all bytes of one
-pub whole_of : (known : Option (List ℕ)) (code : CodeParts) (bytes : List ℕ) → parts_of code ≡ whole bytes → IsReading known (Some bytes) → AreOf (IsReading known) (Some code)
+pub whole_of : (known : Option (List ℕ)) (code : CodeParts) (bytes : List ℕ) → parts_of code ≡ whole bytes → IsAllLeft known (Some bytes) → AreOf (IsAllLeft known) (Some code)
 whole_of known code bytes is read = (Some bytes, read, subst (λ (image : Image). IsImageOf image bytes) (sym is) (whole_is bytes))
 
 pub whole_all : (code : CodeParts) (bytes : List ℕ) → parts_of code ≡ whole bytes → is_whole (Some code) ≡ true
 whole_all code bytes is = ap (λ (image : Image). image.length == length image.first) is ∙ eq-eqb (length bytes) (length bytes) refl
 
+pub all_read : {E : Type 0} (known : Option (List ℕ)) (r : Result CodeParts E) → IfOk r (λ code. IsAllOf known (parts_of code)) → IfOk r (λ code. AreOfInput known (parts_of code))
+all_read known (Ok code) is = all_of_input known (parts_of code) is
+all_read known (Err e) is = tt
+
+pub all_whole : {E : Type 0} (known : Option (List ℕ)) (whole : Bool) (r : Result CodeParts E) → IfOk r (λ code. IsAllOf known (parts_of code)) → IfOk r (λ code. whole ≡ true → is_whole (Some code) ≡ true)
+all_whole known whole (Ok code) (bytes, left, is) = λ asked. whole_all code bytes is
+all_whole known whole (Err e) is = tt
+
 -- none where it wasn't opened
-pub none_read : {Handle : Type 0} (remaining : Handle → Option (List ℕ)) (opened : Option Handle) → opened ≡ None → AreOf (IsReadOf remaining opened) None
-none_read {Handle = Handle} remaining opened is = subst (λ (opened : Option Handle). AreOf (IsReadOf remaining opened) None) (sym is) (None, refl, refl)
+pub none_read : {Handle : Type 0} (remaining : Handle → Option (List ℕ)) (opened : Option Handle) → opened ≡ None → AreOf (IsReadIfOpened remaining opened) None
+none_read {Handle = Handle} remaining opened is = subst (λ (opened : Option Handle). AreOf (IsReadIfOpened remaining opened) None) (sym is) (None, refl, refl)
 
 -- ---- a text that the kernel or a process tells
 
@@ -46,10 +56,17 @@ told_by true whole each = each refl
 told_by false whole each = refl
 
 pub told_read : {A B C : Type 0} (f : A → C) (g : B → C) (name : List ℕ) (map_name : Option A) (process : Option B) (code : Option CodeParts) → option_map f map_name ≡ option_map g process
-    → ((is_kernel_name name || is_some process) ≡ true → is_whole code ≡ true) → is_told name map_name code ≡ true
+    → (is_text name process ≡ true → is_whole code ≡ true) → is_told name map_name code ≡ true
 told_read {C = C} f g name map_name process code same each =
     let some = sym (is_some_kept f map_name) ∙ (ap (λ (o : Option C). is_some o) same ∙ is_some_kept g process) in
-    told_by (is_kernel_name name || is_some map_name) (is_whole code) (λ told. each (ap (λ (s : Bool). is_kernel_name name || s) (sym some) ∙ told))
+    told_by (is_text name map_name) (is_whole code) (λ told. each (ap (λ (s : Bool). is_kernel_name name || s) (sym some) ∙ told))
+
+-- what is read as code
+pub not_text : (P : Option (List ℕ) → Type 0) (text : Bool) (bytes : Option (List ℕ)) → text ≡ false → P bytes → P (if text then None else bytes)
+not_text P text bytes is right = subst (λ (text : Bool). P (if text then None else bytes)) (sym is) right
+
+pub of_text : (P : Option (List ℕ) → Type 0) (text : Bool) (bytes : Option (List ℕ)) → text ≡ true → P None → P (if text then None else bytes)
+of_text P text bytes is right = subst (λ (text : Bool). P (if text then None else bytes)) (sym is) right
 
 -- ---- the build
 
@@ -71,13 +88,13 @@ module _ (build : List ℕ) (code : CodeParts) where
   not_built (Some bytes) of is = ap (λ (b : Bool). if b then Some bytes else None) (sym (known_by bytes of) ∙ is)
 
 module _ {Handle : Type 0} (remaining : Handle → Option (List ℕ)) where
-  pub build_of : (build : List ℕ) (opened : Option Handle) (code kept : Option CodeParts) → AreOf (IsReadOf remaining opened) code → ((bytes : Option (List ℕ)) → IsOf code bytes → IsOf kept (if_built build bytes))
+  pub build_of : (build : List ℕ) (opened : Option Handle) (code kept : Option CodeParts) → AreOf (IsReadIfOpened remaining opened) code → ((bytes : Option (List ℕ)) → IsOf code bytes → IsOf kept (if_built build bytes))
       → AreOf (IsBuildOf remaining build opened) kept
   build_of build opened code kept (bytes, read, of) each = (if_built build bytes, (bytes, read, refl), each bytes of)
 
   -- one that was opened
-  pub read_some : {E : Type 0} (opened : Option Handle) (file : Handle) (r : Result (Option CodeParts) E) → opened ≡ Some file → IfOk r (AreOf (IsReading (remaining file))) → IfOk r (AreOf (IsReadOf remaining opened))
-  read_some opened file r is read = subst (λ (o : Option Handle). IfOk r (AreOf (IsReadOf remaining o))) (sym is) read
+  pub read_some : {E : Type 0} (opened : Option Handle) (file : Handle) (r : Result (Option CodeParts) E) → opened ≡ Some file → IfOk r (AreOf (IsAllLeft (remaining file))) → IfOk r (AreOf (IsReadIfOpened remaining opened))
+  read_some opened file r is read = subst (λ (o : Option Handle). IfOk r (AreOf (IsReadIfOpened remaining o))) (sym is) read
 
 -- the code that is there, or none
 some_code : (P : Option (List ℕ) → Type 0) (found : Option CodeParts) (code : CodeParts) → found ≡ Some code → AreOf P found → AreOf P (Some code)
@@ -101,7 +118,7 @@ whole_ok whole (Ok code) is = λ asked. is
 whole_ok whole (Err e) is = tt
 
 module _ {Handle : Type 0} (may_open : FilePlace → Option Handle → Type 0) (remaining : Handle → Option (List ℕ)) where
-  pub read_at : {E : Type 0} (place : FilePlace) (opened : Option Handle) → may_open place opened → (r : Result (Option CodeParts) E) → IfOk r (AreOf (IsReadOf remaining opened)) → IfOk r (AreOf (IsRead may_open remaining place))
+  pub read_at : {E : Type 0} (place : FilePlace) (opened : Option Handle) → may_open place opened → (r : Result (Option CodeParts) E) → IfOk r (AreOf (IsReadIfOpened remaining opened)) → IfOk r (AreOf (IsPlaceRead may_open remaining place))
   read_at place opened may (Ok code) (bytes, read, of) = (bytes, (opened, may, read), of)
   read_at place opened may (Err e) read = tt
 
@@ -114,35 +131,35 @@ module _ {Handle : Type 0} (may_open : FilePlace → Option Handle → Type 0) (
   build_found build place opened may (Err e) right = tt
 
   -- at the path
-  there_first : (name build : List ℕ) (code : CodeParts) → AreOf (IsBuild may_open remaining build (at_path name)) (Some code) → AreOf (IsFound may_open remaining name (Some build)) (Some code)
+  there_first : (name build : List ℕ) (code : CodeParts) → AreOf (IsBuild may_open remaining build (at_path name)) (Some code) → AreOf (IsFileFound may_open remaining name (Some build)) (Some code)
   there_first name build code (None, right, of) = absurd of
   there_first name build code (Some bytes, right, of) = (Some bytes, (Some bytes, right, refl), of)
 
   pub found_there : (name build : List ℕ) (opened : Option Handle) → may_open (at_path name) opened → (found : Option CodeParts) → AreOf (IsBuildOf remaining build opened) found → (code : CodeParts) → found ≡ Some code
-      → AreOf (IsFound may_open remaining name (Some build)) (Some code)
+      → AreOf (IsFileFound may_open remaining name (Some build)) (Some code)
   found_there name build opened may found are code is =
       there_first name build code (some_code (IsBuild may_open remaining build (at_path name)) found code is (build_at build (at_path name) opened may found are))
 
   -- or else the copy
   copy_else : {E : Type 0} (name build : List ℕ) → AreOf (IsBuild may_open remaining build (at_path name)) None → (r : Result (Option CodeParts) E) → IfOk r (AreOf (IsBuild may_open remaining build (copy_of build)))
-      → IfOk r (AreOf (IsFound may_open remaining name (Some build)))
+      → IfOk r (AreOf (IsFileFound may_open remaining name (Some build)))
   copy_else name build (found, right, none) (Ok code) (bytes, copy, of) =
       (bytes, (found, right, subst (λ (found : Option (List ℕ)). IsOrCopy may_open remaining build found bytes) (sym none) copy), of)
   copy_else name build are (Err e) copy = tt
 
   pub found_copy : {E : Type 0} (name build : List ℕ) (opened : Option Handle) → may_open (at_path name) opened → (found : Option CodeParts) → AreOf (IsBuildOf remaining build opened) found → found ≡ None
-      → (r : Result (Option CodeParts) E) → IfOk r (AreOf (IsBuild may_open remaining build (copy_of build))) → IfOk r (AreOf (IsFound may_open remaining name (Some build)))
+      → (r : Result (Option CodeParts) E) → IfOk r (AreOf (IsBuild may_open remaining build (copy_of build))) → IfOk r (AreOf (IsFileFound may_open remaining name (Some build)))
   found_copy name build opened may found are is r copy =
       copy_else name build (no_code (IsBuild may_open remaining build (at_path name)) found is (build_at build (at_path name) opened may found are)) r copy
 
   -- what is told
-  pub told_kernel : {E : Type 0} (is_kernel : Bool) (process : Option ℕ) → is_kernel ≡ true → (opened : Option Handle) → may_open kernel_symbols opened → (r : Result (Option CodeParts) E) → IfOk r (AreOf (IsReadOf remaining opened))
+  pub told_kernel : {E : Type 0} (is_kernel : Bool) (process : Option ℕ) → is_kernel ≡ true → (opened : Option Handle) → may_open kernel_symbols opened → (r : Result (Option CodeParts) E) → IfOk r (AreOf (IsReadIfOpened remaining opened))
       → IfOk r (AreOf (IsTold may_open remaining is_kernel process))
   told_kernel is_kernel process is opened may r read =
       subst (λ (b : Bool). IfOk r (AreOf (IsTold may_open remaining b process))) (sym is) (read_at kernel_symbols opened may r read)
 
   pub told_process : {E : Type 0} (is_kernel : Bool) (process : Option ℕ) (pid : ℕ) → is_kernel ≡ false → process ≡ Some pid → (opened : Option Handle) → may_open (code_map pid) opened → (r : Result (Option CodeParts) E)
-      → IfOk r (AreOf (IsReadOf remaining opened)) → IfOk r (AreOf (IsTold may_open remaining is_kernel process))
+      → IfOk r (AreOf (IsReadIfOpened remaining opened)) → IfOk r (AreOf (IsTold may_open remaining is_kernel process))
   told_process is_kernel process pid is of opened may r read =
       subst (λ (b : Bool). IfOk r (AreOf (IsTold may_open remaining b process))) (sym is)
       (subst (λ (p : Option ℕ). IfOk r (AreOf (IsTold may_open remaining false p))) (sym of) (read_at (code_map pid) opened may r read))
@@ -151,16 +168,16 @@ module _ {Handle : Type 0} (may_open : FilePlace → Option Handle → Type 0) (
   told_none is_kernel process is of =
       subst (λ (b : Bool). AreOf (IsTold may_open remaining b process) None) (sym is) (subst (λ (p : Option ℕ). AreOf (IsTold may_open remaining false p) None) (sym of) (None, refl, refl))
 
-  pub contents_told : {E : Type 0} (file : Wanted) (is_kernel : Bool) → is_kernel ≡ is_kernel_name file.name → is_file_name file.name ≡ false → (r : Result (Option CodeParts) E)
+  pub contents_told : {E : Type 0} (file : Wanted) (is_kernel : Bool) → is_kernel ≡ is_kernel_name file.name → names_a_file file.name ≡ false → (r : Result (Option CodeParts) E)
       → IfOk r (AreOf (IsTold may_open remaining is_kernel file.process)) → IfOk r (AreOf (IsContents may_open remaining file))
   contents_told file is_kernel same is (Ok code) (bytes, told, of) =
       (bytes, inl (is, subst (λ (b : Bool). IsTold may_open remaining b file.process bytes) same told), of)
   contents_told file is_kernel same is (Err e) told = tt
 
-  pub contents_found : {E : Type 0} (file : Wanted) (build : Option (List ℕ)) → file.build_id ≡ build → is_file_name file.name ≡ true → (r : Result (Option CodeParts) E)
-      → IfOk r (AreOf (IsFound may_open remaining file.name build)) → IfOk r (AreOf (IsContents may_open remaining file))
+  pub contents_found : {E : Type 0} (file : Wanted) (build : Option (List ℕ)) → file.build_id ≡ build → names_a_file file.name ≡ true → (r : Result (Option CodeParts) E)
+      → IfOk r (AreOf (IsFileFound may_open remaining file.name build)) → IfOk r (AreOf (IsContents may_open remaining file))
   contents_found file build same is (Ok code) (bytes, found, of) =
-      (bytes, inr (is, subst (λ (build : Option (List ℕ)). IsFound may_open remaining file.name build bytes) (sym same) found), of)
+      (bytes, inr (is, subst (λ (build : Option (List ℕ)). IsFileFound may_open remaining file.name build bytes) (sym same) found), of)
   contents_found file build same is (Err e) found = tt
 
   -- ---- debug files
@@ -180,11 +197,11 @@ module _ {Handle : Type 0} (may_open : FilePlace → Option Handle → Type 0) (
     pub linked_some : {E : Type 0} (folder : LinkFolder) (opened : Option Handle) → may_open (linked folder name link.name) opened → (file : Handle) → opened ≡ Some file → (left : Option (List ℕ)) → remaining file ≡ left
         → (r : Result (Option CodeParts) E) → IfOk r (AreOf (IsLinkedReading left link build)) → IfOk r (AreOf (IsLinkedIn may_open remaining name link build folder))
     linked_some folder opened may file is left same (Ok code) (debug, (read, reading, linked_is), of) =
-        (debug, (read, (opened, may, subst (λ (o : Option Handle). IsReadOf remaining o read) (sym is) (subst (λ (left : Option (List ℕ)). IsReading left read) (sym same) reading)), linked_is), of)
+        (debug, (read, (opened, may, subst (λ (o : Option Handle). IsReadIfOpened remaining o read) (sym is) (subst (λ (left : Option (List ℕ)). IsAllLeft left read) (sym same) reading)), linked_is), of)
     linked_some folder opened may file is left same (Err e) read = tt
 
     pub linked_none : (folder : LinkFolder) (opened : Option Handle) → may_open (linked folder name link.name) opened → opened ≡ None → AreOf (IsLinkedIn may_open remaining name link build folder) None
-    linked_none folder opened may is = (None, (None, (opened, may, subst (λ (o : Option Handle). IsReadOf remaining o None) (sym is) refl), refl), refl)
+    linked_none folder opened may is = (None, (None, (opened, may, subst (λ (o : Option Handle). IsReadIfOpened remaining o None) (sym is) refl), refl), refl)
 
     joins_elsewhere : (found debug : Option (List ℕ)) → IsLinkedIn may_open remaining name link build Below found → IsOr found (IsLinkedIn may_open remaining name link build Central) debug → IsElsewhere may_open remaining name link build debug
     joins_elsewhere found debug first other = (found, first, other)
@@ -260,12 +277,12 @@ module _ {Handle : Type 0} (may_open : FilePlace → Option Handle → Type 0) (
 
 -- ---- by a link
 
-pub linked_whole : (known : Option (List ℕ)) (link : Link) (build : Option (List ℕ)) (code : CodeParts) (bytes : List ℕ) → parts_of code ≡ whole bytes → is_linked link build bytes ≡ true → IsReading known (Some bytes)
+pub linked_whole : (known : Option (List ℕ)) (link : Link) (build : Option (List ℕ)) (code : CodeParts) (bytes : List ℕ) → parts_of code ≡ whole bytes → is_linked link build bytes ≡ true → IsAllLeft known (Some bytes)
     → AreOf (IsLinkedReading known link build) (Some code)
 linked_whole known link build code bytes is leads read =
     (Some bytes, (Some bytes, read, ap (λ (b : Bool). if b then Some bytes else None) (sym leads)), subst (λ (image : Image). IsImageOf image bytes) (sym is) (whole_is bytes))
 
-pub linked_not : (known : Option (List ℕ)) (link : Link) (build : Option (List ℕ)) (bytes : List ℕ) → is_linked link build bytes ≡ false → IsReading known (Some bytes) → AreOf (IsLinkedReading known link build) None
+pub linked_not : (known : Option (List ℕ)) (link : Link) (build : Option (List ℕ)) (bytes : List ℕ) → is_linked link build bytes ≡ false → IsAllLeft known (Some bytes) → AreOf (IsLinkedReading known link build) None
 linked_not known link build bytes is read = (None, (Some bytes, read, ap (λ (b : Bool). if b then Some bytes else None) (sym is)), refl)
 
 pub unread : (known : Option (List ℕ)) (link : Link) (build : Option (List ℕ)) → AreOf (IsLinkedReading known link build) None

@@ -1,13 +1,13 @@
 -- Symbols that are gathered line by line, sorted by address, and found by halving.
+use Rattle.std.specs.Option.{option_or}
 use Rattle.std.proofs.Common.{◌-◌, ◌≡◌, ℕ, zero, suc, ◌<◌, ◌≤◌, ◌&&◌, ◌++◌, Bool, true, false, not, List, [], ◌∷◌, length, get_or, map, Option, Some, None, is_some, IsSome, nat_lt, nat_eq, Less, Equal, Greater, refl, sym, ap, subst, ◌∙◌, ⊎_elim, arith, append_assoc, eq-eqb, ne_eqb, cond, true≢false}
 use Rattle.std.specs.List.{cons_option, filter, filter_map}
 use Rattle.std.specs.List.Sorted.{IsNonDecreasingBy, IsStableByKey, ties}
 use Rattle.std.specs.Ordering.{is_lt, nat_cmp}
 use Rattle.std.proofs.lemmas.Bool.{cases_lt, lt-ltb, le-ltb}
 use Rattle.std.proofs.lemmas.List.{map_push}
-use Rattle.cfi_elf.specs.Options.{or_else}
 use Rattle.cfi_processes.specs.declared.text_symbols.TextSymbol.{TextSymbol}
-use Rattle.cfi_processes.specs.TextSymbols.{Symbol, last_at, nearest, nearest_among, symbol_view}
+use Rattle.cfi_processes.specs.TextSymbols.{Symbol, last_at, nearest_by, nearest_among, symbol_view}
 
 -- ---- gathered
 
@@ -32,9 +32,9 @@ begins_at a s = nat_eq s.address a
 
 abbrev last_of : List Symbol → Option Symbol
 last_of [] = None
-last_of (s ∷ symbols) = or_else (last_of symbols) (Some s)
+last_of (s ∷ symbols) = option_or (last_of symbols) (Some s)
 
-none_else : (o : Option Symbol) → or_else o None ≡ o
+none_else : (o : Option Symbol) → option_or o None ≡ o
 none_else None = refl
 none_else (Some s) = refl
 
@@ -44,25 +44,25 @@ last_is a [] = refl
 last_is a (s ∷ symbols) = by (nat_eq s.address a) (last_is a symbols)
   where
     by : (b : Bool) → last_at (map symbol_view symbols) a ≡ last_of (map symbol_view (filter (begins_at a) symbols)) →
-        or_else (last_at (map symbol_view symbols) a) (cond b (Some (symbol_view s)) None)
+        option_or (last_at (map symbol_view symbols) a) (cond b (Some (symbol_view s)) None)
         ≡ last_of (map symbol_view (cond b (s ∷ filter (begins_at a) symbols) (filter (begins_at a) symbols)))
-    by true h = ap (λ (o : Option Symbol). or_else o (Some (symbol_view s))) h
+    by true h = ap (λ (o : Option Symbol). option_or o (Some (symbol_view s))) h
     by false h = none_else (last_at (map symbol_view symbols) a) ∙ h
 
 last_nowhere : (a : ℕ) (symbols : List TextSymbol) → ((j : ℕ) (d : TextSymbol) → j < length symbols → (get_or symbols j d).address ≡ a → ⊥) → last_at (map symbol_view symbols) a ≡ None
 last_nowhere a [] other = refl
 last_nowhere a (s ∷ symbols) other =
-    ap (λ (o : Option Symbol). or_else o (cond (nat_eq s.address a) (Some (symbol_view s)) None)) (last_nowhere a symbols (λ j d inside same. other (suc j) d (omega (arith, inside)) same))
+    ap (λ (o : Option Symbol). option_or o (cond (nat_eq s.address a) (Some (symbol_view s)) None)) (last_nowhere a symbols (λ j d inside same. other (suc j) d (omega (arith, inside)) same))
     ∙ ap (λ (b : Bool). cond b (Some (symbol_view s)) None) (ne_eqb s.address a (other 0 s (omega arith)))
 
 last_here : (a : ℕ) (symbols : List TextSymbol) (k : ℕ) (d : TextSymbol) → k < length symbols → (get_or symbols k d).address ≡ a
     → ((j : ℕ) (e : TextSymbol) → k < j → j < length symbols → (get_or symbols j e).address ≡ a → ⊥) → last_at (map symbol_view symbols) a ≡ Some (symbol_view (get_or symbols k d))
 last_here a [] k d inside there other = absurd (omega (arith, inside))
 last_here a (s ∷ symbols) zero d inside there other =
-    ap (λ (o : Option Symbol). or_else o (cond (nat_eq s.address a) (Some (symbol_view s)) None)) (last_nowhere a symbols (λ j e here same. other (suc j) e (omega arith) (omega (arith, here)) same))
+    ap (λ (o : Option Symbol). option_or o (cond (nat_eq s.address a) (Some (symbol_view s)) None)) (last_nowhere a symbols (λ j e here same. other (suc j) e (omega arith) (omega (arith, here)) same))
     ∙ ap (λ (b : Bool). cond b (Some (symbol_view s)) None) (eq-eqb s.address a there)
 last_here a (s ∷ symbols) (suc k) d inside there other =
-    ap (λ (o : Option Symbol). or_else o (cond (nat_eq s.address a) (Some (symbol_view s)) None))
+    ap (λ (o : Option Symbol). option_or o (cond (nat_eq s.address a) (Some (symbol_view s)) None))
     (last_here a symbols k d (omega (arith, inside)) there (λ j e behind here same. other (suc j) e (omega (arith, behind)) (omega (arith, here)) same))
 
 -- ---- sorted
@@ -105,32 +105,32 @@ pub placed_as_before : (a : ℕ) (old new : List TextSymbol) (all : List Symbol)
 placed_as_before a old new all is stable =
     let same : last_at (map symbol_view new) ≡ last_at all =
     λ i t. (last_is t new ∙ (ap (λ (symbols : List TextSymbol). last_of (map symbol_view symbols)) (begin_as_before t old new stable) ∙ (sym (last_is t old) ∙ ap (λ (symbols : List Symbol). last_at symbols t) is))) i in
-    λ i. nearest (same i) a
+    λ i. nearest_by (same i) a
 
 -- ---- going down from an address
 
 -- none begins behind s, where one does
-nearest_is : (last : ℕ → Option Symbol) (s a : ℕ) → s ≤ a → ((t : ℕ) → s < t → t ≤ a → last t ≡ None) → IsSome (last s) → nearest last a ≡ last s
+nearest_is : (last : ℕ → Option Symbol) (s a : ℕ) → s ≤ a → ((t : ℕ) → s < t → t ≤ a → last t ≡ None) → IsSome (last s) → nearest_by last a ≡ last s
 nearest_is last s zero le none some =
     let at : 0 ≡ s = omega arith in ap last at
 nearest_is last s (suc a) le none some = ⊎_elim
     (λ (less : a < s).
     let at : s ≡ suc a = omega (arith, less, le) in
     let here : IsSome (last (suc a)) = subst (λ (t : ℕ). IsSome (last t)) at some in
-    some_first (last (suc a)) (nearest last a) here ∙ ap last (sym at))
+    some_first (last (suc a)) (nearest_by last a) here ∙ ap last (sym at))
     (λ (up : s ≤ a).
-    ap (λ (o : Option Symbol). or_else o (nearest last a)) (none (suc a) (omega (arith, up)) (omega arith))
+    ap (λ (o : Option Symbol). option_or o (nearest_by last a)) (none (suc a) (omega (arith, up)) (omega arith))
     ∙ nearest_is last s a up (λ t above upto. none t above (omega (arith, upto))) some)
     (cases_lt a s)
   where
-    some_first : (o p : Option Symbol) → IsSome o → or_else o p ≡ o
+    some_first : (o p : Option Symbol) → IsSome o → option_or o p ≡ o
     some_first None p some = absurd (true≢false (sym some))
     some_first (Some f) p some = refl
 
-none_nearest : (last : ℕ → Option Symbol) (a : ℕ) → ((t : ℕ) → t ≤ a → last t ≡ None) → nearest last a ≡ None
+none_nearest : (last : ℕ → Option Symbol) (a : ℕ) → ((t : ℕ) → t ≤ a → last t ≡ None) → nearest_by last a ≡ None
 none_nearest last zero none = none 0 (omega arith)
 none_nearest last (suc a) none =
-    ap (λ (o : Option Symbol). or_else o (nearest last a)) (none (suc a) (omega arith)) ∙ none_nearest last a (λ t upto. none t (omega (arith, upto)))
+    ap (λ (o : Option Symbol). option_or o (nearest_by last a)) (none (suc a) (omega arith)) ∙ none_nearest last a (λ t upto. none t (omega (arith, upto)))
 
 -- ---- among symbols of which the first k begin at or before an address, and the others behind it
 

@@ -1,11 +1,12 @@
 -- Mappings and histories, worked out from the definitions alone.
 use Rattle.std.proofs.Common.{◌≡◌, ℕ, ◌-◌, ◌^◌, List, [], ◌∷◌, Option, Some, None, codes, true, false, refl}
 use Rattle.cfi_processes.specs.declared.mappings.MappedCode.{MappedCode}
-use Rattle.cfi_processes.specs.Mappings.{Place, mapped_over, place_of}
+use Rattle.cfi_processes.specs.Mappings.{Place, mapped_over, place_at_address}
 use Rattle.cfi_perf.specs.Events.{ForkEvent, ProgramEvent}
 use Rattle.cfi_processes.specs.Histories.{Change, mapped, executed, forked, places_after}
 use Rattle.cfi_processes.specs.ThreadNames.{names_after}
-use Rattle.cfi_processes.specs.Wanted.{is_build, is_same}
+use Rattle.cfi_processes.specs.FileBuilds.{is_build}
+use Rattle.cfi_processes.specs.Wanted.{is_same}
 
 abbrev code : ℕ → ℕ → ℕ → ℕ → MappedCode
 code start end offset file = record { start = start; end = end; offset = offset; object = Some file }
@@ -49,17 +50,17 @@ around = refl
 abbrev two : List MappedCode
 two = code 0x1000 0x2000 0x400 1 ∷ code 0x2000 0x3000 0 2 ∷ []
 
-first_byte : place_of two 0x1000 ≡ byte 1 0x400
+first_byte : place_at_address two 0x1000 ≡ byte 1 0x400
 first_byte = refl
 
-last_byte : place_of two 0x1fff ≡ byte 1 0x13ff
+last_byte : place_at_address two 0x1fff ≡ byte 1 0x13ff
 last_byte = refl
 
 -- the end of a mapping is not in it
-at_end : place_of two 0x2000 ≡ byte 2 0
+at_end : place_at_address two 0x2000 ≡ byte 2 0
 at_end = refl
 
-nowhere : place_of two 0x3000 ≡ None
+nowhere : place_at_address two 0x3000 ≡ None
 nowhere = refl
 
 -- ---- histories: a shell 10 makes a process 11, which runs ls; the shell itself maps a library later on

@@ -5,7 +5,7 @@ use Rattle.std.specs.Option.{option_map}
 use Rattle.cfi_read_core.specs.declared.common.Vendor.TheVariants.{Default}
 use Rattle.cfi_read_core.specs.declared.endianity.RunTimeEndian.TheVariants.{Little}
 use Rattle.cfi_read_core.specs.Numbers.{unsigned}
-use Rattle.cfi_elf.specs.Segments.{minus}
+use Rattle.cfi_elf.specs.Modular.{minus}
 use Rattle.gimli_cfi.specs.SectionSources.{GivenSection, given_header, given_section}
 use Rattle.gimli_cfi.specs.declared.source.SectionKind.TheVariants.{EhFrame}
 use Rattle.cfi_object.specs.CallFrames.{bases_at}

@@ -3,16 +3,16 @@
 -- name.
 --     is_memory_name name      whether a mapping with the name is of memory that is no file's
 --     map_name pid      the path of the file of a process
---     symbol_of line      the function of a line
---     function_at text a      the function by which an address is
+--     map_symbol_of line      the function of a line
+--     code_function_at text a      the function by which an address is
 --     CodeMapText      the text with its path
 use Rattle.std.specs.Prelude.{ℕ, ◌-◌, ◌||◌, Bool, true, List, ◌++◌, Option, Some, None}
 use Rattle.std.specs.Prelude.{codes, nat_eq, nat_lt, option_and_then, option_map, if◌then◌else◌}
 use Rattle.std.specs.Fmt.{decimal}
 use Rattle.std.specs.List.{filter_map, starts_with}
 use Rattle.cfi_elf.specs.FunctionPlaces.{Place}
-use Rattle.cfi_processes.specs.TextSymbols.{Parts, Symbol, lines_of, nearest_among, number_of}
-use Rattle.cfi_processes.specs.TextSymbols.{parts_at}
+use Rattle.cfi_processes.specs.TextSymbols.{Parts, Symbol, text_lines, nearest_among, told_number}
+use Rattle.cfi_processes.specs.TextSymbols.{split_at_byte}
 
 abbrev pub begins_so : List ℕ → List ℕ → Bool
 begins_so front name = starts_with nat_eq name front
@@ -36,21 +36,21 @@ symbol_with address size name =
 
 abbrev pub symbol_sized : ℕ → Parts → Option Symbol
 symbol_sized address parts =
-    option_map (λ size. symbol_with address size parts.rest) (number_of parts.front)
+    option_map (λ size. symbol_with address size parts.rest) (told_number parts.front)
 
-abbrev pub symbol_from : Parts → Option Symbol
-symbol_from parts =
+abbrev pub map_symbol_from : Parts → Option Symbol
+map_symbol_from parts =
     option_and_then
-    (λ address. option_and_then (symbol_sized address) (parts_at 32 parts.rest))
-    (number_of parts.front)
+    (λ address. option_and_then (symbol_sized address) (split_at_byte 32 parts.rest))
+    (told_number parts.front)
 
-abbrev pub symbol_of : List ℕ → Option Symbol
-symbol_of line = option_and_then symbol_from (parts_at 32 line)
+abbrev pub map_symbol_of : List ℕ → Option Symbol
+map_symbol_of line = option_and_then map_symbol_from (split_at_byte 32 line)
 
 -- ---- a text
 
-unfoldable pub symbols_of : List ℕ → List Symbol
-symbols_of text = filter_map symbol_of (lines_of text)
+unfoldable pub map_symbols_of : List ℕ → List Symbol
+map_symbols_of text = filter_map map_symbol_of (text_lines text)
 
 -- if it is in one of its bytes
 abbrev pub place_by : ℕ → Symbol → Option Place
@@ -60,8 +60,8 @@ place_by a s =
     else None
 
 -- the one that begins there last in the text, or else nearest before it
-abbrev pub function_at : List ℕ → ℕ → Option Place
-function_at text a = option_and_then (place_by a) (nearest_among (symbols_of text) a)
+abbrev pub code_function_at : List ℕ → ℕ → Option Place
+code_function_at text a = option_and_then (place_by a) (nearest_among (map_symbols_of text) a)
 
 pub record CodeMapText : Type 0 where
   pub name : List ℕ

@@ -7,11 +7,11 @@
 --     AreOf IsRight code      the parts are those of a file of right bytes
 use Rattle.std.specs.Prelude.{◌≡◌, ℕ, ◌==◌, Bool, true, not, ◌||◌, List, length, Option, Some}
 use Rattle.std.specs.Prelude.{None, option_map}
-use Rattle.std.specs.Option.{is_some}
 use Rattle.cfi_elf.specs.Images.{Image, IsImageOf}
+use Rattle.cfi_object.specs.FileParts.{image_of}
 use Rattle.cfi_processes.specs.declared.code_parts.CodeParts.{CodeParts}
-use Rattle.cfi_processes.specs.KernelSymbols.{is_kernel_name}
-use Rattle.cfi_processes.specs.ReadParts.{image_of}
+use Rattle.cfi_object.specs.FileParts.{image_of}
+use Rattle.cfi_processes.specs.Wanted.{is_text}
 
 abbrev pub parts_of : CodeParts → Image
 parts_of code = image_of code.parts
@@ -19,8 +19,8 @@ parts_of code = image_of code.parts
 abbrev pub image_in : Option CodeParts → Option Image
 image_in code = option_map parts_of code
 
-abbrev pub first_of : Option CodeParts → Option (List ℕ)
-first_of code = option_map (λ code. (parts_of code).first) code
+abbrev pub beginning_in : Option CodeParts → Option (List ℕ)
+beginning_in code = option_map (λ code. (parts_of code).first) code
 
 abbrev pub is_whole : Option CodeParts → Bool
 is_whole None = true
@@ -28,7 +28,7 @@ is_whole (Some code) = (parts_of code).length == length (parts_of code).first
 
 -- what the kernel tells, or a process in a file with a name
 abbrev pub is_told : {A : Type 0} → List ℕ → Option A → Option CodeParts → Bool
-is_told name map_name code = not (is_kernel_name name || is_some map_name) || is_whole code
+is_told name map_name code = not (is_text name map_name) || is_whole code
 
 abbrev pub IsOf : Option CodeParts → Option (List ℕ) → Type 0
 IsOf None bytes = bytes ≡ None

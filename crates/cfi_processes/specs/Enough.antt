@@ -8,7 +8,7 @@ use Rattle.cfi_elf.specs.declared.error.ElfError.TheVariants.{NotRead}
 use Rattle.cfi_elf.specs.DebugLinks.{debug_link}
 use Rattle.cfi_elf.specs.ElfFiles.{File, elf_file_of}
 use Rattle.cfi_elf.specs.Images.{Image}
-use Rattle.cfi_elf.specs.Notes.{build_id}
+use Rattle.cfi_elf.specs.BuildIds.{build_id}
 use Rattle.cfi_elf.specs.SymbolTables.{symbol_table}
 use Rattle.cfi_object.specs.CallFrames.{debug_frame_of, eh_frame_of}
 

@@ -7,7 +7,7 @@
 use Rattle.std.specs.Prelude.{ℕ, ◌==◌, ◌&&◌, List, [], ◌∷◌, Option, Some, None, reverse}
 use Rattle.std.specs.Prelude.{if◌then◌else◌}
 use Rattle.cfi_processes.specs.declared.mappings.MappedCode.{MappedCode}
-use Rattle.cfi_processes.specs.Mappings.{Place, has_byte_at, mapped_over, place_in}
+use Rattle.cfi_processes.specs.Mappings.{Place, has_byte_at, mapped_over, mapped_place}
 
 -- a thread is made in the process that makes it
 pub data Change : Type 0 where
@@ -24,7 +24,7 @@ mappings_after (forked pid parent) before q = if q == pid then before parent els
 abbrev pub place_back : List Change → ℕ → ℕ → Option Place
 place_back [] q a = None
 place_back (mapped pid new ∷ past) q a =
-    if q == pid && has_byte_at new a then Some (place_in new a) else place_back past q a
+    if q == pid && has_byte_at new a then Some (mapped_place new a) else place_back past q a
 place_back (executed pid ∷ past) q a = if q == pid then None else place_back past q a
 place_back (forked pid parent ∷ past) q a =
     if q == pid then place_back past parent a else place_back past q a

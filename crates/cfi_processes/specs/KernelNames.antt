@@ -4,7 +4,7 @@
 --     is_kernel_of mapped names      whether this is the kernel that was mapped
 use Rattle.std.specs.Prelude.{ℕ, ◌==◌, ◌||◌, ◌&&◌, Bool, false, not, List, Option, Some, None}
 use Rattle.std.specs.Prelude.{codes}
-use Rattle.cfi_processes.specs.KernelSymbols.{address_of}
+use Rattle.cfi_processes.specs.KernelSymbols.{address_of_symbol}
 use Rattle.cfi_processes.specs.declared.mappings.MappedCode.{MappedCode}
 use Rattle.cfi_processes.specs.declared.kernel_names.KernelNames.{KernelNames}
 
@@ -26,6 +26,6 @@ is_where place (Some address) = address == place && not (address == 0)
 -- of its code, or of its data, where the mapping ends
 abbrev pub is_kernel_of : MappedCode → KernelText → Bool
 is_kernel_of mapped names =
-    is_where mapped.offset (address_of names.text names.symbol)
-    && (is_where mapped.end (address_of names.text (codes "_etext"))
-    || is_where mapped.end (address_of names.text (codes "_edata")))
+    is_where mapped.offset (address_of_symbol names.text names.symbol)
+    && (is_where mapped.end (address_of_symbol names.text (codes "_etext"))
+    || is_where mapped.end (address_of_symbol names.text (codes "_edata")))

@@ -1,18 +1,17 @@
 -- The symbols of the kernel, as it tells them in /proc/kallsyms (proc(5)): on each line the address
--- in hexadecimal digits, the type, the name, and behind a tab the module that has it, in brackets.
+-- in hexadecimal digits, the type, the name, and after a tab the module that has it, in brackets.
 --     is_kernel_name name      whether a mapping with the name is of the kernel itself
---     symbol_of line      the symbol of a line
---     symbol_at text a      the last symbol of those that begin at an address, or else nearest
---         before it
---     address_of text name      the address of the kernel's first symbol with this name
+--     kernel_symbol_of line      the symbol of a line
+--     kernel_symbol_at text a      the last symbol of those that begin at an address, or else
+--         nearest before it
+--     address_of_symbol text name      the address of the kernel's first symbol with this name
 use Rattle.std.specs.Prelude.{ℕ, ◌==◌, ◌||◌, ◌&&◌, Bool, true, false, List, [], ◌∷◌, Option, Some}
 use Rattle.std.specs.Prelude.{None, codes, nat_eq, option_and_then, option_map, if◌then◌else◌}
 use Rattle.std.specs.List.{filter_map, starts_with}
-use Rattle.std.specs.Option.{is_none}
+use Rattle.std.specs.Option.{is_none, option_or}
 use Rattle.std.specs.Str.{bytes_eq}
-use Rattle.cfi_elf.specs.Options.{or_else}
-use Rattle.cfi_processes.specs.TextSymbols.{Parts, Symbol, lines_of, nearest_among, number_of}
-use Rattle.cfi_processes.specs.TextSymbols.{parts_at}
+use Rattle.cfi_processes.specs.TextSymbols.{Parts, Symbol, text_lines, nearest_among, told_number}
+use Rattle.cfi_processes.specs.TextSymbols.{split_at_byte}
 
 abbrev pub kernel_image : List ℕ
 kernel_image = codes "[kernel.kallsyms]"
@@ -31,17 +30,17 @@ is_function_type c = c == 84 || c == 116 || c == 87 || c == 119
 abbrev pub is_data_type : ℕ → Bool
 is_data_type c = c == 68 || c == 100 || c == 66 || c == 98
 
-abbrev pub kind_by : ℕ → Option Bool
-kind_by c =
+abbrev pub is_function_of_letter : ℕ → Option Bool
+is_function_of_letter c =
     if is_function_type c then Some true else if is_data_type c then Some false else None
 
 -- of one letter
-abbrev pub kind_of : List ℕ → Option Bool
-kind_of [] = None
-kind_of (c ∷ []) = kind_by c
-kind_of (c ∷ d ∷ more) = None
+abbrev pub is_function_of_type : List ℕ → Option Bool
+is_function_of_type [] = None
+is_function_of_type (c ∷ []) = is_function_of_letter c
+is_function_of_type (c ∷ d ∷ more) = None
 
--- behind the type, and what is before and behind a tab there, if there is one
+-- after the type, and what is before and after a tab there, if there is one
 abbrev pub symbol_named : ℕ → Bool → List ℕ → Option Parts → Symbol
 symbol_named address is_function name None =
     record { address = address; size = 0; is_function = is_function; name = name; owner = None }
@@ -56,25 +55,25 @@ symbol_named address is_function name (Some parts) = record {
 abbrev pub symbol_typed : ℕ → Parts → Option Symbol
 symbol_typed address parts =
     option_map
-    (λ is_function. symbol_named address is_function parts.rest (parts_at 9 parts.rest))
-    (kind_of parts.front)
+    (λ is_function. symbol_named address is_function parts.rest (split_at_byte 9 parts.rest))
+    (is_function_of_type parts.front)
 
-abbrev pub symbol_from : Parts → Option Symbol
-symbol_from parts =
+abbrev pub kernel_symbol_from : Parts → Option Symbol
+kernel_symbol_from parts =
     option_and_then
-    (λ address. option_and_then (symbol_typed address) (parts_at 32 parts.rest))
-    (number_of parts.front)
+    (λ address. option_and_then (symbol_typed address) (split_at_byte 32 parts.rest))
+    (told_number parts.front)
 
-abbrev pub symbol_of : List ℕ → Option Symbol
-symbol_of line = option_and_then symbol_from (parts_at 32 line)
+abbrev pub kernel_symbol_of : List ℕ → Option Symbol
+kernel_symbol_of line = option_and_then kernel_symbol_from (split_at_byte 32 line)
 
 -- ---- a text
 
-unfoldable pub symbols_of : List ℕ → List Symbol
-symbols_of text = filter_map symbol_of (lines_of text)
+unfoldable pub kernel_symbols_of : List ℕ → List Symbol
+kernel_symbols_of text = filter_map kernel_symbol_of (text_lines text)
 
-abbrev pub symbol_at : List ℕ → ℕ → Option Symbol
-symbol_at text a = nearest_among (symbols_of text) a
+abbrev pub kernel_symbol_at : List ℕ → ℕ → Option Symbol
+kernel_symbol_at text a = nearest_among (kernel_symbols_of text) a
 
 -- of a symbol of the kernel itself
 abbrev pub address_if : List ℕ → Symbol → Option ℕ
@@ -82,7 +81,7 @@ address_if name s = if is_none s.owner && bytes_eq s.name name then Some s.addre
 
 abbrev pub address_among : List Symbol → List ℕ → Option ℕ
 address_among [] name = None
-address_among (s ∷ symbols) name = or_else (address_if name s) (address_among symbols name)
+address_among (s ∷ symbols) name = option_or (address_if name s) (address_among symbols name)
 
-abbrev pub address_of : List ℕ → List ℕ → Option ℕ
-address_of text name = address_among (symbols_of text) name
+abbrev pub address_of_symbol : List ℕ → List ℕ → Option ℕ
+address_of_symbol text name = address_among (kernel_symbols_of text) name

@@ -2,10 +2,10 @@
 --     Place      a file of the profile by its number, none for memory that is no file's, and a
 --         place in it
 --     has_byte_at mapped a      whether the byte at an address belongs to it
---     place_in mapped a      the place of that byte, counted modulo 2 ^ 64
---     place_of list a      the same of the first mapping that has the byte
---     AreInOrder low list      each has a byte, and begins at or above the end of the one before
---         it, the first at or above `low`
+--     mapped_place mapped a      the place of that byte, counted modulo 2 ^ 64
+--     place_at_address list a      the same of the first mapping that has the byte
+--     AreMappedInOrder low list      each has a byte, and begins at or above the end of the one
+--         before it, the first at or above `low`
 --     part_below limit mapped, part_from limit mapped      what of it is below an address, and what
 --         is at the address or above it
 --     mapped_over new list      what is mapped after a new mapping: what of the old ones is below
@@ -24,19 +24,19 @@ pub record Place : Type 0 where
 abbrev pub has_byte_at : MappedCode → ℕ → Bool
 has_byte_at mapped a = nat_le mapped.start a && nat_lt a mapped.end
 
-abbrev pub place_in : MappedCode → ℕ → Place
-place_in mapped a =
+abbrev pub mapped_place : MappedCode → ℕ → Place
+mapped_place mapped a =
     record { object = mapped.object; offset = (mapped.offset + (a - mapped.start)) % 2 ^ 64 }
 
-abbrev pub place_of : List MappedCode → ℕ → Option Place
-place_of [] a = None
-place_of (mapped ∷ list) a =
-    if has_byte_at mapped a then Some (place_in mapped a) else place_of list a
+abbrev pub place_at_address : List MappedCode → ℕ → Option Place
+place_at_address [] a = None
+place_at_address (mapped ∷ list) a =
+    if has_byte_at mapped a then Some (mapped_place mapped a) else place_at_address list a
 
-abbrev pub AreInOrder : ℕ → List MappedCode → Type 0
-AreInOrder low [] = ⊤
-AreInOrder low (mapped ∷ list) =
-    (low ≤ mapped.start) × (mapped.start < mapped.end) × AreInOrder mapped.end list
+abbrev pub AreMappedInOrder : ℕ → List MappedCode → Type 0
+AreMappedInOrder low [] = ⊤
+AreMappedInOrder low (mapped ∷ list) =
+    (low ≤ mapped.start) × (mapped.start < mapped.end) × AreMappedInOrder mapped.end list
 
 -- ---- a new mapping
 
@@ -50,7 +50,7 @@ abbrev pub part_from : ℕ → MappedCode → Option MappedCode
 part_from limit mapped =
     if nat_le mapped.end limit then None
     else if nat_le limit mapped.start then Some mapped
-    else Some (record mapped { start = limit; offset = (place_in mapped limit).offset })
+    else Some (record mapped { start = limit; offset = (mapped_place mapped limit).offset })
 
 -- one without bytes changes nothing
 abbrev pub mapped_over : MappedCode → List MappedCode → List MappedCode
@@ -62,4 +62,5 @@ mapped_over new list =
 abbrev pub IsMappedOver : MappedCode → List MappedCode → List MappedCode → Type 0
 IsMappedOver new before after =
     (a : ℕ) →
-    place_of after a ≡ (if has_byte_at new a then Some (place_in new a) else place_of before a)
+    place_at_address after a
+    ≡ (if has_byte_at new a then Some (mapped_place new a) else place_at_address before a)

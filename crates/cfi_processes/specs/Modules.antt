@@ -1,7 +1,7 @@
 -- The module that call frames of a file are where the file is mapped (LSB Core, "Exception Frames";
 -- System V ABI chapter 5, "Program Loading").
---     Module, module_view      a module by its code and its sections, and that of the code
---     header_beside frame bases header      the header of .eh_frame, at the addresses of the file
+--     Module, loaded_module_view      a module by its code and its sections, and that of the code
+--     module_header frame bases header      the header of .eh_frame, at the addresses of the file
 --     DebugModule, debug_view      .debug_frame as frames are found by it, and that of the code
 --     loaded_module number section header table debug mapped bias      the module of .eh_frame and
 --         its header, with the file's number, this compiled table and .debug_frame
@@ -45,22 +45,22 @@ pub record Module : Type 0 where
   pub debug : Option DebugModule  -- .debug_frame, asked where no FDE of .eh_frame has the address
 
 -- the header of the code, if addresses have the size of the section's
-abbrev pub header_beside :
+abbrev pub module_header :
     EhFrame (EndianSlice RunTimeEndian) → BaseAddresses →
     Option (EhFrameHdr (EndianSlice RunTimeEndian)) → Option HeaderSection
-header_beside frame bases header =
+module_header frame bases header =
     let size = size_in_bytes (eh_frame_address_size frame) in
     option_map (λ header. unparsed_view (slice_position is_big) header size bases) header
 
 -- what a module of the code is
-abbrev pub module_view : LoadedModule (EndianSlice RunTimeEndian) → Module
-module_view loaded = record {
+abbrev pub loaded_module_view : LoadedModule (EndianSlice RunTimeEndian) → Module
+loaded_module_view loaded = record {
   start = loaded.start;
   end = loaded.end;
   bias = loaded.bias;
   file = loaded.file;
   section = section_view (slice_position is_big) loaded.frame loaded.bases;
-  header = header_beside loaded.frame loaded.bases loaded.header;
+  header = module_header loaded.frame loaded.bases loaded.header;
   compiled = option_map (λ table. table.now) loaded.compiled;
   debug = option_map debug_view loaded.debug;
 }

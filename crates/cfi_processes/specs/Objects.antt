@@ -1,19 +1,19 @@
 -- A file of a profile, and the module that it is where a process has mapped it.
 --     Object, object_view      its segments and its call frames, and that of the code
---     addresses_in file offset      the address of the byte of code at an offset
+--     code_addresses file offset      the address of the byte of code at an offset
 --     debug_for file debug      .debug_frame of a file, or else of its debug file
 --     object_in image debug      the file of which these parts were read, if it has call frames;
 --         of its debug file those of debug were
 --     bias_in file mapped, bias_of object mapped      how far its code is moved
---     has_table object      whether a compiled table is made
+--     is_compiled object      whether a compiled table is made
 --     IsDebugTable section table      a compiled table of .debug_frame, if there is one
---     module_of number object tables mapped      the module, with the file's number and these
+--     object_module number object tables mapped      the module, with the file's number and these
 --         compiled tables
 --     HasFramesOf number object loaded      a module of the code has the file's number and its call
 --         frames
 use Rattle.std.specs.Prelude.{◌≡◌, ℕ, ◌==◌, Bool, not, [], Option, Some, None, Result, Ok}
 use Rattle.std.specs.Prelude.{Err, length, option_map, if◌then◌else◌}
-use Rattle.std.specs.Option.{is_some, option_and_then}
+use Rattle.std.specs.Option.{is_some, option_and_then, option_or}
 use Rattle.std.specs.Result.{result_ok}
 use Rattle.cfi_read_core.specs.ByteOrder.{is_big}
 use Rattle.cfi_read_core.specs.SliceReaders.{EndianSlice, slice_position}
@@ -27,15 +27,15 @@ use Rattle.gimli_cfi.specs.declared.source.SectionKind.TheVariants as given
 use Rattle.cfi_elf.specs.declared.error.ElfError.{ElfError}
 use Rattle.cfi_elf.specs.ElfFiles.{File, elf_file_of, file_view}
 use Rattle.cfi_elf.specs.Images.{Image}
-use Rattle.cfi_elf.specs.Options.{or_else}
 use Rattle.cfi_compiled.specs.CompiledTables.{TableContents, IsCompiled}
-use Rattle.cfi_elf.specs.Segments.{address_of_offset, minus}
+use Rattle.cfi_elf.specs.Segments.{address_of_offset}
+use Rattle.cfi_elf.specs.Modular.{minus}
 use Rattle.cfi_object.specs.CallFrames.{debug_frame_of, eh_frame_of, section_in}
 use Rattle.cfi_step.specs.declared.module.LoadedModule.{LoadedModule}
 use Rattle.cfi_processes.specs.declared.mappings.MappedCode.{MappedCode}
 use Rattle.cfi_processes.specs.declared.objects.DebugSection.{DebugSection}
 use Rattle.cfi_processes.specs.declared.objects.Object.{Object as ObjectOfCode}
-use Rattle.cfi_processes.specs.Modules.{DebugModule, Module, header_beside, loaded_module}
+use Rattle.cfi_processes.specs.Modules.{DebugModule, Module, module_header, loaded_module}
 
 pub record Object : Type 0 where
   pub addresses : ℕ → Option ℕ  -- of the byte of code at an offset
@@ -52,15 +52,15 @@ there (Ok found) = found
 there (Err e) = None
 
 -- where the segment of code that has the byte at an offset places it
-abbrev pub addresses_in : File → ℕ → Option ℕ
-addresses_in file offset = there (address_of_offset file offset)
+abbrev pub code_addresses : File → ℕ → Option ℕ
+code_addresses file offset = there (address_of_offset file offset)
 
 -- what an `Object` of the code is
 abbrev pub object_view : ObjectOfCode → Object
 object_view object = record {
-  addresses = addresses_in (file_view object.file);
+  addresses = code_addresses (file_view object.file);
   section = section_view (slice_position is_big) object.frame object.bases;
-  header = header_beside object.frame object.bases object.header;
+  header = module_header object.frame object.bases object.header;
   debug = option_map debug_section object.debug;
 }
 
@@ -74,13 +74,13 @@ debug_in file = option_and_then if_bytes (there (debug_frame_of file))
 -- that of the file, or else that of its debug file, which has the same addresses
 abbrev pub debug_for : File → Option Image → Option GivenSection
 debug_for file debug =
-    or_else (debug_in file)
+    option_or (debug_in file)
     (option_and_then (λ image. option_and_then debug_in (result_ok (elf_file_of image))) debug)
 
 -- the file with these sections
 abbrev pub object_with : File → GivenSection → Option GivenSection → Object
 object_with file frames debug = record {
-  addresses = addresses_in file;
+  addresses = code_addresses file;
   section = given_as EhFrame frames;
   header = given_header frames;
   debug = option_map (given_as DebugFrame) debug;
@@ -92,24 +92,24 @@ with_either file (Some frames) debug = Some (object_with file frames debug)
 with_either file None debug =
     option_map (λ frames. object_with file (section_in file given.EhFrame []) (Some frames)) debug
 
-abbrev pub with_frames : Option Image → File → Option Object
-with_frames debug file = with_either file (there (eh_frame_of file)) (debug_for file debug)
+abbrev pub with_call_frames : Option Image → File → Option Object
+with_call_frames debug file = with_either file (there (eh_frame_of file)) (debug_for file debug)
 
 -- the file of which these parts were read, if it can be read and has call frames
 abbrev pub object_in : Image → Option Image → Option Object
-object_in image debug = option_and_then (with_frames debug) (result_ok (elf_file_of image))
+object_in image debug = option_and_then (with_call_frames debug) (result_ok (elf_file_of image))
 
 -- the byte at the first mapped address is that at the offset in the file, which has an address of
 -- the file's own
 abbrev pub bias_in : File → MappedCode → Option ℕ
-bias_in file mapped = option_map (minus mapped.start) (addresses_in file mapped.offset)
+bias_in file mapped = option_map (minus mapped.start) (code_addresses file mapped.offset)
 
 abbrev pub bias_of : Object → MappedCode → Option ℕ
 bias_of object mapped = option_map (minus mapped.start) (object.addresses mapped.offset)
 
 -- where each row is else found by a scan
-abbrev pub has_table : Object → Bool
-has_table object = not (is_some object.header)
+abbrev pub is_compiled : Object → Bool
+is_compiled object = not (is_some object.header)
 
 -- in a storage of 192 rules and 4 rows
 abbrev pub IsDebugTable : Option Section → Option TableContents → Type 0
@@ -130,8 +130,8 @@ abbrev pub debug_by : Option Section → Option TableContents → Option DebugMo
 debug_by None table = None
 debug_by (Some section) table = option_map (debug_module section) table
 
-abbrev pub module_of : ℕ → Object → Tables → MappedCode → Option Module
-module_of number object tables mapped =
+abbrev pub object_module : ℕ → Object → Tables → MappedCode → Option Module
+object_module number object tables mapped =
     option_map
     (loaded_module number object.section object.header tables.table
     (debug_by object.debug tables.debug) mapped)

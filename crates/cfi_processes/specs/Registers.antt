@@ -5,7 +5,7 @@
 --     perf_number machine k      perf's number of the register that has DWARF's number k
 --     register_count, pc_number machine      how many registers have one, and DWARF's number of the
 --         pc
---     abi_of machine      what the ABI says of its frames
+--     machine_abi machine      what the ABI says of its frames
 use Rattle.std.specs.Prelude.{ℕ, List, [], ◌∷◌, codes, nat_eq, nat_lt, position, Option, Some, None}
 use Rattle.std.specs.Prelude.{if◌then◌else◌}
 use Rattle.std.specs.Cmp.Lexicographic.{pointwise}
@@ -44,12 +44,12 @@ x86_64_by_dwarf =
     ∷ codes "SP" ∷ eight_more (codes "IP" ∷ [])
 
 -- the place of a name among names
-abbrev pub place_of : List (List ℕ) → List ℕ → Option ℕ
-place_of names name = position (pointwise nat_eq name) names
+abbrev pub place_of_name : List (List ℕ) → List ℕ → Option ℕ
+place_of_name names name = position (pointwise nat_eq name) names
 
 -- perf's number of the register of x86-64 with a number of DWARF's
 unfoldable pub perf_number_x86_64 : ℕ → Option ℕ
-perf_number_x86_64 k = option_and_then (place_of x86_64_by_perf) (slice_get x86_64_by_dwarf k)
+perf_number_x86_64 k = option_and_then (place_of_name x86_64_by_perf) (slice_get x86_64_by_dwarf k)
 
 -- on AArch64 x0 to x30, the stack pointer and the pc have the same numbers in both
 abbrev pub perf_number : SampleMachine → ℕ → Option ℕ
@@ -69,10 +69,10 @@ pc_number AArch64 = 32
 -- The stack pointer is rsp or sp. The signature of a return address of AArch64 may be in all bits
 -- above the 48 of an address but bit 55 (Arm Architecture Reference Manual, "Pointer
 -- authentication").
-abbrev pub abi_of : SampleMachine → Abi
-abi_of X86_64 =
+abbrev pub machine_abi : SampleMachine → Abi
+machine_abi X86_64 =
     record { stack_pointer = record { 0 = 7 }; signature_mask = 0; max_iterations = 1000 }
-abi_of AArch64 = record {
+machine_abi AArch64 = record {
   stack_pointer = record { 0 = 31 };
   signature_mask = 0xff7f000000000000;
   max_iterations = 1000;

@@ -5,7 +5,7 @@
 --     start_of machine user      the innermost frame of a sample, or why it has none
 --     IsWalkOver .. modules machine memory pc registers old walk new      a walk over any memory,
 --         from a pc and the registers of its frame
---     IsUnwound .. modules machine user old result new      what is returned and written
+--     IsSampleUnwound .. modules machine user old result new      what is returned and written
 --     HasRoom frames      there is room for as many frames as a stack may have
 use Rattle.std.specs.Prelude.{◌≡◌, ℕ, Bool, true, false, List, length, take, map, Option, Some}
 use Rattle.std.specs.Prelude.{None, Result, Ok, Err, ok_or, ◌==◌, if◌then◌else◌}
@@ -25,15 +25,11 @@ use Rattle.cfi_processes.specs.declared.sample_stack.NoFrames.{NoFrames}
 use Rattle.cfi_processes.specs.declared.sample_stack.NoFrames.TheVariants.{NoRegisters, OtherAbi}
 use Rattle.cfi_processes.specs.declared.sample_stack.NoFrames.TheVariants.{NoProgramCounter}
 use Rattle.cfi_processes.specs.declared.sample_stack.NoFrames.TheVariants.{NoStackPointer}
-use Rattle.cfi_perf.specs.Samples.{UserRegisters, UserState, register_of}
-use Rattle.cfi_processes.specs.Registers.{abi_of, pc_number, perf_number, register_count}
+use Rattle.cfi_perf.specs.Results.{and_then}
+use Rattle.cfi_perf.specs.Samples.{UserRegisters, UserState, sampled_register}
+use Rattle.cfi_processes.specs.Registers.{machine_abi, pc_number, perf_number, register_count}
 
 -- ---- the innermost frame
-
-abbrev pub and_then :
-    {A B : Type 0} → Result A NoFrames → (A → Result B NoFrames) → Result B NoFrames
-and_then (Ok x) next = next x
-and_then (Err reason) next = Err reason
 
 -- those of a 64-bit program: PERF_SAMPLE_REGS_ABI_64 is 2
 abbrev pub of_64_bits : Option UserRegisters → Result UserRegisters NoFrames
@@ -43,7 +39,8 @@ of_64_bits (Some registers) =
 
 -- the value of the register with DWARF's number k, if the sample has it
 abbrev pub known_register : SampleMachine → UserRegisters → ℕ → Option ℕ
-known_register machine registers k = option_and_then (register_of registers) (perf_number machine k)
+known_register machine registers k =
+    option_and_then (sampled_register registers) (perf_number machine k)
 
 abbrev pub known_registers : SampleMachine → UserRegisters → List (Option ℕ)
 known_registers machine registers =
@@ -53,7 +50,7 @@ abbrev pub innermost_of : SampleMachine → UserRegisters → Result Innermost N
 innermost_of machine registers =
     and_then (ok_or (known_register machine registers (pc_number machine)) NoProgramCounter) (λ pc.
     and_then
-    (ok_or (known_register machine registers (abi_of machine).stack_pointer.0) NoStackPointer)
+    (ok_or (known_register machine registers (machine_abi machine).stack_pointer.0) NoStackPointer)
     (λ stack_pointer.
     Ok (record { pc = pc; stack_pointer = stack_pointer })))
 
@@ -75,8 +72,8 @@ beginning_of machine user = and_then (of_64_bits user.registers) (beginning_by m
 
 -- the numbers that can be read: the bytes of the stack from the stack pointer on, the least
 -- significant byte first
-abbrev pub memory_of : List ℕ → ℕ → ℕ → ℕ → Option ℕ
-memory_of stack stack_pointer = number_in (slice_over stack false) stack_pointer
+abbrev pub stack_memory : List ℕ → ℕ → ℕ → ℕ → Option ℕ
+stack_memory stack stack_pointer = number_in (slice_over stack false) stack_pointer
 
 -- how many frames a stack may have
 abbrev pub most_frames : ℕ
@@ -98,7 +95,7 @@ module _ {R T : Type 0} (position : R → Position) (number : T → ℕ)
       (ℕ → ℕ → Option ℕ) → State → List StackFrame → End → List (Option ℕ) → List (Option ℕ) →
       Type 0
   IsWalkFrom memory =
-      IsWalkAmong position number memory 8 (abi_of machine) rule_limit stack_limit copies_free
+      IsWalkAmong position number memory 8 (machine_abi machine) rule_limit stack_limit copies_free
       modules
 
   -- from a pc and the registers of its frame, over a memory
@@ -117,13 +114,13 @@ module _ {R T : Type 0} (position : R → Position) (number : T → ℕ)
   module _ (stack : List ℕ) (old : Room) (result : Result Walk NoFrames) (new : Room) where
     abbrev pub IsWalked : Beginning → Walk → Type 0
     IsWalked start walk =
-        IsWalkOver (memory_of stack start.innermost.stack_pointer) start.innermost.pc
+        IsWalkOver (stack_memory stack start.innermost.stack_pointer) start.innermost.pc
         start.registers old walk new
 
     abbrev pub IsUnwoundFrom : Result Beginning NoFrames → Type 0
     IsUnwoundFrom (Ok start) = (walk : Walk) × (result ≡ Ok walk) × IsWalked start walk
     IsUnwoundFrom (Err reason) = (result ≡ Err reason) × (new ≡ old)
 
-  abbrev pub IsUnwound : UserState → Room → Result Walk NoFrames → Room → Type 0
-  IsUnwound user old result new =
+  abbrev pub IsSampleUnwound : UserState → Room → Result Walk NoFrames → Room → Type 0
+  IsSampleUnwound user old result new =
       IsUnwoundFrom user.stack old result new (beginning_of machine user)

@@ -1,15 +1,15 @@
 -- Symbols that are told in a text, a line each.
 --     Symbol, symbol_view      a symbol, and that of the code
---     lines_of text      the lines
---     parts_at byte text      what is before the first byte of a value, and what is behind it
---     number_of digits      a number in hexadecimal digits
+--     text_lines text      the lines
+--     split_at_byte byte text      what is before the first byte of a value, and what is after it
+--     told_number digits      a number in hexadecimal digits
 --     nearest_among symbols a      the last symbol of those that begin at an address, or else
---         nearest before it
+--         nearest_by before it
+use Rattle.std.specs.Option.{option_or}
 use Rattle.std.specs.Prelude.{ℕ, zero, suc, ◌+◌, ◌-◌, ◌*◌, ◌^◌, ◌==◌, ◌&&◌, Bool, List, [], ◌∷◌}
 use Rattle.std.specs.Prelude.{Option, Some, None, drop, nat_le, nat_lt, option_and_then, option_map}
 use Rattle.std.specs.Prelude.{position, take, if◌then◌else◌}
 use Rattle.std.specs.List.{slice_split}
-use Rattle.cfi_elf.specs.Options.{or_else}
 use Rattle.cfi_processes.specs.declared.text_symbols.Parts.{Parts as PartsOfCode}
 use Rattle.cfi_processes.specs.declared.text_symbols.TextSymbol.{TextSymbol}
 
@@ -31,20 +31,20 @@ symbol_view symbol = record {
 
 -- ---- a text
 
-abbrev pub lines_of : List ℕ → List (List ℕ)
-lines_of text = slice_split (λ c. c == 10) text
+abbrev pub text_lines : List ℕ → List (List ℕ)
+text_lines text = slice_split (λ c. c == 10) text
 
 -- Two parts of a text, with one byte between them.
 pub record Parts : Type 0 where
   pub front : List ℕ
   pub rest : List ℕ
 
-abbrev pub parts_view : PartsOfCode → Parts
-parts_view parts = record { front = parts.front.now; rest = parts.rest.now }
+abbrev pub text_parts_view : PartsOfCode → Parts
+text_parts_view parts = record { front = parts.front.now; rest = parts.rest.now }
 
--- before the first byte of this value, and behind it
-abbrev pub parts_at : ℕ → List ℕ → Option Parts
-parts_at byte text =
+-- before the first byte of this value, and after it
+abbrev pub split_at_byte : ℕ → List ℕ → Option Parts
+split_at_byte byte text =
     option_map (λ k. record { front = take k text; rest = drop (k + 1) text })
     (position (λ c. c == byte) text)
 
@@ -57,33 +57,33 @@ digit_of c =
     else None
 
 -- a number and one more digit, where that is below 2^64
-abbrev pub with_value : ℕ → ℕ → Option ℕ
-with_value number value = if nat_lt number (2 ^ 60) then Some (number * 16 + value) else None
+abbrev pub with_digit_value : ℕ → ℕ → Option ℕ
+with_digit_value number value = if nat_lt number (2 ^ 60) then Some (number * 16 + value) else None
 
 abbrev pub with_hexadecimal_digit : ℕ → ℕ → Option ℕ
-with_hexadecimal_digit number digit = option_and_then (with_value number) (digit_of digit)
+with_hexadecimal_digit number digit = option_and_then (with_digit_value number) (digit_of digit)
 
-abbrev pub number_from : ℕ → List ℕ → Option ℕ
-number_from number [] = Some number
-number_from number (digit ∷ digits) =
-    option_and_then (λ more. number_from more digits) (with_hexadecimal_digit number digit)
+abbrev pub told_number_from : ℕ → List ℕ → Option ℕ
+told_number_from number [] = Some number
+told_number_from number (digit ∷ digits) =
+    option_and_then (λ more. told_number_from more digits) (with_hexadecimal_digit number digit)
 
 -- of one digit or more
-abbrev pub number_of : List ℕ → Option ℕ
-number_of [] = None
-number_of (digit ∷ digits) = number_from 0 (digit ∷ digits)
+abbrev pub told_number : List ℕ → Option ℕ
+told_number [] = None
+told_number (digit ∷ digits) = told_number_from 0 (digit ∷ digits)
 
 -- ---- by their addresses
 
 -- the last that begins at an address
 abbrev pub last_at : List Symbol → ℕ → Option Symbol
 last_at [] a = None
-last_at (s ∷ symbols) a = or_else (last_at symbols a) (if s.address == a then Some s else None)
+last_at (s ∷ symbols) a = option_or (last_at symbols a) (if s.address == a then Some s else None)
 
 -- the one that begins at the address, or else nearest before it
-abbrev pub nearest : (ℕ → Option Symbol) → ℕ → Option Symbol
-nearest last zero = last zero
-nearest last (suc a) = or_else (last (suc a)) (nearest last a)
+abbrev pub nearest_by : (ℕ → Option Symbol) → ℕ → Option Symbol
+nearest_by last zero = last zero
+nearest_by last (suc a) = option_or (last (suc a)) (nearest_by last a)
 
 abbrev pub nearest_among : List Symbol → ℕ → Option Symbol
-nearest_among symbols a = nearest (last_at symbols) a
+nearest_among symbols a = nearest_by (last_at symbols) a

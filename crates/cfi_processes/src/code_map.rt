@@ -2,10 +2,10 @@
 ghost use Rattle.std.specs.Prelude.{◌≡◌, ℕ, IfOk, map, option_map, string_bytes};
 ghost use Rattle.std.specs.List.{filter_map};
 ghost use Rattle.cfi_elf.specs.FunctionPlaces.{place_view};
-ghost use Rattle.cfi_processes.specs.CodeMaps.{is_memory_name, map_name, place_by, symbol_from};
-ghost use Rattle.cfi_processes.specs.CodeMaps.{symbol_of, symbol_sized, symbols_of};
+ghost use Rattle.cfi_processes.specs.CodeMaps.{is_memory_name, map_name, place_by, map_symbol_from};
+ghost use Rattle.cfi_processes.specs.CodeMaps.{map_symbol_of, symbol_sized, map_symbols_of};
 ghost use Rattle.cfi_processes.specs.SortedSymbols.{nearest_in};
-ghost use Rattle.cfi_processes.specs.TextSymbols.{nearest_among, parts_view, symbol_view};
+ghost use Rattle.cfi_processes.specs.TextSymbols.{nearest_among, text_parts_view, symbol_view};
 
 use crate::names::Name;
 use crate::text_symbols::{Parts, SortedSymbols, TextSymbol, lines_of, number_of, parts_at};
@@ -43,13 +43,13 @@ pub struct CodeMap<'run> {
     text: &'run [u8],
     symbols: SortedSymbols<'run>,
     ghost placed: { (address : ℕ)
-        → nearest_in symbols address ≡ nearest_among (symbols_of text.now) address },
+        → nearest_in symbols address ≡ nearest_among (map_symbols_of text.now) address },
 }
 
 impl<'run> CodeMap<'run> {
     ghost use Rattle.std.specs.Prelude.{◌≡◌, IfOk, option_map};
     ghost use Rattle.cfi_elf.specs.FunctionPlaces.{place_view};
-    ghost use Rattle.cfi_processes.specs.CodeMaps.{function_at};
+    ghost use Rattle.cfi_processes.specs.CodeMaps.{code_function_at};
     ghost use Rattle.cfi_processes.specs.CodeMapViews.{map_view};
 
     /// The functions of this text, which has this path. Fails where memory is refused. Allocates:
@@ -75,7 +75,7 @@ impl<'run> CodeMap<'run> {
     /// not allocate.
     pub fn function_at(&self, address: u64) -> Option<FunctionPlace<'run>>
         ensures { option_map place_view result
-            ≡ function_at (map_view self.now).text address }
+            ≡ code_function_at (map_view self.now).text address }
     {
         match self.symbols.nearest(address) {
             Some(symbol) => place_by(address, &symbol),
@@ -100,9 +100,9 @@ fn place_by<'run>(address: u64, symbol: &TextSymbol<'run>) -> Option<FunctionPla
 }
 
 /// The functions of a text, in the order of its lines.
-#[tactic(auto, unfolding(crate::specs::CodeMaps::symbols_of))]
+#[tactic(auto, unfolding(crate::specs::CodeMaps::map_symbols_of))]
 fn symbols_of<'run>(alloc: Global, text: &'run [u8]) -> Result<Vec<TextSymbol<'run>>, AllocError>
-    ensures { IfOk result (λ symbols. map symbol_view symbols.items ≡ symbols_of text.now) }
+    ensures { IfOk result (λ symbols. map symbol_view symbols.items ≡ map_symbols_of text.now) }
 {
     let lines = lines_of(alloc, text)?;
     symbols_on(alloc, lines.as_slice())
@@ -114,7 +114,7 @@ fn symbols_on<'run>(
     lines: &[&'run [u8]],
 ) -> Result<Vec<TextSymbol<'run>>, AllocError>
     ensures { IfOk result (λ symbols. map symbol_view symbols.items
-        ≡ filter_map symbol_of (map (λ line. line.now) lines.now)) }
+        ≡ filter_map map_symbol_of (map (λ line. line.now) lines.now)) }
 {
     let mut symbols = Vec::new(alloc);
     for line in lines {
@@ -127,14 +127,14 @@ fn symbols_on<'run>(
 
 /// The function of a line; `None` where it isn't two numbers and a name.
 fn symbol_of(line: &[u8]) -> Option<TextSymbol<'_>>
-    ensures { option_map symbol_view result ≡ symbol_of line.now }
+    ensures { option_map symbol_view result ≡ map_symbol_of line.now }
 {
     symbol_from(parts_at(line, b' ')?)
 }
 
 /// The function of a line of which the first part is its address.
 fn symbol_from(line: Parts<'_>) -> Option<TextSymbol<'_>>
-    ensures { option_map symbol_view result ≡ symbol_from (parts_view line.entry) }
+    ensures { option_map symbol_view result ≡ map_symbol_from (text_parts_view line.entry) }
 {
     let address = number_of(line.front)?;
     symbol_sized(address, parts_at(line.rest, b' ')?)
@@ -142,7 +142,7 @@ fn symbol_from(line: Parts<'_>) -> Option<TextSymbol<'_>>
 
 /// The function at an address, with its size as the first of these parts.
 fn symbol_sized(address: u64, parts: Parts<'_>) -> Option<TextSymbol<'_>>
-    ensures { option_map symbol_view result ≡ symbol_sized address (parts_view parts.entry) }
+    ensures { option_map symbol_view result ≡ symbol_sized address (text_parts_view parts.entry) }
 {
     let size = number_of(parts.front)?;
     Some(TextSymbol {

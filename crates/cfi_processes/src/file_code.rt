@@ -2,7 +2,7 @@
 
 use crate::mappings::MappedCode;
 use crate::objects::Object;
-use crate::process_code::FileModule;
+use crate::process_modules::FileModule;
 use cfi_compiled::CompiledTable;
 use std::alloc::{AllocError, Global};
 
@@ -18,10 +18,10 @@ pub struct FileCode<'run> {
 impl<'run> FileCode<'run> {
     ghost use Rattle.std.specs.Prelude.{◌≡◌, Some, IfOk, IfSome, option_map};
     ghost use Rattle.cfi_processes.specs.KnownFiles.{code_view};
-    ghost use Rattle.cfi_processes.specs.Modules.{module_view};
-    ghost use Rattle.cfi_processes.specs.Objects.{HasFramesOf, IsDebugTable, module_of};
+    ghost use Rattle.cfi_processes.specs.Modules.{loaded_module_view};
+    ghost use Rattle.cfi_processes.specs.Objects.{HasFramesOf, IsDebugTable, object_module};
     ghost use Rattle.cfi_processes.specs.Objects.{object_view};
-    ghost use Rattle.cfi_processes.specs.OpenedFiles.{IsCodeOf, IsTableIf};
+    ghost use Rattle.cfi_processes.specs.ProfileFiles.{IsCodeOf, IsTableIf};
 
     /// The code of an object. Fails where memory is refused.
     pub fn of(alloc: Global, object: Object<'run>) -> Result<FileCode<'run>, AllocError>
@@ -40,7 +40,7 @@ impl<'run> FileCode<'run> {
     /// The module that the file is where it is mapped, with the file's number
     /// (`Object::module`).
     pub fn module<'a>(&'a self, number: usize, mapped: &MappedCode) -> Option<FileModule<'a, 'run>>
-        ensures module { option_map module_view result ≡ module_of number
+        ensures module { option_map loaded_module_view result ≡ object_module number
             (code_view self.now).object (code_view self.now).tables mapped.now }
         ensures frames { IfSome result (HasFramesOf number self.now.object) }
     {

@@ -17,8 +17,8 @@ impl<'run> FileFunctions<'run> {
     ghost use Rattle.cfi_elf.specs.ElfFiles.{file_view};
     ghost use Rattle.cfi_elf.specs.FunctionPlaces.{place_view};
     ghost use Rattle.cfi_elf.specs.Images.{image_view};
-    ghost use Rattle.cfi_processes.specs.FileFunctions.{function_in, functions_of};
-    ghost use Rattle.cfi_processes.specs.FileFunctions.{functions_view, symbols_of};
+    ghost use Rattle.cfi_processes.specs.FileFunctions.{mapped_function, functions_by_symbols};
+    ghost use Rattle.cfi_processes.specs.FileFunctions.{functions_view, symbol_file};
 
     /// The functions of the file of which these parts were read, and of its debug file those of
     /// `debug`. Returns `None` where the file is no ELF file (`cfi_elf::ElfFile::of_image`); a
@@ -30,7 +30,7 @@ impl<'run> FileFunctions<'run> {
         debug: Option<Image<'run>>,
     ) -> Result<Option<FileFunctions<'run>>, AllocError>
         ensures { IfOk result (λ functions. option_map functions_view functions
-            ≡ functions_of (image_view image.entry) (option_map image_view debug.entry)) }
+            ≡ functions_by_symbols (image_view image.entry) (option_map image_view debug.entry)) }
     {
         let Ok(file) = ElfFile::of_image(image) else {
             return Ok(None);
@@ -43,7 +43,7 @@ impl<'run> FileFunctions<'run> {
     /// The function that has an address of a process, where the file is mapped. Does not allocate.
     pub fn function_at(&self, mapped: &MappedCode, address: u64) -> Option<FunctionPlace<'run>>
         ensures { option_map place_view result
-            ≡ function_in mapped.now address (functions_view self.now) }
+            ≡ mapped_function mapped.now address (functions_view self.now) }
     {
         let bias = bias_in(&self.file, mapped)?;
         self.functions.place_at(address.wrapping_sub(bias))
@@ -51,7 +51,7 @@ impl<'run> FileFunctions<'run> {
 
     /// The file whose symbols name the functions.
     fn symbols_of(file: ElfFile<'run>, debug: Option<Image<'run>>) -> ElfFile<'run>
-        ensures { file_view result ≡ symbols_of (file_view file.entry)
+        ensures { file_view result ≡ symbol_file (file_view file.entry)
             (option_map image_view debug.entry) }
     {
         match debug {

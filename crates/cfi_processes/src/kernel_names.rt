@@ -1,6 +1,6 @@
 //! The symbols of the kernel that runs, by their addresses.
 ghost use Rattle.std.specs.Prelude.{◌≡◌, ℕ, codes};
-ghost use Rattle.cfi_processes.specs.KernelSymbols.{address_of, symbol_at};
+ghost use Rattle.cfi_processes.specs.KernelSymbols.{address_of_symbol, kernel_symbol_at};
 ghost use Rattle.cfi_processes.specs.SortedSymbols.{nearest_in};
 
 use crate::kernel_symbols::{address_among, symbols_of};
@@ -20,16 +20,17 @@ pub struct KernelNames<'run> {
     /// Where the data ends, `_edata`.
     data_end: Option<u64>,
     symbols: SortedSymbols<'run>,
-    ghost begins: { start ≡ address_of text.now symbol.now },
-    ghost ends: { code_end ≡ address_of text.now (codes "_etext") },
-    ghost ends_with_data: { data_end ≡ address_of text.now (codes "_edata") },
-    ghost placed: { (address : ℕ) → nearest_in symbols address ≡ symbol_at text.now address },
+    ghost begins: { start ≡ address_of_symbol text.now symbol.now },
+    ghost ends: { code_end ≡ address_of_symbol text.now (codes "_etext") },
+    ghost ends_with_data: { data_end ≡ address_of_symbol text.now (codes "_edata") },
+    ghost placed: { (address : ℕ)
+        → nearest_in symbols address ≡ kernel_symbol_at text.now address },
 }
 
 impl<'run> KernelNames<'run> {
     ghost use Rattle.std.specs.Prelude.{◌≡◌, IfOk, option_map};
     ghost use Rattle.cfi_processes.specs.KernelNames.{is_kernel_of, is_where, kernel_view};
-    ghost use Rattle.cfi_processes.specs.KernelSymbols.{symbol_at};
+    ghost use Rattle.cfi_processes.specs.KernelSymbols.{kernel_symbol_at};
     ghost use Rattle.cfi_processes.specs.TextSymbols.{symbol_view};
 
     /// The symbols of a text, and the name of that after which the kernel's mapping is named. Fails
@@ -71,7 +72,8 @@ impl<'run> KernelNames<'run> {
     /// The last symbol of those that begin at the address, or else nearest before it. Found by
     /// halving; does not allocate.
     pub fn symbol_at(&self, address: u64) -> Option<TextSymbol<'run>>
-        ensures { option_map symbol_view result ≡ symbol_at (kernel_view self.now).text address }
+        ensures { option_map symbol_view result
+            ≡ kernel_symbol_at (kernel_view self.now).text address }
     {
         self.symbols.nearest(address)
     }

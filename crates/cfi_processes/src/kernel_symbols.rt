@@ -2,10 +2,12 @@
 ghost use Rattle.std.specs.Prelude.{◌≡◌, IfOk, map, option_map};
 ghost use Rattle.std.specs.List.{filter_map};
 ghost use Rattle.cfi_processes.specs.KernelSymbols.{address_among, address_if, is_data_type};
-ghost use Rattle.cfi_processes.specs.KernelSymbols.{is_function_type, is_kernel_name, kind_by};
-ghost use Rattle.cfi_processes.specs.KernelSymbols.{kind_of, symbol_from, symbol_named, symbol_of};
-ghost use Rattle.cfi_processes.specs.KernelSymbols.{symbol_typed, symbols_of};
-ghost use Rattle.cfi_processes.specs.TextSymbols.{parts_at, parts_view, symbol_view};
+ghost use Rattle.cfi_processes.specs.KernelSymbols.{is_function_type, is_kernel_name};
+ghost use Rattle.cfi_processes.specs.KernelSymbols.{is_function_of_letter};
+ghost use Rattle.cfi_processes.specs.KernelSymbols.{is_function_of_type, kernel_symbol_from};
+ghost use Rattle.cfi_processes.specs.KernelSymbols.{symbol_named, kernel_symbol_of};
+ghost use Rattle.cfi_processes.specs.KernelSymbols.{symbol_typed, kernel_symbols_of};
+ghost use Rattle.cfi_processes.specs.TextSymbols.{split_at_byte, text_parts_view, symbol_view};
 
 use crate::text_symbols::{Parts, TextSymbol, lines_of, number_of, parts_at};
 use std::alloc::{AllocError, Global};
@@ -13,7 +15,7 @@ use std::alloc::{AllocError, Global};
 /// What profiles name the kernel's own code.
 pub const KERNEL_IMAGE: &[u8] = b"[kernel.kallsyms]";
 
-/// Returns whether a mapping with this name is of the kernel itself: behind `KERNEL_IMAGE` it has
+/// Returns whether a mapping with this name is of the kernel itself: after `KERNEL_IMAGE` it has
 /// the name of a symbol, as `_text`. Does not allocate.
 pub fn is_kernel_name(name: &[u8]) -> bool
     ensures { result ≡ is_kernel_name name.now }
@@ -22,12 +24,12 @@ pub fn is_kernel_name(name: &[u8]) -> bool
 }
 
 /// The symbols of a text, in the order of its lines. Fails where memory is refused.
-#[tactic(auto, unfolding(crate::specs::KernelSymbols::symbols_of))]
+#[tactic(auto, unfolding(crate::specs::KernelSymbols::kernel_symbols_of))]
 pub fn symbols_of<'run>(
     alloc: Global,
     text: &'run [u8],
 ) -> Result<Vec<TextSymbol<'run>>, AllocError>
-    ensures { IfOk result (λ symbols. map symbol_view symbols.items ≡ symbols_of text.now) }
+    ensures { IfOk result (λ symbols. map symbol_view symbols.items ≡ kernel_symbols_of text.now) }
 {
     let lines = lines_of(alloc, text)?;
     symbols_on(alloc, lines.as_slice())
@@ -39,7 +41,7 @@ fn symbols_on<'run>(
     lines: &[&'run [u8]],
 ) -> Result<Vec<TextSymbol<'run>>, AllocError>
     ensures { IfOk result (λ symbols. map symbol_view symbols.items
-        ≡ filter_map symbol_of (map (λ line. line.now) lines.now)) }
+        ≡ filter_map kernel_symbol_of (map (λ line. line.now) lines.now)) }
 {
     let mut symbols = Vec::new(alloc);
     for line in lines {
@@ -53,14 +55,14 @@ fn symbols_on<'run>(
 /// The symbol of a line; `None` where it isn't a number, a type and a name, or the type is neither
 /// that of a function nor of data.
 fn symbol_of(line: &[u8]) -> Option<TextSymbol<'_>>
-    ensures { option_map symbol_view result ≡ symbol_of line.now }
+    ensures { option_map symbol_view result ≡ kernel_symbol_of line.now }
 {
     symbol_from(parts_at(line, b' ')?)
 }
 
 /// The symbol of a line of which the first part is its address.
 fn symbol_from(line: Parts<'_>) -> Option<TextSymbol<'_>>
-    ensures { option_map symbol_view result ≡ symbol_from (parts_view line.entry) }
+    ensures { option_map symbol_view result ≡ kernel_symbol_from (text_parts_view line.entry) }
 {
     let address = number_of(line.front)?;
     symbol_typed(address, parts_at(line.rest, b' ')?)
@@ -68,16 +70,16 @@ fn symbol_from(line: Parts<'_>) -> Option<TextSymbol<'_>>
 
 /// The symbol at an address, with its type as the first of these parts.
 fn symbol_typed(address: u64, parts: Parts<'_>) -> Option<TextSymbol<'_>>
-    ensures { option_map symbol_view result ≡ symbol_typed address (parts_view parts.entry) }
+    ensures { option_map symbol_view result ≡ symbol_typed address (text_parts_view parts.entry) }
 {
     let is_function = kind_of(parts.front)?;
     Some(symbol_named(address, is_function, parts.rest))
 }
 
-/// The symbol with this name, or with the name and the module that are before and behind a tab.
+/// The symbol with this name, or with the name and the module that are before and after a tab.
 fn symbol_named(address: u64, is_function: bool, name: &[u8]) -> TextSymbol<'_>
     ensures { symbol_view result
-        ≡ symbol_named address is_function name.entry.now (parts_at 9 name.entry.now) }
+        ≡ symbol_named address is_function name.entry.now (split_at_byte 9 name.entry.now) }
 {
     match parts_at(name, b'\t') {
         Some(parts) => TextSymbol {
@@ -99,7 +101,7 @@ fn symbol_named(address: u64, is_function: bool, name: &[u8]) -> TextSymbol<'_>
 
 /// Whether a symbol of the type is a function; `None` where it is neither that nor data.
 fn kind_of(kind: &[u8]) -> Option<bool>
-    ensures { result ≡ kind_of kind.now }
+    ensures { result ≡ is_function_of_type kind.now }
 {
     let (letter, others) = kind.split_first()?;
     if others.is_empty() {
@@ -111,7 +113,7 @@ fn kind_of(kind: &[u8]) -> Option<bool>
 
 /// The same by the letter of the type.
 fn kind_by(letter: u8) -> Option<bool>
-    ensures { result ≡ kind_by letter }
+    ensures { result ≡ is_function_of_letter letter }
 {
     if is_function_type(letter) {
         Some(true)

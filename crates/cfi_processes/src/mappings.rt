@@ -74,16 +74,16 @@ impl Model for Mappings {
 
     ghost Value = { List MappedCode };
 
-    ghost use Rattle.cfi_processes.specs.Mappings.{AreInOrder};
+    ghost use Rattle.cfi_processes.specs.Mappings.{AreMappedInOrder};
 
     ghost view = { λ mappings. mappings.list.items };
 
-    ghost invariant = { λ mappings. AreInOrder 0 mappings.list.items };
+    ghost invariant = { λ mappings. AreMappedInOrder 0 mappings.list.items };
 }
 
 impl Mappings {
     ghost use Rattle.std.specs.Prelude.{◌≡◌, ◌<◌, [], IfOk, OnErr, OnOk};
-    ghost use Rattle.cfi_processes.specs.Mappings.{AreInOrder, IsMappedOver, mapped_over};
+    ghost use Rattle.cfi_processes.specs.Mappings.{AreMappedInOrder, IsMappedOver, mapped_over};
 
     /// Nothing is mapped yet. Does not allocate.
     pub fn new(alloc: Global) -> Self
@@ -97,7 +97,7 @@ impl Mappings {
     /// All of them, in the order of their addresses.
     pub fn as_slice(&self) -> &[MappedCode]
         ensures all { result.now ≡ self.now }
-        ensures order { AreInOrder 0 result.now }
+        ensures order { AreMappedInOrder 0 result.now }
     {
         self.list.as_slice()
     }
@@ -125,7 +125,7 @@ impl Mappings {
         old: &[MappedCode],
         new: MappedCode,
     ) -> Result<Self, AllocError>
-        requires order { AreInOrder 0 old.now }
+        requires order { AreMappedInOrder 0 old.now }
         requires bytes { new.start < new.end }
         ensures { IfOk result (λ mappings. mappings ≡ mapped_over new old.now) }
     {
@@ -138,7 +138,7 @@ impl Mappings {
 
     /// These mappings, in a new list.
     pub(crate) fn of(alloc: Global, list: &[MappedCode]) -> Result<Self, AllocError>
-        requires { AreInOrder 0 list.now }
+        requires { AreMappedInOrder 0 list.now }
         ensures { IfOk result (λ mappings. mappings ≡ list.now) }
     {
         Ok(Mappings {

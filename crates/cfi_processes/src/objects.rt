@@ -68,9 +68,10 @@ impl<'file> Object<'file> {
     ghost use Rattle.cfi_compiled.specs.CompiledTables.{IsCompiled};
     ghost use Rattle.cfi_elf.specs.ElfFiles.{file_view};
     ghost use Rattle.cfi_elf.specs.Images.{image_view};
-    ghost use Rattle.cfi_processes.specs.Modules.{loaded_module, module_view};
-    ghost use Rattle.cfi_processes.specs.Objects.{HasFramesOf, IsDebugTable, bias_of, has_table};
-    ghost use Rattle.cfi_processes.specs.Objects.{module_of, object_in, object_view, object_with};
+    ghost use Rattle.cfi_processes.specs.Modules.{loaded_module, loaded_module_view};
+    ghost use Rattle.cfi_processes.specs.Objects.{HasFramesOf, IsDebugTable, bias_of, is_compiled};
+    ghost use Rattle.cfi_processes.specs.Objects.{object_module, object_in, object_view};
+    ghost use Rattle.cfi_processes.specs.Objects.{object_with};
     ghost use Rattle.cfi_processes.specs.Objects.{with_either};
     ghost use Rattle.gimli_cfi.specs.SectionSources.{source_view};
     ghost use Rattle.gimli_cfi.specs.Words.{OutOfMemory};
@@ -145,7 +146,7 @@ impl<'file> Object<'file> {
     /// Whether the file has a compiled table: where it has no header, so that each row that isn't
     /// kept would be found by a scan of the section. Does not allocate.
     pub fn has_table(&self) -> bool
-        ensures { result ≡ has_table (object_view self.now) }
+        ensures { result ≡ is_compiled (object_view self.now) }
     {
         self.header.is_none()
     }
@@ -183,7 +184,8 @@ impl<'file> Object<'file> {
         debug: Option<&'a CompiledTable>,
         mapped: &MappedCode,
     ) -> Option<LoadedModule<'a, EndianSlice<'file, RunTimeEndian>>>
-        ensures module { option_map module_view result ≡ module_of number (object_view self.now)
+        ensures module { option_map loaded_module_view result
+            ≡ object_module number (object_view self.now)
             (record {
               table = option_map (λ table. table.now) table.entry;
               debug = option_map (λ table. table.now) debug.entry;
@@ -204,7 +206,8 @@ impl<'file> Object<'file> {
         debug: Option<DebugTable<'a, EndianSlice<'file, RunTimeEndian>>>,
         mapped: &MappedCode,
     ) -> LoadedModule<'a, EndianSlice<'file, RunTimeEndian>>
-        ensures module { module_view result ≡ loaded_module number (object_view self.now).section
+        ensures module { loaded_module_view result
+            ≡ loaded_module number (object_view self.now).section
             (object_view self.now).header (option_map (λ table. table.now) table.entry)
             (option_map debug_view debug.entry) mapped.now bias }
         ensures frames { HasFramesOf number self.now result }

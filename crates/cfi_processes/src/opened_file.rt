@@ -3,6 +3,7 @@ ghost use Rattle.std.specs.Prelude.{◌≡◌, true};
 ghost use Rattle.cfi_processes.specs.CodeParts.{is_told};
 
 use crate::code_parts::CodeParts;
+use crate::wanted::is_text;
 use cfi_elf::Image;
 
 /// A file of a profile, as it was opened.
@@ -29,12 +30,18 @@ pub struct OpenedFile<'run> {
 impl OpenedFile<'_> {
     ghost use Rattle.std.specs.Prelude.{◌≡◌, option_map};
     ghost use Rattle.cfi_elf.specs.Images.{image_view};
-    ghost use Rattle.cfi_processes.specs.CodeParts.{first_of, image_in};
+    ghost use Rattle.cfi_processes.specs.CodeParts.{beginning_in, image_in};
+    ghost use Rattle.cfi_processes.specs.Wanted.{as_code};
 
-    /// Returns the file, as far as it was read. Does not allocate.
+    /// Returns the file of code, as far as it was read; `None` of a text that the kernel or a
+    /// process tells, also if it is an ELF file. Does not allocate.
     pub fn image(&self) -> Option<Image<'_>>
-        ensures { option_map image_view result ≡ image_in self.now.code }
+        ensures { option_map image_view result
+            ≡ image_in (as_code self.now.name.now self.now.process self.now.code) }
     {
+        if is_text(self.name, self.process) {
+            return None;
+        }
         match &self.code {
             Some(code) => Some(code.image()),
             None => None,
@@ -52,10 +59,10 @@ impl OpenedFile<'_> {
     }
 
     /// Returns the bytes that were read from the beginning on: all of a text that the kernel or a
-    /// process tells, and of a file that was read whole; of another file only its first part. Does
-    /// not allocate.
+    /// process tells, and of a file that was read whole; of another file only its first part.
+    /// `None` where `code` is. Does not allocate.
     pub fn first(&self) -> Option<&[u8]>
-        ensures { option_map (λ bytes. bytes.now) result ≡ first_of self.now.code }
+        ensures { option_map (λ bytes. bytes.now) result ≡ beginning_in self.now.code }
     {
         match &self.code {
             Some(code) => Some(code.image().first),

@@ -16,14 +16,14 @@ pub struct Processes {
 
 impl Processes {
     ghost use Rattle.std.specs.Prelude.{◌≡◌, ℕ, [], OnErr, OnOk};
-    ghost use Rattle.cfi_processes.specs.Mappings.{AreInOrder};
+    ghost use Rattle.cfi_processes.specs.Mappings.{AreMappedInOrder};
     ghost use Rattle.cfi_processes.specs.Histories.{mapped, executed, forked};
     ghost use Rattle.cfi_processes.specs.Processes.{Continues, IsAfter, IsChangedBy, IsUnchanged};
-    ghost use Rattle.cfi_processes.specs.Processes.{mappings_of};
+    ghost use Rattle.cfi_processes.specs.Processes.{process_mappings};
 
     /// Nothing is mapped in any process yet. Does not allocate.
     pub fn new(alloc: Global) -> Self
-        ensures nothing { (pid : ℕ) → mappings_of result pid ≡ [] }
+        ensures nothing { (pid : ℕ) → process_mappings result pid ≡ [] }
         ensures history { IsAfter [] result }
     {
         Processes {
@@ -76,8 +76,8 @@ impl Processes {
     /// What is mapped in a process, in the order of addresses; nothing where it isn't known. A
     /// search among the processes by halving.
     pub fn mappings(&self, pid: u32) -> &[MappedCode]
-        ensures mappings { result.now ≡ mappings_of self.now pid }
-        ensures order { AreInOrder 0 result.now }
+        ensures mappings { result.now ≡ process_mappings self.now pid }
+        ensures order { AreMappedInOrder 0 result.now }
     {
         match self.by_pid.get(&pid) {
             Some(mappings) => mappings.as_slice(),

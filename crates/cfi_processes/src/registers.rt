@@ -27,7 +27,7 @@ pub enum SampleMachine {
 
 impl SampleMachine {
     ghost use Rattle.std.specs.Prelude.{◌≡◌};
-    ghost use Rattle.cfi_processes.specs.Registers.{abi_of, machine_named, perf_number};
+    ghost use Rattle.cfi_processes.specs.Registers.{machine_abi, machine_named, perf_number};
     ghost use Rattle.cfi_processes.specs.Registers.{pc_number, register_count};
 
     /// The machine with this name of `uname -m`: `x86_64` or `aarch64`; `None` for another name.
@@ -58,7 +58,7 @@ impl SampleMachine {
     /// DWARF's number of the stack pointer, no bits of a signature on x86-64 and those above the
     /// 48 bits of an address on AArch64, and 1000 operations for an expression.
     pub fn abi(self) -> Abi
-        ensures { result ≡ abi_of self }
+        ensures { result ≡ machine_abi self }
     {
         match self {
             SampleMachine::X86_64 => Abi {

@@ -4,8 +4,8 @@ ghost use Rattle.cfi_read_core.specs.ReaderCalls.{map_ok};
 ghost use Rattle.cfi_step.specs.CachedRows.{AreCachedFor, AreNumbered, KeepsFor};
 ghost use Rattle.cfi_step.specs.ModuleLists.{module_list};
 ghost use Rattle.cfi_processes.specs.Registers.{register_count};
-ghost use Rattle.cfi_processes.specs.SampleStacks.{IsUnwound, IsWalkOver, innermost_of};
-ghost use Rattle.cfi_processes.specs.SampleStacks.{known_register, known_registers, memory_of};
+ghost use Rattle.cfi_processes.specs.SampleStacks.{IsSampleUnwound, IsWalkOver, innermost_of};
+ghost use Rattle.cfi_processes.specs.SampleStacks.{known_register, known_registers, stack_memory};
 ghost use Rattle.cfi_processes.specs.SampleStacks.{of_64_bits};
 ghost use Rattle.cfi_perf.specs.Samples.{registers_view, user_view};
 
@@ -67,7 +67,7 @@ pub fn unwind_sample<R: Reader<Offset = usize>, S: UnwindContextStorage<usize>>(
     requires numbered { AreNumbered (module_list modules) }
     requires cached { AreCachedFor R.position 8 S.Rules.limit S.Stack.limit S.Rules.copies_free
         (module_list modules) cache.old }
-    ensures unwound { IsUnwound R.position (λ n. n)
+    ensures unwound { IsSampleUnwound R.position (λ n. n)
         S.Rules.limit S.Stack.limit S.Rules.copies_free
         (module_list modules.entry) machine (user_view user.now)
         (record { registers = registers.old; caller = caller.old; frames = frames.old })
@@ -105,7 +105,7 @@ fn walk_from<R: Reader<Offset = usize>, S: UnwindContextStorage<usize>>(
         (module_list modules) cache.old }
     ensures walk { IsWalkOver R.position (λ n. n)
         S.Rules.limit S.Stack.limit S.Rules.copies_free (module_list modules.entry) machine
-        (memory_of stack.now innermost.stack_pointer) innermost.pc registers.old
+        (stack_memory stack.now innermost.stack_pointer) innermost.pc registers.old
         (record { registers = registers.old; caller = caller.old; frames = frames.old })
         result
         (record { registers = registers.new; caller = caller.new; frames = frames.new }) }

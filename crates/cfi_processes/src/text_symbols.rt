@@ -1,8 +1,8 @@
 //! Symbols that are told in a text, a line each.
 ghost use Rattle.std.specs.Prelude.{◌≡◌, IfOk, map, option_map};
 ghost use Rattle.std.specs.List.Sorted.{IsNonDecreasingBy};
-ghost use Rattle.cfi_processes.specs.TextSymbols.{digit_of, lines_of, number_of, parts_at};
-ghost use Rattle.cfi_processes.specs.TextSymbols.{parts_view, with_hexadecimal_digit};
+ghost use Rattle.cfi_processes.specs.TextSymbols.{digit_of, text_lines, told_number, split_at_byte};
+ghost use Rattle.cfi_processes.specs.TextSymbols.{text_parts_view, with_hexadecimal_digit};
 
 use cfi_elf::bytes::bytes_from;
 use std::alloc::{AllocError, Global};
@@ -27,7 +27,7 @@ pub struct TextSymbol<'run> {
 pub struct Parts<'run> {
     /// What is before the byte.
     pub front: &'run [u8],
-    /// What is behind it.
+    /// What is after it.
     pub rest: &'run [u8],
 }
 
@@ -73,15 +73,15 @@ impl<'run> SortedSymbols<'run> {
 
 /// The lines of a text. Fails where memory is refused.
 pub fn lines_of<'run>(alloc: Global, text: &'run [u8]) -> Result<Vec<&'run [u8]>, AllocError>
-    ensures { IfOk result (λ lines. map (λ line. line.now) lines.items ≡ lines_of text.now) }
+    ensures { IfOk result (λ lines. map (λ line. line.now) lines.items ≡ text_lines text.now) }
 {
     text.split(|byte| *byte == b'\n').collect(alloc)
 }
 
-/// What is before the first byte of this value, and what is behind it. Does not
+/// What is before the first byte of this value, and what is after it. Does not
 /// allocate.
 pub fn parts_at(text: &[u8], byte: u8) -> Option<Parts<'_>>
-    ensures { option_map parts_view result ≡ parts_at byte text.now }
+    ensures { option_map text_parts_view result ≡ split_at_byte byte text.now }
 {
     match text.iter().position(|c| *c == byte) {
         Some(place) => Some(Parts {
@@ -95,7 +95,7 @@ pub fn parts_at(text: &[u8], byte: u8) -> Option<Parts<'_>>
 /// The number of one hexadecimal digit or more; `None` where it isn't below 2^64. Does not
 /// allocate.
 pub fn number_of(digits: &[u8]) -> Option<u64>
-    ensures { result ≡ number_of digits.now }
+    ensures { result ≡ told_number digits.now }
 {
     if digits.is_empty() {
         return None;

@@ -13,11 +13,11 @@ pub struct Threads<'names> {
 
 impl<'names> Threads<'names> {
     ghost use Rattle.std.specs.Prelude.{◌≡◌, ℕ, None, OnOk, Some, option_map};
-    ghost use Rattle.cfi_processes.specs.ThreadNames.{bytes_of, given, name_of};
+    ghost use Rattle.cfi_processes.specs.ThreadNames.{name_bytes, thread_given, name_of_thread};
 
     /// No thread has a name yet. Does not allocate.
     pub fn new(alloc: Global) -> Threads<'names>
-        ensures { (tid : ℕ) → name_of result tid ≡ None }
+        ensures { (tid : ℕ) → name_of_thread result tid ≡ None }
     {
         Threads {
             by_tid: BTreeMap::new(alloc),
@@ -26,8 +26,8 @@ impl<'names> Threads<'names> {
 
     /// A thread was given a name. Fails where memory is refused.
     pub fn name(&mut self, tid: u32, name: &'names [u8]) -> Result<(), AllocError>
-        ensures { OnOk result ((t : ℕ) → name_of self.new t
-            ≡ given tid (Some name.now) (name_of self.old) t) }
+        ensures { OnOk result ((t : ℕ) → name_of_thread self.new t
+            ≡ thread_given tid (Some name.now) (name_of_thread self.old) t) }
     {
         self.by_tid.insert(tid, Name::new(name))?;
         Ok(())
@@ -35,8 +35,8 @@ impl<'names> Threads<'names> {
 
     /// A thread was made by another one, whose name it has. Fails where memory is refused.
     pub fn fork(&mut self, tid: u32, parent: u32) -> Result<(), AllocError>
-        ensures { OnOk result ((t : ℕ) → name_of self.new t
-            ≡ given tid (name_of self.old parent) (name_of self.old) t) }
+        ensures { OnOk result ((t : ℕ) → name_of_thread self.new t
+            ≡ thread_given tid (name_of_thread self.old parent) (name_of_thread self.old) t) }
     {
         match self.get(parent) {
             Some(name) => {
@@ -51,7 +51,7 @@ impl<'names> Threads<'names> {
 
     /// The name of a thread; `None` where none is known. A search by halving.
     pub fn get(&self, tid: u32) -> Option<Name<'names>>
-        ensures { bytes_of result ≡ name_of self.now tid }
+        ensures { name_bytes result ≡ name_of_thread self.now tid }
     {
         match self.by_tid.get(&tid) {
             Some(name) => Some(*name),

@@ -1,6 +1,6 @@
 use Rattle.std.proofs.Common.{◌∙◌, length, sym}
 use Rattle.cfi_read_core.specs.ByteOrder.{is_big}
-use Rattle.cfi_perf.specs.Records.{framed_view}
+use Rattle.cfi_perf.specs.RecordFrames.{framed_view}
 use Rattle.cfi_perf.proofs.BuildSteps.{entry_here, entry_passed, entry_refused, none_left}
 use Rattle.cfi_perf.proofs.build_ids.id_of.Goals as goal
 

@@ -1,6 +1,6 @@
 use Rattle.std.proofs.Common.{length, sym, arith}
 use Rattle.cfi_read_core.specs.ByteOrder.{is_big}
-use Rattle.cfi_perf.specs.Records.{framed_view}
+use Rattle.cfi_perf.specs.RecordFrames.{framed_view}
 use Rattle.cfi_perf.proofs.PipeSteps.{all_counted, none_counted, one_counted}
 use Rattle.cfi_perf.proofs.pipe.attributes_in.Goals as goal
 

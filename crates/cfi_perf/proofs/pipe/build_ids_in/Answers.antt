@@ -1,7 +1,7 @@
 use Rattle.std.proofs.Common.{◌∙◌, length, sym}
 use Rattle.std.proofs.lemmas.Bool.{eq-eqb, ne_eqb}
 use Rattle.cfi_read_core.specs.ByteOrder.{is_big}
-use Rattle.cfi_perf.specs.Records.{framed_view}
+use Rattle.cfi_perf.specs.RecordFrames.{framed_view}
 use Rattle.cfi_perf.proofs.PipeSteps.{build_here, build_later, build_refused, no_build}
 use Rattle.cfi_perf.proofs.pipe.build_ids_in.Goals as goal
 

@@ -1,6 +1,6 @@
 use Rattle.std.proofs.Common.{◌∙◌, ap, length, sym, List, ℕ, Some}
 use Rattle.cfi_read_core.specs.ByteOrder.{is_big}
-use Rattle.cfi_perf.specs.Records.{framed_view}
+use Rattle.cfi_perf.specs.RecordFrames.{framed_view}
 use Rattle.cfi_perf.proofs.PipeSteps.{no_section, section_here, section_later, section_refused}
 use Rattle.cfi_perf.proofs.pipe.feature.Goals as goal
 

@@ -2,8 +2,8 @@ use Rattle.std.proofs.Common.{◌-◌, ℕ, List, length, sym, ap, arith}
 use Rattle.std.proofs.lemmas.Bool.{eq-eqb, ne_eqb}
 use Rattle.cfi_read_core.specs.ByteOrder.{is_big}
 use Rattle.cfi_read_core.specs.SliceReaders.{slice_over, slice_position}
-use Rattle.cfi_perf.specs.declared.attribute.EventEntry.{EventEntry}
-use Rattle.cfi_perf.specs.Layouts.{pipe_event}
+use Rattle.cfi_perf.specs.declared.event_entry.EventEntry.{EventEntry}
+use Rattle.cfi_perf.specs.EventEntries.{pipe_event}
 use Rattle.cfi_perf.specs.Pipes.{pipe_entries}
 use Rattle.cfi_perf.proofs.EntrySteps.{entries_end, entry_read, entry_refused}
 use Rattle.cfi_perf.proofs.EventSteps.{all_entries}

@@ -1,9 +1,9 @@
 use Rattle.std.proofs.Common.{◌≡◌, ◌≤◌, ◌+◌, ◌-◌, length}
 use Rattle.cfi_read_core.specs.ByteOrder.{is_big}
 use Rattle.cfi_read_core.specs.SliceReaders.{slice_position}
-use Rattle.cfi_perf.specs.Layouts.{pipe_event}
+use Rattle.cfi_perf.specs.EventEntries.{pipe_event}
 use Rattle.cfi_perf.specs.Pipes.{pipe_entries}
-use Rattle.cfi_perf.specs.Results.{entries}
+use Rattle.cfi_perf.specs.ByteReads.{entries}
 use Rattle.cfi_perf.proofs.pipe.stand_first.Given as goal
 
 -- those that were read and those that can be read are all

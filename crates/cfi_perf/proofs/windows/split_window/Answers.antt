@@ -1,10 +1,10 @@
 use Rattle.std.proofs.Common.{rules, ◌++◌, ◌≡◌, ◌<◌, ◌+◌, ◌-◌, ℕ, Some, None, Ok, Err, ap, ◌∙◌, drop, arith}
 use Rattle.std.proofs.lemmas.Result.{err_from_is_err_and}
 use Rattle.cfi_read_core.specs.ByteOrder.{is_big}
-use Rattle.cfi_perf.specs.Results.{part, read_from}
-use Rattle.cfi_perf.specs.RecordHeaders.{record_header}
+use Rattle.cfi_perf.specs.ByteReads.{part, read_from}
+use Rattle.cfi_perf.specs.RecordFrames.{record_header}
 use Rattle.cfi_perf.proofs.RecordSteps.{with_others}
-use Rattle.cfi_perf.proofs.WindowSteps.{behind_length, cut_body, cut_header, cut_trace, framed, small_size}
+use Rattle.cfi_perf.proofs.WindowSteps.{after_length, cut_body, cut_header, cut_trace, framed, small_size}
 use Rattle.cfi_perf.proofs.windows.split_window.Goals as goal
 
 pub returns-in_default-clause-framed : goal.returns-in_default-clause-framed
@@ -33,9 +33,9 @@ returns-in_err-more-clause-framed c others of =
     let fits : header.size < 65536 = search rules in
     let some : part window 8 (header.size - 8) ≡ Some c.in-Some.body.now = search rules in
     let same : c.args.left - header.size ≡ c.saturating_sub.result = omega arith in
-    let behind = behind_length big window others c.args.left of header.size ∙ same in
+    let after = after_length big window others c.args.left of header.size ∙ same in
     let p = err_from_is_err_and c.from_residual.result c.from_residual.ensures.1 in
-    rw (p.1, p.2) (cut_trace big window others c.args.left of header is (omega arith) fits c.in-Some.body.now some c.in_err-more.field-0.0 (c.in_err-more.ensures.others (drop header.size (window ++ others)) behind))
+    rw (p.1, p.2) (cut_trace big window others c.args.left of header is (omega arith) fits c.in-Some.body.now some c.in_err-more.field-0.0 (c.in_err-more.ensures.others (drop header.size (window ++ others)) after))
 
 pub returns-clause-framed : goal.returns-clause-framed
 returns-clause-framed c others of =
@@ -46,7 +46,7 @@ returns-clause-framed c others of =
     let fits : header.size < 65536 = search rules in
     let some : part window 8 (header.size - 8) ≡ Some c.in-Some.body.now = search rules in
     let same : c.args.left - header.size ≡ c.saturating_sub.result = omega arith in
-    let behind = behind_length big window others c.args.left of header.size ∙ same in
+    let after = after_length big window others c.args.left of header.size ∙ same in
     let more = c.in_ok-more.more in
     ap (λ (n : ℕ). with_others header c.in-Some.body.now (drop (n + more) (window ++ others))) c.from-size.ensures
-    ∙ framed big window others c.args.left of header is (omega arith) fits c.in-Some.body.now some more (c.in_ok-more.ensures.others (drop header.size (window ++ others)) behind)
+    ∙ framed big window others c.args.left of header is (omega arith) fits c.in-Some.body.now some more (c.in_ok-more.ensures.others (drop header.size (window ++ others)) after)

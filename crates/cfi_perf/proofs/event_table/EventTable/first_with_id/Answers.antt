@@ -1,7 +1,7 @@
 use Rattle.std.proofs.Common.{sym, ap, ◌∙◌, Some}
 use Rattle.cfi_read_core.specs.ByteOrder.{is_big}
 use Rattle.cfi_read_core.specs.SliceReaders.{slice_over, slice_position}
-use Rattle.cfi_perf.specs.Layouts.{entry}
+use Rattle.cfi_perf.specs.EventEntries.{entry}
 use Rattle.cfi_perf.proofs.EntrySteps.{entries_end, entry_read, entry_refused}
 use Rattle.cfi_perf.proofs.EventSteps.{all_entries, found_here, found_later, of_entries}
 use Rattle.cfi_perf.proofs.event_table.EventTable.first_with_id.Goals as goal

@@ -3,7 +3,7 @@ use Rattle.std.specs.Int.{w64}
 use Rattle.cfi_read_core.specs.ByteOrder.{is_big}
 use Rattle.cfi_read_core.specs.Numbers.{unsigned}
 use Rattle.cfi_read_core.specs.SliceReaders.{slice_over, slice_position}
-use Rattle.cfi_perf.specs.FileParts.{parts_in}
+use Rattle.cfi_perf.specs.FileParts.{parts_at_hand}
 use Rattle.cfi_perf.proofs.EntrySteps.{entries_end, entry_read, entry_refused}
 use Rattle.cfi_perf.proofs.EventSteps.{all_entries, has_number, ids_found, number_here, number_later}
 use Rattle.cfi_perf.proofs.event_table.EventTable.has_id.Goals as goal
@@ -13,7 +13,7 @@ loop-index-init c =
     let self = c.args.self.now in
     let bytes = c.in-Some.bytes.now in
     ap (has_number c.args.id) (all_entries (length bytes / 8) (unsigned w64) (slice_position is_big c.new-ids.result) (slice_over bytes (is_big self.endian)) c.new-ids.ensures)
-    ∙ ids_found (is_big self.endian) (parts_in self.bytes) c.args.entry.now c.args.id bytes c.in-Some.ensures
+    ∙ ids_found (is_big self.endian) (parts_at_hand self.bytes) c.args.entry.now c.args.id bytes c.in-Some.ensures
 
 pub returns-in_default-read_u64 : goal.returns-in_default-read_u64
 returns-in_default-read_u64 c = sym (ap (has_number c.args.id) (entry_refused _ _ _ _ _ _ c.in_default-read_u64.ensures.0)) ∙ c.loop-index.invariant

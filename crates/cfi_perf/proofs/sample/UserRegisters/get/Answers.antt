@@ -1,5 +1,5 @@
 use Rattle.std.proofs.Common.{◌≡◌, ◌<◌, ◌^◌, ℕ, Option, None, rules}
-use Rattle.cfi_perf.specs.Samples.{register_of, registers_view}
+use Rattle.cfi_perf.specs.Samples.{sampled_register, registers_view}
 use Rattle.cfi_perf.proofs.Registers.{none_there, there_as}
 use Rattle.cfi_perf.proofs.sample.UserRegisters.get.Goals as goal
 
@@ -14,5 +14,5 @@ returns-then-number-ge64-clause-there c =
 
 pub returns-in-Err-clause-there : goal.returns-in-Err-clause-there
 returns-in-Err-clause-there c =
-    let none : ◌≡◌ {A = Option ℕ} None (register_of (registers_view c.args.self.now) c.args.number) = search rules in
+    let none : ◌≡◌ {A = Option ℕ} None (sampled_register (registers_view c.args.self.now) c.args.number) = search rules in
     there_as (registers_view c.args.self.now) c.args.number None c.args.self.now.whole none

@@ -2,8 +2,8 @@ use Rattle.std.proofs.Common.{sym, ap, ◌∙◌, false, true, ◌≡◌, rules}
 use Rattle.std.specs.Option.{is_some}
 use Rattle.cfi_read_core.specs.ByteOrder.{is_big}
 use Rattle.cfi_read_core.specs.SliceReaders.{slice_over, slice_position}
-use Rattle.cfi_perf.specs.Layouts.{entry}
-use Rattle.cfi_perf.specs.FileParts.{parts_in}
+use Rattle.cfi_perf.specs.EventEntries.{entry}
+use Rattle.cfi_perf.specs.FileParts.{parts_at_hand}
 use Rattle.cfi_perf.proofs.AroundSteps.{are_known, one_known, one_unknown}
 use Rattle.cfi_perf.proofs.EntrySteps.{entries_end, entry_read, entry_refused}
 use Rattle.cfi_perf.proofs.EventSteps.{all_entries}
@@ -23,14 +23,14 @@ pub returns-then-is_none : goal.returns-then-is_none
 returns-then-is_none c =
     let events = c.args.self.now.events in
     let entry = entry_read events.count c.loop-index.index (entry events.form) (slice_position is_big c.loop-index.entries) (slice_position is_big c.read_entry.new.input) c.in-Ok.entry c.loop-index-test.true c.in-Ok.ensures in
-    let none : is_some (parts_in c.args.self.now.bytes c.in-Ok.entry.ids) ≡ false = search rules in
+    let none : is_some (parts_at_hand c.args.self.now.bytes c.in-Ok.entry.ids) ≡ false = search rules in
     sym (one_unknown c.args.self.now.bytes _ c.in-Ok.entry _ entry none) ∙ c.loop-index.invariant
 
 pub loop-index-preserved : goal.loop-index-preserved
 loop-index-preserved c =
     let events = c.args.self.now.events in
     let entry = entry_read events.count c.loop-index.index (entry events.form) (slice_position is_big c.loop-index.entries) (slice_position is_big c.read_entry.new.input) c.in-Ok.entry c.loop-index-test.true c.in-Ok.ensures in
-    let some : is_some (parts_in c.args.self.now.bytes c.in-Ok.entry.ids) ≡ true = search rules in
+    let some : is_some (parts_at_hand c.args.self.now.bytes c.in-Ok.entry.ids) ≡ true = search rules in
     sym (one_known c.args.self.now.bytes _ c.in-Ok.entry _ entry some) ∙ c.loop-index.invariant
 
 pub returns : goal.returns

@@ -1,8 +1,8 @@
 use Rattle.std.proofs.Common.{◌≡◌, ◌-◌}
 use Rattle.cfi_read_core.specs.ByteOrder.{is_big}
 use Rattle.cfi_read_core.specs.SliceReaders.{slice_position}
-use Rattle.cfi_perf.specs.Results.{entries}
-use Rattle.cfi_perf.specs.Layouts.{entry}
+use Rattle.cfi_perf.specs.ByteReads.{entries}
+use Rattle.cfi_perf.specs.EventEntries.{entry}
 use Rattle.cfi_perf.specs.ProfilesAround.{has_ids}
 use Rattle.cfi_perf.specs.Sections.{sections_view}
 use Rattle.cfi_perf.proofs.AroundSteps.{are_known}

@@ -4,7 +4,7 @@ use Rattle.std.specs.declared.alloc.AllocError.{AllocError}
 use Rattle.std.proofs.lemmas.Iterator.{YieldsList-from_slice}
 use Rattle.std.proofs.lemmas.Iterator.Adapters.{items_from_extend}
 use Rattle.std.proofs.lemmas.Iterator.Consumers.{YieldsList-from_filter_map}
-use Rattle.cfi_processes.specs.Mappings.{AreInOrder, part_below, part_from}
+use Rattle.cfi_processes.specs.Mappings.{AreMappedInOrder, part_below, part_from}
 use Rattle.cfi_processes.proofs.MappedOver.{joined, over_is}
 use Rattle.cfi_processes.proofs.MappedOrder.{over_in_order}
 use Rattle.cfi_processes.proofs.mappings.Mappings.over.Goals as goal
@@ -21,4 +21,4 @@ returns c =
     joined (filter_map (part_below c.args.new.start) old) c.args.new (filter_map (part_from c.args.new.end) old) c.in_ok-list.ensures.items below c.in_ok-push.ensures.items above ∙ sym (over_is c.args.new old c.requires.bytes)
 
 pub invariant_of-result : goal.invariant_of-result
-invariant_of-result c = subst (AreInOrder 0) (sym (returns c)) (over_in_order c.args.new c.args.old.now c.requires.bytes c.requires.order)
+invariant_of-result c = subst (AreMappedInOrder 0) (sym (returns c)) (over_in_order c.args.new c.args.old.now c.requires.bytes c.requires.order)

@@ -1,5 +1,6 @@
 use Rattle.std.proofs.Common.{◌≡◌, drop, map}
-use Rattle.cfi_processes.specs.KnownFiles.{kernel_names, known_view}
+use Rattle.cfi_processes.specs.KernelSites.{kernel_names}
+use Rattle.cfi_processes.specs.KnownFiles.{known_view}
 use Rattle.cfi_processes.proofs.process_code.ProcessCode.kernel_names.Given as goal
 
 abbrev pub invariant-loop-mapped : goal.invariant-loop-mapped

@@ -2,7 +2,7 @@ use Rattle.std.proofs.Common.{◌≡◌, ℕ, Some, ap, ◌∙◌}
 use Rattle.cfi_processes.specs.declared.processes.Processes.{Processes}
 use Rattle.cfi_processes.specs.Mappings.{mapped_over}
 use Rattle.cfi_processes.specs.Histories.{mapped, mappings_after}
-use Rattle.cfi_processes.specs.Processes.{mappings_of}
+use Rattle.cfi_processes.specs.Processes.{process_mappings}
 use Rattle.cfi_processes.proofs.AfterChanges.{one_more_change}
 use Rattle.cfi_processes.proofs.ByPid.{updated_by}
 use Rattle.cfi_processes.proofs.processes.Processes.map.Goals as goal
@@ -11,7 +11,7 @@ pub returns-in_ok-insert-clause-history : goal.returns-in_ok-insert-clause-histo
 returns-in_ok-insert-clause-history c =
     let old = c.args.self.now in
     let new : Processes = record old { by_pid = c.insert.new.self } in
-    let changed : (q : ℕ) → mappings_of new q ≡ mappings_after (mapped c.args.pid c.args.new) (mappings_of old) q =
-    updated_by old.by_pid c.insert.new.self c.args.pid (Some c.in_ok-mappings.mappings) (λ q. mapped_over c.args.new (mappings_of old q))
+    let changed : (q : ℕ) → process_mappings new q ≡ mappings_after (mapped c.args.pid c.args.new) (process_mappings old) q =
+    updated_by old.by_pid c.insert.new.self c.args.pid (Some c.in_ok-mappings.mappings) (λ q. mapped_over c.args.new (process_mappings old q))
     c.in_ok-insert.ensures.updates (c.in_ok-mappings.ensures ∙ ap (mapped_over c.args.new) c.mappings.ensures.mappings) in
-    one_more_change (mappings_of old) (mappings_of new) (mapped c.args.pid c.args.new) changed
+    one_more_change (process_mappings old) (process_mappings new) (mapped c.args.pid c.args.new) changed

@@ -1,9 +1,0 @@
-use Rattle.std.proofs.Common.{◌≡◌}
-use Rattle.cfi_object.specs.FileParts.{AreOfInput}
-use Rattle.cfi_processes.specs.ReadParts.{image_of}
-use Rattle.cfi_processes.proofs.needed.read_needed.Given as goal
-
-abbrev pub invariant-loop : goal.invariant-loop
-invariant-loop g l =
-    let known = g.I.FileInput.bytes in
-    AreOfInput (known l.fn.input) (image_of l.parts) × (known l.input ≡ known l.fn.input)

@@ -1,0 +1,11 @@
+use Rattle.std.proofs.Common.{◌≡◌, true, List, drop, map}
+use Rattle.cfi_processes.specs.OpenedFiles.{AreOpenedAs, Opened, are_whole}
+use Rattle.cfi_processes.specs.Wanted.{wanted_view}
+use Rattle.cfi_processes.proofs.FileLemmas.{OpensOn}
+use Rattle.cfi_processes.proofs.read_files.read_files.Given as goal
+
+abbrev pub invariant-loop-file : goal.invariant-loop-file
+invariant-loop-file g l =
+    ((first : List Opened) × AreOpenedAs l.opened.items first
+    × OpensOn (g.O.Opener.may_open l.opener) g.O.File.Read.remaining (map wanted_view l.files) (map wanted_view (drop l.file-index l.files)) first)
+    × (l.whole ≡ true → are_whole l.opened.items ≡ true)
