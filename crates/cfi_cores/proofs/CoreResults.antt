@@ -5,7 +5,8 @@ use Rattle.cfi_elf.specs.ElfFiles.{File}
 use Rattle.cfi_processes.specs.declared.registers.SampleMachine.{SampleMachine}
 use Rattle.cfi_cores.specs.declared.core_file.Core.{Core as CoreOfCode}
 use Rattle.cfi_cores.specs.declared.error.CoreError.{CoreError}
-use Rattle.cfi_cores.specs.CoreFiles.{Core, IsCore, IsCoreOf, IsSortedCore, and_then, core_elf, core_headers, core_of, core_view, core_with, machine_of}
+use Rattle.cfi_elf.specs.Results.{and_then}
+use Rattle.cfi_cores.specs.CoreFiles.{Core, IsCore, IsCoreOf, IsSortedCore, core_elf, core_headers, core_of, core_view, core_with, machine_of}
 
 module _ (bytes : List ℕ) where
   abbrev with_headers : SampleMachine → List ProgramHeader → Result Core CoreError

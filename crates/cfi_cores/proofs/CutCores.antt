@@ -14,13 +14,13 @@ use Rattle.cfi_elf.specs.Headers.{file_header, file_header_bytes, program_header
 use Rattle.cfi_elf.specs.Images.{Image, bytes_at, if_read, whole}
 use Rattle.cfi_elf.specs.Options.{or_else}
 use Rattle.cfi_elf.specs.Results.{and_then, or_missing}
-use Rattle.cfi_elf.specs.Sections.{first_section_header}
+use Rattle.cfi_elf.specs.SectionTables.{first_section_header}
 use Rattle.cfi_elf.specs.SegmentLists.{segments}
-use Rattle.cfi_elf.specs.Segments.{program_headers, program_table, segment_count}
+use Rattle.cfi_elf.specs.SegmentLists.{program_headers, program_table, segment_count}
 use Rattle.cfi_elf.proofs.ImageParts.{part_of_part}
 use Rattle.cfi_processes.specs.declared.registers.SampleMachine.{SampleMachine}
 use Rattle.cfi_cores.specs.declared.error.CoreError.{CoreError}
-use Rattle.cfi_cores.specs.CoreFiles.{and_then as and_then_core, core_elf, core_headers, core_of, core_with, machine_of, or_elf_error}
+use Rattle.cfi_cores.specs.CoreFiles.{core_elf, core_headers, core_of, core_with, machine_of, or_elf_error}
 
 -- ---- results
 
@@ -178,6 +178,6 @@ module _ (first bytes : List ℕ) (is : part bytes 0 (length first) ≡ Some fir
       let there : core_elf bytes ≡ Ok f = ap or_elf_error (same_core long file read) in
       let cut_listed : segments (with_image (whole first) file) ≡ Ok headers = ap segments (sym again) ∙ of_elf (segments file) headers listed in
       let all_listed : core_headers f ≡ Ok headers = ap or_elf_error (same_segments file few headers cut_listed) in
-      ap (λ (r : Result File CoreError). and_then_core r (λ file. and_then_core (machine_of file) (λ machine. and_then_core (core_headers file) (λ headers. Ok (core_with machine bytes headers))))) there
-      ∙ (ap (λ (r : Result SampleMachine CoreError). and_then_core r (λ machine. and_then_core (core_headers f) (λ headers. Ok (core_with machine bytes headers)))) known
-      ∙ ap (λ (r : Result (List ProgramHeader) CoreError). and_then_core r (λ headers. Ok (core_with machine bytes headers))) all_listed)
+      ap (λ (r : Result File CoreError). and_then r (λ file. and_then (machine_of file) (λ machine. and_then (core_headers file) (λ headers. Ok (core_with machine bytes headers))))) there
+      ∙ (ap (λ (r : Result SampleMachine CoreError). and_then r (λ machine. and_then (core_headers f) (λ headers. Ok (core_with machine bytes headers)))) known
+      ∙ ap (λ (r : Result (List ProgramHeader) CoreError). and_then r (λ headers. Ok (core_with machine bytes headers))) all_listed)

@@ -10,4 +10,3 @@ mod StackWindows
 mod PartialCores
 mod CutCores
 mod PartBytes
-pub mod WholeImages

@@ -12,7 +12,7 @@ use Rattle.cfi_elf.specs.Fields.{part}
 use Rattle.cfi_elf.specs.Images.{ArePartsOf, IsPartOf, Part, in_part, in_parts, part_view, parts_view}
 use Rattle.cfi_elf.specs.Options.{or_else}
 use Rattle.cfi_elf.proofs.ImageParts.{part_of_part}
-use Rattle.cfi_cores.specs.CoreParts.{IsAt}
+use Rattle.cfi_cores.specs.StackWindows.{AreFrom}
 use Rattle.cfi_cores.specs.CoreSegments.{bytes_of}
 
 -- ---- a part
@@ -85,7 +85,7 @@ all_of bytes found h size is there =
 -- ---- bytes from a place on
 
 -- those of a part behind a distance
-pub rest_of_part : (bytes read : List ℕ) (start i offset : ℕ) → start + i ≡ offset → part bytes start (length read) ≡ Some read → IsAt bytes offset (drop i read)
+pub rest_of_part : (bytes read : List ℕ) (start i offset : ℕ) → start + i ≡ offset → part bytes start (length read) ≡ Some read → AreFrom bytes offset (drop i read)
 rest_of_part bytes read start i offset at of =
     let (fits, same) = part_there bytes read start (length read) of in
     by (nat_le i (length read)) refl same
@@ -106,7 +106,7 @@ rest_of_part bytes read start i offset at of =
         ap (λ (xs : List ℕ). take (length xs) (drop offset bytes)) none ∙ sym none
 
 -- at most so many of them
-pub fewer_at : (bytes found : List ℕ) (offset n : ℕ) → IsAt bytes offset found → IsAt bytes offset (take n found)
+pub fewer_at : (bytes found : List ℕ) (offset n : ℕ) → AreFrom bytes offset found → AreFrom bytes offset (take n found)
 fewer_at bytes found offset n is =
     let long = length-take n found in
     let fewer : min n (length found) ≤ length found = omega arith in
@@ -125,7 +125,7 @@ fewer_at bytes found offset n is =
             ap (λ (k : ℕ). take k found) is ∙ (take_all (length found) found (omega arith) ∙ sym (take_all n found past))
 
 -- and at most those of a segment
-pub of_segment : (bytes found : List ℕ) (h : ProgramHeader) (behind : ℕ) → behind + length found ≤ h.p_filesz → IsAt bytes (h.p_offset + behind) found → found ≡ take (length found) (drop behind (bytes_of bytes h))
+pub of_segment : (bytes found : List ℕ) (h : ProgramHeader) (behind : ℕ) → behind + length found ≤ h.p_filesz → AreFrom bytes (h.p_offset + behind) found → found ≡ take (length found) (drop behind (bytes_of bytes h))
 of_segment bytes found h behind fits is =
     let n = length found in
     let long : behind + (h.p_filesz - behind) ≡ h.p_filesz = omega (arith, fits) in

@@ -7,7 +7,8 @@ use Rattle.std.specs.Ordering.{is_lt, nat_cmp}
 use Rattle.std.proofs.lemmas.List.{get_or-map, length-map}
 use Rattle.cfi_elf.specs.declared.program_header.ProgramHeader.{ProgramHeader}
 use Rattle.cfi_cores.specs.declared.segments.CoreSegment.{CoreSegment as SegmentOfCode}
-use Rattle.cfi_cores.specs.CoreParts.{ArePlaces, loaded_headers, segment_at}
+use Rattle.cfi_cores.specs.CoreHeads.{ArePlaces, loaded_headers}
+use Rattle.cfi_cores.specs.PartialCores.{segment_at}
 use Rattle.cfi_cores.specs.CoreSegments.{AreSorted, CoreSegment, bytes_of, loaded_in, segment_view}
 
 no_place : ℕ → ProgramHeader
@@ -67,20 +68,3 @@ module _ (bytes : List ℕ) where
     stable = stable (loaded_headers headers) places are.stable;
     view = viewed places;
   }
-
--- segments at places that rise rise too
-module _ (bytes : List ℕ) (segments : List SegmentOfCode) (places : List ProgramHeader) (are : map segment_view segments ≡ map (segment_at bytes) places) where
-  as_many : length segments ≡ length places
-  as_many = sym (length-map segments segment_view) ∙ (ap length are ∙ length-map places (segment_at bytes))
-
-  start_at : (i : ℕ) (d : SegmentOfCode) (e : ProgramHeader) → i < length segments → (get_or segments i d).start ≡ (get_or places i e).p_vaddr
-  start_at i d e inside =
-      let long = as_many in
-      ap (λ (s : CoreSegment). s.start) (sym (get_or-map segment_view segments i d (segment_view d) inside))
-      ∙ (ap (λ (xs : List CoreSegment). (get_or xs i (segment_view d)).start) are
-      ∙ ap (λ (s : CoreSegment). s.start) (get_or-map (segment_at bytes) places i e (segment_view d) (omega (arith, inside, long))))
-
-  pub in_order : IsNonDecreasingBy (λ (h : ProgramHeader). h.p_vaddr) places → IsNonDecreasingBy (λ (s : SegmentOfCode). s.start) segments
-  in_order is i j d low inside =
-      let long = as_many in
-      rw (start_at i d (no_place 0) (omega (arith, low, inside)), start_at j d (no_place 0) inside) (is i j (no_place 0) low (omega (arith, inside, long)))

@@ -2,7 +2,7 @@
 use Rattle.std.proofs.Common.{◌≡◌, ◌≤◌, ℕ, zero, suc, List, [], ◌∷◌, length, map, Option, Some, None, refl, arith}
 use Rattle.std.specs.List.{slice_get}
 use Rattle.std.specs.Option.{option_and_then}
-use Rattle.cfi_processes.specs.Registers.{place_of, x86_64_by_dwarf}
+use Rattle.cfi_processes.specs.Registers.{place_of_name, x86_64_by_dwarf}
 use Rattle.cfi_cores.specs.CoreRegisters.{core_place_x86_64, x86_64_in_cores}
 
 -- what comes of the element at an index, by the list of what comes of each
@@ -16,12 +16,12 @@ of_each f (x ∷ xs) (y ∷ ys) e (suc k) = let rest : map f xs ≡ map Some ys 
 abbrev pub places : List ℕ
 places = 10 ∷ 12 ∷ 11 ∷ 5 ∷ 13 ∷ 14 ∷ 4 ∷ 19 ∷ 9 ∷ 8 ∷ 7 ∷ 6 ∷ 3 ∷ 2 ∷ 1 ∷ 0 ∷ 16 ∷ []
 
-each_place : map (place_of x86_64_in_cores) x86_64_by_dwarf ≡ map Some places
+each_place : map (place_of_name x86_64_in_cores) x86_64_by_dwarf ≡ map Some places
 each_place = refl
 
 pub by_number : (k : ℕ) → core_place_x86_64 k ≡ slice_get places k
 unfolding core_place_x86_64
-by_number k = of_each (place_of x86_64_in_cores) x86_64_by_dwarf places each_place k
+by_number k = of_each (place_of_name x86_64_in_cores) x86_64_by_dwarf places each_place k
 
 pub past_the_end : (xs : List ℕ) (k : ℕ) → length xs ≤ k → slice_get xs k ≡ None
 past_the_end [] k past = refl

@@ -7,7 +7,7 @@ use Rattle.cfi_elf.proofs.NoteSteps.{error_is, first_is, none_are}
 use Rattle.cfi_processes.specs.declared.registers.SampleMachine.{SampleMachine}
 use Rattle.cfi_cores.specs.declared.error.CoreError.{CoreError}
 use Rattle.cfi_cores.specs.declared.error.CoreError.TheVariants.{NoteCut}
-use Rattle.cfi_cores.specs.Contents.{Contents, ended_by, followed_by, nothing, of_all, of_note}
+use Rattle.cfi_cores.specs.Contents.{Contents, ended_by, then_contents, no_contents, of_all, of_note}
 use Rattle.cfi_cores.specs.CoreThreads.{CoreThread}
 use Rattle.cfi_cores.specs.MappedFiles.{CoreMapping}
 
@@ -35,38 +35,38 @@ same threads ts mapped ms vector vs signal ss name ns error a b c d e =
     ∙ (ap (λ (x : Option (List ℕ)). record { threads = ts; mapped = ms; vector = vs; siginfo = x; name = name; error = error }) d
     ∙ ap (λ (x : Option (List ℕ)). record { threads = ts; mapped = ms; vector = vs; siginfo = ss; name = x; error = error }) e)))
 
-assoc : (a b c : Contents) → followed_by (followed_by a b) c ≡ followed_by a (followed_by b c)
+assoc : (a b c : Contents) → then_contents (then_contents a b) c ≡ then_contents a (then_contents b c)
 assoc a b c = by a.error b.error
   where
-    by : (x y : Option CoreError) → followed_by (followed_by (with_error a x) (with_error b y)) c ≡ followed_by (with_error a x) (followed_by (with_error b y) c)
+    by : (x y : Option CoreError) → then_contents (then_contents (with_error a x) (with_error b y)) c ≡ then_contents (with_error a x) (then_contents (with_error b y) c)
     by (Some e) y = refl
     by None (Some e) = refl
     by None None =
         same _ _ _ _ _ _ _ _ _ _ c.error (append_assoc a.threads b.threads c.threads) (or_else_assoc a.mapped b.mapped c.mapped)
         (or_else_assoc a.vector b.vector c.vector) (or_else_assoc a.siginfo b.siginfo c.siginfo) (or_else_assoc a.name b.name c.name)
 
-pub nothing_more : (a : Contents) → a ≡ followed_by a nothing
+pub nothing_more : (a : Contents) → a ≡ then_contents a no_contents
 nothing_more a = by a.error
   where
-    by : (x : Option CoreError) → with_error a x ≡ followed_by (with_error a x) nothing
+    by : (x : Option CoreError) → with_error a x ≡ then_contents (with_error a x) no_contents
     by (Some e) = refl
     by None = sym (same _ _ _ _ _ _ _ _ _ _ None (append-nil a.threads) (or_else_none a.mapped) (or_else_none a.vector) (or_else_none a.siginfo) (or_else_none a.name))
 
 -- ---- loops over them
 
-pub one_read : (old new one rest all whole : Contents) → new ≡ followed_by old one → all ≡ followed_by one rest → followed_by old all ≡ whole → followed_by new rest ≡ whole
+pub one_read : (old new one rest all whole : Contents) → new ≡ then_contents old one → all ≡ then_contents one rest → then_contents old all ≡ whole → then_contents new rest ≡ whole
 one_read old new one rest all whole is split before =
-    ap (λ (a : Contents). followed_by a rest) is ∙ (assoc old one rest ∙ (ap (followed_by old) (sym split) ∙ before))
+    ap (λ (a : Contents). then_contents a rest) is ∙ (assoc old one rest ∙ (ap (then_contents old) (sym split) ∙ before))
 
-pub all_read : (old all whole : Contents) → all ≡ nothing → followed_by old all ≡ whole → old ≡ whole
-all_read old all whole none before = nothing_more old ∙ (ap (followed_by old) (sym none) ∙ before)
+pub all_read : (old all whole : Contents) → all ≡ no_contents → then_contents old all ≡ whole → old ≡ whole
+all_read old all whole none before = nothing_more old ∙ (ap (then_contents old) (sym none) ∙ before)
 
 module _ (machine : SampleMachine) where
-  pub note_first : (old new : Notes) (note : Note) → items old ≡ Ok note ∷ items new → of_all machine old ≡ followed_by (of_note machine note) (of_all machine new)
+  pub note_first : (old new : Notes) (note : Note) → items old ≡ Ok note ∷ items new → of_all machine old ≡ then_contents (of_note machine note) (of_all machine new)
   note_first old new note e = ap (of_all machine) (first_is old new note e)
 
-  pub cut_first : (old new : Notes) (error : ElfError) → items old ≡ Err error ∷ items new → of_all machine old ≡ followed_by (ended_by NoteCut) (of_all machine new)
+  pub cut_first : (old new : Notes) (error : ElfError) → items old ≡ Err error ∷ items new → of_all machine old ≡ then_contents (ended_by NoteCut) (of_all machine new)
   cut_first old new error e = ap (of_all machine) (error_is old new error e)
 
-  pub no_note : (old : Notes) → items old ≡ [] → of_all machine old ≡ nothing
+  pub no_note : (old : Notes) → items old ≡ [] → of_all machine old ≡ no_contents
   no_note old e = ap (of_all machine) (none_are old e)

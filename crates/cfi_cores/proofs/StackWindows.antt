@@ -13,29 +13,31 @@ use Rattle.cfi_read_core.specs.Addresses.{address, address_width, of_width}
 use Rattle.cfi_read_core.specs.Numbers.{number_of, unsigned}
 use Rattle.cfi_read_core.specs.ReadFunctions.{Extent, Read, Source, ◌>>=◌, ◌>>◌, bytes_of, give, refuse, skip, unexpected_eof}
 use Rattle.cfi_read_core.specs.SliceReaders.{slice_over}
-use Rattle.cfi_expression.specs.Windows.{behind, given, number_in}
+use Rattle.std.specs.Result.{result_ok}
+use Rattle.cfi_expression.specs.Windows.{at_distance, number_in}
 use Rattle.cfi_elf.specs.declared.program_header.ProgramHeader.{ProgramHeader}
-use Rattle.cfi_cores.specs.CoreParts.{IsStackOf, IsWindowIn, segment_at, start_from}
+use Rattle.cfi_cores.specs.StackWindows.{IsStackOf, IsWindowIn, start_from}
+use Rattle.cfi_cores.specs.PartialCores.{segment_at}
 use Rattle.cfi_cores.specs.CoreSegments.{CoreSegment, last_upto, number_among}
 use Rattle.cfi_cores.specs.CoreSegments as segments
 use Rattle.cfi_cores.proofs.LastSegments.{last_passes}
 
-ok_given : {A : Type 0} (r : Result A Error) (x : A) → given r ≡ Some x → r ≡ Ok x
+ok_given : {A : Type 0} (r : Result A Error) (x : A) → result_ok r ≡ Some x → r ≡ Ok x
 ok_given (Ok y) x is = let same : y ≡ x = cc in ap Ok same
 ok_given (Err e) x is = absurd (cc)
 
 -- ---- a number from a place on
 
 module _ (size : ℕ) (source : Source) where
-  by_offset : (k n : ℕ) (b : Bool) → given (((λ (s : Source) (p : ℕ). (if b then give k else refuse UnsupportedOffset) s p) >>= λ n. skip n >> address size) source 0).value ≡ Some n
-      → (b ≡ true) × (given ((skip k >> address size) source 0).value ≡ Some n)
+  by_offset : (k n : ℕ) (b : Bool) → result_ok (((λ (s : Source) (p : ℕ). (if b then give k else refuse UnsupportedOffset) s p) >>= λ n. skip n >> address size) source 0).value ≡ Some n
+      → (b ≡ true) × (result_ok ((skip k >> address size) source 0).value ≡ Some n)
   by_offset k n true is = (refl, is)
   by_offset k n false is = absurd (cc)
 
   abbrev passed : ℕ → Bool → Read Extent
   passed k b s p = if b then record { value = Ok (record { first = p; last = p + k }); place = p + k } else record { value = Err (unexpected_eof p); place = p }
 
-  by_skip : (k n : ℕ) (b : Bool) → given (((passed k b >>= λ _. give {A = Unit {0}} tt) >> address size) source 0).value ≡ Some n → (b ≡ true) × ((address size source (0 + k)).value ≡ Ok n)
+  by_skip : (k n : ℕ) (b : Bool) → result_ok (((passed k b >>= λ _. give {A = Unit {0}} tt) >> address size) source 0).value ≡ Some n → (b ≡ true) × ((address size source (0 + k)).value ≡ Ok n)
   by_skip k n true is = (refl, ok_given _ n is)
   by_skip k n false is = absurd (cc)
 
@@ -44,14 +46,14 @@ module _ (size : ℕ) (source : Source) where
     pub inside : nat_le k (source.last - 0) ≡ true
     pub number : (address size source (0 + k)).value ≡ Ok n
 
-  pub is_behind : (k n : ℕ) → given (behind k size source 0).value ≡ Some n → IsBehind k n
+  pub is_behind : (k n : ℕ) → result_ok (at_distance k size source 0).value ≡ Some n → IsBehind k n
   is_behind k n is =
       let (low, rest) = by_offset k n (nat_le k source.greatest) is in
       let (inside, number) = by_skip k n (nat_le k (source.last - 0)) rest in
       record { low = low; inside = inside; number = number }
 
-  pub behind_is : (k n : ℕ) → IsBehind k n → given (behind k size source 0).value ≡ Some n
-  behind_is k n at = rw (at.low, at.inside) (ap given at.number)
+  pub behind_is : (k n : ℕ) → IsBehind k n → result_ok (at_distance k size source 0).value ≡ Some n
+  behind_is k n at = rw (at.low, at.inside) (ap result_ok at.number)
 
   -- ---- by its width
 
@@ -116,7 +118,7 @@ module _ (part all : List ℕ) (d : ℕ) (is : part ≡ take (length part) (drop
   taken_long : length part ≤ length all - d
   taken_long = omega (arith, ap length is, length-take (length part) (drop d all), length-drop d all)
 
-  pub number_inside : (k size n : ℕ) → given (behind k size (slice_over part false).source 0).value ≡ Some n → k < length part
+  pub number_inside : (k size n : ℕ) → result_ok (at_distance k size (slice_over part false).source 0).value ≡ Some n → k < length part
   number_inside k size n read =
       let source = (slice_over part false).source in
       let of = is_of_width size source (0 + k) n (is_behind size source k n read).number in
@@ -125,8 +127,8 @@ module _ (part all : List ℕ) (d : ℕ) (is : part ≡ take (length part) (drop
       omega (arith, room, some)
 
   -- the number there is that in all of them
-  pub number_in_all : (k size n : ℕ) → k + d ≤ 18446744073709551615 → given (behind k size (slice_over part false).source 0).value ≡ Some n
-      → given (behind (k + d) size (slice_over all false).source 0).value ≡ Some n
+  pub number_in_all : (k size n : ℕ) → k + d ≤ 18446744073709551615 → result_ok (at_distance k size (slice_over part false).source 0).value ≡ Some n
+      → result_ok (at_distance (k + d) size (slice_over all false).source 0).value ≡ Some n
   number_in_all k size n low read =
       let source = (slice_over part false).source in
       let whole = (slice_over all false).source in
@@ -172,10 +174,10 @@ from_there [] number d inside = absurd (omega arith)
 from_there (place ∷ places) zero d inside = refl
 from_there (place ∷ places) (suc number) d inside = from_there places number d (omega (arith, inside))
 
-read_there : (bytes : List ℕ) (start a size n : ℕ) → number_in (slice_over bytes false) start a size ≡ Some n → (start ≤ a) × (given (behind (a - start) size (slice_over bytes false).source 0).value ≡ Some n)
+read_there : (bytes : List ℕ) (start a size n : ℕ) → number_in (slice_over bytes false) start a size ≡ Some n → (start ≤ a) × (result_ok (at_distance (a - start) size (slice_over bytes false).source 0).value ≡ Some n)
 read_there bytes start a size n is = by (nat_lt a start) refl is
   where
-    by : (b : Bool) → nat_lt a start ≡ b → (if b then None else given (behind (a - start) size (slice_over bytes false).source 0).value) ≡ Some n → (start ≤ a) × (given (behind (a - start) size (slice_over bytes false).source 0).value ≡ Some n)
+    by : (b : Bool) → nat_lt a start ≡ b → (if b then None else result_ok (at_distance (a - start) size (slice_over bytes false).source 0).value) ≡ Some n → (start ≤ a) × (result_ok (at_distance (a - start) size (slice_over bytes false).source 0).value ≡ Some n)
     by true e is = absurd (cc)
     by false e is = (grind (arith, nat_tests, e), is)
 
@@ -190,17 +192,17 @@ module _ (bytes : List ℕ) (places : List ProgramHeader) (count next : ℕ) (x 
 
     before_next : a < next
     before_next =
-        let there = number_inside window.bytes (segment_at bytes place).bytes is.behind is.part (a - window.start) size n (read_there window.bytes window.start a size n number).1 in
+        let there = number_inside window.bytes (segment_at bytes place).bytes is.distance is.part (a - window.start) size n (read_there window.bytes window.start a size n number).1 in
         omega (arith, is.below, from_start, there)
 
     in_place : segments.number_of a size (segment_at bytes place) ≡ Some n
     in_place =
-        let distance : a - window.start + is.behind ≡ a - place.p_vaddr = omega (arith, is.start, from_start) in
+        let distance : a - window.start + is.distance ≡ a - place.p_vaddr = omega (arith, is.start, from_start) in
         let above : place.p_vaddr ≤ a = omega (arith, is.start, from_start) in
-        let near : a - window.start + is.behind ≤ 18446744073709551615 = omega (arith, distance, before_next, low) in
+        let near : a - window.start + is.distance ≤ 18446744073709551615 = omega (arith, distance, before_next, low) in
         let all = (segment_at bytes place).bytes in
-        let read = number_in_all window.bytes all is.behind is.part (a - window.start) size n near (read_there window.bytes window.start a size n number).1 in
-        let read_at : given (behind (a - place.p_vaddr) size (slice_over all false).source 0).value ≡ Some n = subst (λ (k : ℕ). given (behind k size (slice_over all false).source 0).value ≡ Some n) distance read in
+        let read = number_in_all window.bytes all is.distance is.part (a - window.start) size n near (read_there window.bytes window.start a size n number).1 in
+        let read_at : result_ok (at_distance (a - place.p_vaddr) size (slice_over all false).source 0).value ≡ Some n = subst (λ (k : ℕ). result_ok (at_distance k size (slice_over all false).source 0).value ≡ Some n) distance read in
         rw (le-ltb a place.p_vaddr above) read_at
 
     upto : (j : ℕ) (d : ProgramHeader) → j < suc (count - 1) → j < length places → nat_le (segment_at bytes (get_or places j d)).start a ≡ true

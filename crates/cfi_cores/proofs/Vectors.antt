@@ -3,7 +3,7 @@ use Rattle.std.proofs.Common.{◌≡◌, ◌∙◌, ◌==◌, ◌+◌, ℕ, Bool
 use Rattle.std.specs.Int.{w64}
 use Rattle.cfi_elf.specs.Fields.{number_at}
 use Rattle.cfi_elf.proofs.EntrySteps.{next_left}
-use Rattle.cfi_cores.specs.Vdso.{value_in}
+use Rattle.cfi_cores.specs.AuxiliaryVectors.{value_in}
 
 module _ (kind : ℕ) (pairs : List (List ℕ)) (index : ℕ) (pair : List ℕ) (is : Some pair ≡ slice_get pairs index) where
   abbrev type_of : ℕ

@@ -4,21 +4,23 @@ use Rattle.std.specs.Prelude.{nat_lt, if◌then◌else◌, take, drop, option_ma
 use Rattle.cfi_elf.specs.ElfFiles.{any_file, core_file, elf_file_of, file_by, header_bytes, identification}
 use Rattle.cfi_elf.specs.Fields.{entries}
 use Rattle.cfi_elf.specs.Images.{bytes_at}
-use Rattle.cfi_elf.specs.Notes.{build_id, build_id_of, first_note, notes_up_to}
+use Rattle.cfi_elf.specs.BuildIds.{build_id, build_id_of}
+use Rattle.cfi_elf.specs.Notes.{first_note, notes_up_to}
 use Rattle.cfi_elf.specs.SegmentLists.{segments}
-use Rattle.cfi_elf.specs.Segments.{program_table, segment_count}
+use Rattle.cfi_elf.specs.SegmentLists.{program_table, segment_count}
 use Rattle.cfi_elf.specs.declared.error.ElfError.TheVariants.{NotCore}
 use Rattle.cfi_processes.specs.declared.registers.SampleMachine.TheVariants.{X86_64, AArch64}
 use Rattle.cfi_cores.specs.declared.error.CoreError.TheVariants.{Elf, UnknownMachine, NoteCut, ThreadCut}
 use Rattle.cfi_cores.specs.Builds.{build_of, image_of}
-use Rattle.cfi_cores.specs.Contents.{followed_by, of_note, of_segment}
+use Rattle.cfi_cores.specs.Contents.{then_contents, of_note, of_segment}
 use Rattle.cfi_cores.specs.CoreFiles.{core_of}
 use Rattle.cfi_cores.specs.CoreRegisters.{core_place, core_place_x86_64}
 use Rattle.cfi_cores.specs.CoreSegments.{CoreSegment, last_upto}
 use Rattle.cfi_cores.specs.CoreThreads.{CoreThread, register_of, thread_in}
 use Rattle.cfi_cores.specs.MappedFiles.{CoreMapping, file_table, files_in}
 use Rattle.cfi_cores.specs.ProcessNames.{process_name}
-use Rattle.cfi_cores.specs.Vdso.{value_in, vdso_by}
+use Rattle.cfi_cores.specs.Vdso.{vdso_by}
+use Rattle.cfi_cores.specs.AuxiliaryVectors.{value_in}
 
 -- to name it on an `unfolding` line is to open all these
 unfoldable computing : ℕ
@@ -181,7 +183,7 @@ unfolding computing
 the_thread_alone = refl
 
 -- a note of a thread with too few bytes, and a list of files behind it
-nothing_behind_an_error : followed_by (of_note X86_64 (record { name = codes "CORE"; kind = 1; desc = status })) (of_note X86_64 (record { name = codes "CORE"; kind = 0x46494c45; desc = files }))
+nothing_behind_an_error : then_contents (of_note X86_64 (record { name = codes "CORE"; kind = 1; desc = status })) (of_note X86_64 (record { name = codes "CORE"; kind = 0x46494c45; desc = files }))
     ≡ record { threads = []; mapped = None; vector = None; siginfo = None; name = None; error = Some ThreadCut }
 unfolding computing
 nothing_behind_an_error = refl

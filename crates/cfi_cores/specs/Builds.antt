@@ -5,17 +5,17 @@
 use Rattle.std.specs.Prelude.{ℕ, ◌&&◌, List, find, Option, option_map, ◌==◌}
 use Rattle.std.specs.Option.{option_and_then}
 use Rattle.std.specs.Str.{bytes_eq}
-use Rattle.cfi_processes.specs.Wanted.{id_of}
+use Rattle.cfi_processes.specs.FileBuilds.{id_of}
 use Rattle.cfi_cores.specs.CoreSegments.{CoreSegment, bytes_at}
 use Rattle.cfi_cores.specs.MappedFiles.{CoreMapping}
 
 -- where the file's first byte is mapped first
-abbrev pub start_of : List CoreMapping → List ℕ → Option ℕ
-start_of mapped name =
+abbrev pub mapped_start : List CoreMapping → List ℕ → Option ℕ
+mapped_start mapped name =
     option_map (λ m. m.start) (find (λ m. (m.offset == 0) && bytes_eq m.name name) mapped)
 
 abbrev pub image_of : List CoreSegment → List CoreMapping → List ℕ → Option (List ℕ)
-image_of segments mapped name = option_and_then (bytes_at segments) (start_of mapped name)
+image_of segments mapped name = option_and_then (bytes_at segments) (mapped_start mapped name)
 
 -- an image that ends early, as after its first page, is read as the beginning of a file
 abbrev pub build_of : List CoreSegment → List CoreMapping → List ℕ → Option (List ℕ)

@@ -1,8 +1,8 @@
 -- What the notes of a core file say (core(5), "notes" of linux/elfcore.h and uapi/linux/elf.h).
 --     Contents      threads, the files that were mapped, the auxiliary vector, what the kernel says
 --         of the signal, the name of the process, and the error that ended the notes
---     followed_by first others      what both say: nothing follows an error, and of all but threads
---         the first counts
+--     then_contents first others      what both say: nothing follows an error, and of all but
+--         threads the first counts
 --     of_headers machine bytes headers      what the notes of a file's segments say
 use Rattle.std.specs.Prelude.{ℕ, Bool, true, false, not, List, [], ◌∷◌, ◌++◌, map, codes, Option}
 use Rattle.std.specs.Prelude.{Some, None, Vec, length, option_map, nat_eq, nat_lt, ◌==◌}
@@ -43,8 +43,8 @@ contents_view c = record {
 
 -- ---- one after the other
 
-abbrev pub nothing : Contents
-nothing = record {
+abbrev pub no_contents : Contents
+no_contents = record {
   threads = [];
   mapped = None;
   vector = None;
@@ -54,7 +54,7 @@ nothing = record {
 }
 
 abbrev pub ended_by : CoreError → Contents
-ended_by error = record nothing { error = Some error }
+ended_by error = record no_contents { error = Some error }
 
 abbrev pub unless_ended : Option CoreError → Contents → Contents → Contents
 unless_ended (Some error) first others = first
@@ -67,49 +67,49 @@ unless_ended None first others = record {
   error = others.error;
 }
 
-abbrev pub followed_by : Contents → Contents → Contents
-followed_by first others = unless_ended first.error first others
+abbrev pub then_contents : Contents → Contents → Contents
+then_contents first others = unless_ended first.error first others
 
 -- ---- what a note says
 
 abbrev pub of_thread : Option CoreThread → Contents
-of_thread (Some thread) = record nothing { threads = thread ∷ [] }
+of_thread (Some thread) = record no_contents { threads = thread ∷ [] }
 of_thread None = ended_by ThreadCut
 
 abbrev pub of_files : Option (List CoreMapping) → Contents
-of_files (Some files) = record nothing { mapped = Some files }
+of_files (Some files) = record no_contents { mapped = Some files }
 of_files None = ended_by FilesCut
 
 abbrev pub of_vector : List ℕ → Contents
-of_vector vector = record nothing { vector = Some vector }
+of_vector vector = record no_contents { vector = Some vector }
 
 abbrev pub of_siginfo : List ℕ → Contents
-of_siginfo siginfo = record nothing { siginfo = Some siginfo }
+of_siginfo siginfo = record no_contents { siginfo = Some siginfo }
 
 abbrev pub of_name : Option (List ℕ) → Contents
-of_name name = record nothing { name = name }
+of_name name = record no_contents { name = name }
 
 -- NT_PRSTATUS is 1, NT_PRPSINFO is 3, NT_AUXV is 6, NT_SIGINFO is 0x53494749, NT_FILE is 0x46494c45
 abbrev pub of_note : SampleMachine → Note → Contents
 of_note machine note =
-    if not (pointwise nat_eq note.name (codes "CORE")) then nothing
+    if not (pointwise nat_eq note.name (codes "CORE")) then no_contents
     else if note.kind == 1 then of_thread (thread_in machine note.desc)
     else if note.kind == 3 then of_name (process_name note.desc)
     else if note.kind == 6 then of_vector note.desc
     else if note.kind == 0x53494749 then of_siginfo note.desc
     else if note.kind == 0x46494c45 then of_files (files_in note.desc)
-    else nothing
+    else no_contents
 
 -- ---- what notes say
 
 abbrev pub cut_end : Bool → Contents
 cut_end true = ended_by NoteCut
-cut_end false = nothing
+cut_end false = no_contents
 
 abbrev pub of_notes : SampleMachine → List Note → Contents → Contents
 of_notes machine [] end = end
 of_notes machine (note ∷ notes) end =
-    followed_by (of_note machine note) (of_notes machine notes end)
+    then_contents (of_note machine note) (of_notes machine notes end)
 
 -- the notes of these bytes, and the error where they are cut
 abbrev pub of_all : SampleMachine → Notes → Contents
@@ -122,19 +122,19 @@ of_segment machine bytes = of_all machine (notes_of false bytes)
 -- cut, also behind a whole one
 abbrev pub of_part : SampleMachine → ℕ → List ℕ → Contents
 of_part machine size bytes =
-    followed_by (of_segment machine bytes) (cut_end (nat_lt (length bytes) size))
+    then_contents (of_segment machine bytes) (cut_end (nat_lt (length bytes) size))
 
 -- PT_NOTE is 4
 abbrev pub of_header : SampleMachine → List ℕ → ProgramHeader → Contents
 of_header machine bytes header =
     if header.p_type == 4
     then of_part machine header.p_filesz (bytes_of bytes header)
-    else nothing
+    else no_contents
 
 abbrev pub of_headers : SampleMachine → List ℕ → List ProgramHeader → Contents
-of_headers machine bytes [] = nothing
+of_headers machine bytes [] = no_contents
 of_headers machine bytes (header ∷ headers) =
-    followed_by (of_header machine bytes header) (of_headers machine bytes headers)
+    then_contents (of_header machine bytes header) (of_headers machine bytes headers)
 
 -- ---- what the code found in a note
 

@@ -10,6 +10,7 @@ use Rattle.cfi_elf.specs.declared.program_header.ProgramHeader.{ProgramHeader}
 use Rattle.cfi_elf.specs.ElfFiles.{File, class_of_file, core_file, is_big_file}
 use Rattle.cfi_elf.specs.Layouts.{by_class}
 use Rattle.cfi_elf.specs.Options.{or_this}
+use Rattle.cfi_elf.specs.Results.{and_then}
 use Rattle.cfi_elf.specs.SegmentLists.{segments}
 use Rattle.cfi_processes.specs.declared.registers.SampleMachine.{SampleMachine}
 use Rattle.cfi_processes.specs.declared.registers.SampleMachine.TheVariants.{X86_64, AArch64}
@@ -43,11 +44,6 @@ core_view core = record {
 }
 
 -- ---- what the file has
-
-abbrev pub and_then :
-    {A B : Type 0} → Result A CoreError → (A → Result B CoreError) → Result B CoreError
-and_then (Ok x) next = next x
-and_then (Err e) next = Err e
 
 -- an error of the ELF file as one of the core
 abbrev pub or_elf_error : {A : Type 0} → Result A ElfError → Result A CoreError

@@ -8,7 +8,7 @@ use Rattle.std.specs.List.{slice_get}
 use Rattle.std.specs.Option.{option_and_then}
 use Rattle.cfi_processes.specs.declared.registers.SampleMachine.{SampleMachine}
 use Rattle.cfi_processes.specs.declared.registers.SampleMachine.TheVariants.{X86_64, AArch64}
-use Rattle.cfi_processes.specs.Registers.{place_of, x86_64_by_dwarf}
+use Rattle.cfi_processes.specs.Registers.{place_of_name, x86_64_by_dwarf}
 
 -- the registers of x86-64 in their order
 abbrev pub x86_64_in_cores : List (List ℕ)
@@ -25,7 +25,7 @@ registers_size X86_64 = 8 * length x86_64_in_cores
 registers_size AArch64 = 8 * 34
 
 unfoldable pub core_place_x86_64 : ℕ → Option ℕ
-core_place_x86_64 k = option_and_then (place_of x86_64_in_cores) (slice_get x86_64_by_dwarf k)
+core_place_x86_64 k = option_and_then (place_of_name x86_64_in_cores) (slice_get x86_64_by_dwarf k)
 
 -- on AArch64 x0 to x30, the stack pointer and the pc have the numbers of their places
 abbrev pub core_place : SampleMachine → ℕ → Option ℕ

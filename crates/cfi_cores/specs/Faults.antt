@@ -15,15 +15,15 @@ is_of_fault signal =
     (signal == 4) || ((signal == 5) || ((signal == 7) || ((signal == 8) || (signal == 11))))
 
 -- Codes of the kernel's are above 0. SI_KERNEL, which is 0x80, says of no address.
-abbrev pub has_address : ℕ → ℕ → Bool
-has_address signal code = is_of_fault signal && (nat_le 1 code && nat_lt code 0x80)
+abbrev pub tells_address : ℕ → ℕ → Bool
+tells_address signal code = is_of_fault signal && (nat_le 1 code && nat_lt code 0x80)
 
 -- si_signo, si_errno and si_code have four bytes each; four bytes pad them; si_addr has eight
 abbrev pub fault_in : List ℕ → Option Fault
 fault_in desc =
     let code = number_at false desc 8 w32 in
     if nat_lt (length desc) 24 then None
-    else if has_address (number_at false desc 0 w32) code
+    else if tells_address (number_at false desc 0 w32) code
     then Some (record { code = code; address = number_at false desc 16 w64 })
     else None
 

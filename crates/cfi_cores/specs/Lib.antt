@@ -4,10 +4,13 @@ pub mod CoreThreads
 pub mod MappedFiles
 pub mod CoreSegments
 pub mod CoreMemories
+pub mod AuxiliaryVectors
 pub mod Vdso
 pub mod Builds
 pub mod ProcessNames
 pub mod Faults
 pub mod Contents
 pub mod CoreFiles
-pub mod CoreParts
+pub mod CoreHeads
+pub mod PartialCores
+pub mod StackWindows

@@ -31,8 +31,8 @@ pub record FileTable : Type 0 where
   pub entries : List ℕ
   pub names : List ℕ
 
-abbrev pub table_view : TableOfCode → FileTable
-table_view t =
+abbrev pub file_table_view : TableOfCode → FileTable
+file_table_view t =
     record { page_size = t.page_size; entries = t.entries.now; names = t.names.now }
 
 unfoldable pub file_table : List ℕ → Option FileTable

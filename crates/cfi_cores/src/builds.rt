@@ -1,12 +1,12 @@
 //! The builds of files, as their images in memory have them.
 ghost use Rattle.std.specs.Prelude.{◌≡◌, map, option_map};
-ghost use Rattle.cfi_cores.specs.Builds.{build_of, image_of, start_of};
+ghost use Rattle.cfi_cores.specs.Builds.{build_of, image_of, mapped_start};
 ghost use Rattle.cfi_cores.specs.CoreSegments.{segment_view};
 ghost use Rattle.cfi_cores.specs.MappedFiles.{mapping_view};
 
 use crate::mapped_files::CoreMapping;
 use crate::segments::{CoreSegment, bytes_at};
-use cfi_processes::wanted::id_of;
+use cfi_processes::file_builds::id_of;
 
 /// Returns the bytes that the core has of the file with this name, from its first byte on: of the
 /// first mapping of that byte, those of the first segment that begins there. `None` where there is
@@ -19,7 +19,7 @@ pub fn image_of<'run>(
     ensures { option_map (λ bytes. bytes.now) result ≡ image_of
         (map segment_view segments.now) (map mapping_view mapped.now) name.now }
 {
-    match start_of(mapped, name) {
+    match mapped_start(mapped, name) {
         Some(start) => bytes_at(segments, start),
         None => None,
     }
@@ -42,8 +42,8 @@ pub fn build_of<'run>(
 }
 
 /// The address at which the first byte of the file with this name is mapped.
-fn start_of(mapped: &[CoreMapping<'_>], name: &[u8]) -> Option<u64>
-    ensures { result ≡ start_of (map mapping_view mapped.now) name.now }
+fn mapped_start(mapped: &[CoreMapping<'_>], name: &[u8]) -> Option<u64>
+    ensures { result ≡ mapped_start (map mapping_view mapped.now) name.now }
 {
     match mapped
         .iter()

@@ -2,11 +2,12 @@
 ghost use Rattle.std.specs.Prelude.{◌≡◌, ℕ, IfOk, IfSome, List, true};
 ghost use Rattle.cfi_elf.specs.Images.{IsImageOf, image_view};
 ghost use Rattle.cfi_elf.specs.SegmentLists.{segments_left};
-ghost use Rattle.cfi_cores.specs.Contents.{contents_view, followed_by, of_header, of_headers};
+ghost use Rattle.cfi_cores.specs.Contents.{contents_view, then_contents, of_header, of_headers};
 
 use crate::contents::Contents;
 use crate::core_file::{core_elf, segments_of_elf};
-use crate::core_parts::{Range, bytes_in, end_of};
+use crate::needed_ranges::{Range, end_of};
+use crate::partial_cores::bytes_in;
 use cfi_elf::constants::PT_NOTE;
 use cfi_elf::{Image, ProgramHeader, Segments};
 use cfi_object::input::InputError;
@@ -84,7 +85,7 @@ fn read_noted_header<'run>(
 ) -> Result<bool, AllocError>
     ensures { (bytes : List ℕ) → IsImageOf (image_view image.entry) bytes
         → IfOk result (λ whole. whole ≡ true → contents_view contents.new
-        ≡ followed_by (contents_view contents.old) (of_header machine bytes header.now)) }
+        ≡ then_contents (contents_view contents.old) (of_header machine bytes header.now)) }
 {
     if header.p_type != PT_NOTE {
         return Ok(true);

@@ -1,6 +1,6 @@
 //! The fault for which a thread got a signal.
 ghost use Rattle.std.specs.Prelude.{◌≡◌, option_map};
-ghost use Rattle.cfi_cores.specs.Faults.{fault_by, fault_in, has_address, is_of_fault};
+ghost use Rattle.cfi_cores.specs.Faults.{fault_by, fault_in, tells_address, is_of_fault};
 
 use cfi_elf::bytes::Record;
 
@@ -52,7 +52,7 @@ fn fault_in(desc: &[u8]) -> Option<Fault>
         big_endian: false,
     };
     let code = fields.word(8);
-    if has_address(fields.word(0), code) {
+    if tells_address(fields.word(0), code) {
         Some(Fault {
             code,
             address: fields.xword(16),
@@ -64,8 +64,8 @@ fn fault_in(desc: &[u8]) -> Option<Fault>
 
 /// Whether the kernel says an address with a signal of this code. Codes from 2^31 on, negative
 /// ones, and 0 are those of signals that a process sent.
-fn has_address(signal: u32, code: u32) -> bool
-    ensures { result ≡ has_address signal code }
+fn tells_address(signal: u32, code: u32) -> bool
+    ensures { result ≡ tells_address signal code }
 {
     is_of_fault(signal) && 1 <= code && code < SI_KERNEL
 }

@@ -2,7 +2,7 @@
 ghost use Rattle.std.specs.Prelude.{◌≡◌, ◌≤◌, ⊤, IfOk, length, option_map};
 ghost use Rattle.cfi_elf.specs.Fields.{entries};
 ghost use Rattle.cfi_cores.specs.MappedFiles.{file_table, files_in, list_view, mapping_by};
-ghost use Rattle.cfi_cores.specs.MappedFiles.{mapping_view, mappings, table_view};
+ghost use Rattle.cfi_cores.specs.MappedFiles.{mapping_view, mappings, file_table_view};
 
 use cfi_elf::bytes::{Record, before_zero, bytes_from, entry, part, size_of};
 use std::alloc::{AllocError, Global};
@@ -61,7 +61,7 @@ pub(crate) fn files_in<'run>(
 /// The entries and the names.
 #[tactic(auto, unfolding(crate::specs::MappedFiles::file_table))]
 fn file_table(desc: &[u8]) -> Option<FileTable<'_>>
-    ensures { option_map table_view result ≡ file_table desc.now }
+    ensures { option_map file_table_view result ≡ file_table desc.now }
 {
     if desc.len() < 16 {
         return None;

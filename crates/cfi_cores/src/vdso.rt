@@ -1,25 +1,18 @@
 //! The vdso: code of the kernel that is mapped into each process, as the auxiliary vector tells.
 ghost use Rattle.std.specs.Prelude.{◌≡◌, ◌-◌, ℕ, List, length, map, min, option_map};
 ghost use Rattle.std.specs.List.{filter_map};
-ghost use Rattle.cfi_elf.specs.Fields.{entries};
 ghost use Rattle.cfi_elf.specs.SegmentLists.{segments_left};
 ghost use Rattle.cfi_cores.specs.CoreSegments.{bytes_of, loaded_in, segment_view};
 ghost use Rattle.cfi_cores.specs.MappedFiles.{mapping_view};
-ghost use Rattle.cfi_cores.specs.Vdso.{value_in, vdso_at, vdso_by, vdso_name};
-ghost use Rattle.cfi_cores.specs.Vdso.{vdso_over};
+ghost use Rattle.cfi_cores.specs.Vdso.{vdso_at, vdso_by, vdso_name, vdso_over};
 
+use crate::auxiliary_vector::value_in;
 use crate::mapped_files::CoreMapping;
 use crate::segments::{CoreSegment, bytes_at};
-use cfi_elf::bytes::{Record, entry};
 use cfi_elf::constants::PT_LOAD;
 use cfi_elf::{ProgramHeader, Segments};
 
-const AT_NULL: u64 = 0;
-
 const AT_SYSINFO_EHDR: u64 = 33;
-
-/// The bytes of an entry of the auxiliary vector: its type and its value.
-const PAIR_SIZE: u64 = 16;
 
 /// The name that the vdso has among what is mapped.
 pub fn vdso_name<'run>() -> &'run [u8]
@@ -55,29 +48,6 @@ fn vdso_at<'run>(segments: &[CoreSegment<'_>], address: u64) -> Option<CoreMappi
         }),
         None => None,
     }
-}
-
-/// The value of the first entry of this type before the one that ends the auxiliary vector.
-fn value_in(vector: &[u8], kind: u64) -> Option<u64>
-    ensures { result ≡ value_in kind (entries 16 vector.now) }
-{
-    for index in 0..vector.len() {
-        let Some(bytes) = entry(vector, PAIR_SIZE, index) else {
-            return None;
-        };
-        let fields = Record {
-            bytes,
-            big_endian: false,
-        };
-        let found = fields.xword(0);
-        if found == AT_NULL {
-            return None;
-        }
-        if found == kind {
-            return Some(fields.xword(8));
-        }
-    }
-    None
 }
 
 /// The vdso as it was mapped, by the headers of a file of so many bytes: as `vdso_by` has it by the

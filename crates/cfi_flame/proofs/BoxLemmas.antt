@@ -5,7 +5,8 @@ use Rattle.std.proofs.Math.Seq.{take-length}
 use Rattle.cfi_flame.specs.declared.boxes.FlameBox.{FlameBox}
 use Rattle.cfi_flame.specs.declared.folded.Stack.{Stack as StackOfCode}
 use Rattle.cfi_flame.specs.FoldedStacks.{Stack, stack_view}
-use Rattle.cfi_flame.specs.Boxes.{Box, begins, box_view, boxes_from, is_wide, openings, total_of, weight, wide_boxes}
+use Rattle.cfi_flame.specs.Boxes.{Box, is_front, box_view, boxes_from, is_wide, openings, box_width, wide_boxes}
+use Rattle.cfi_flame.specs.FoldedStacks.{total_of}
 
 pub next_stack : (stacks : List StackOfCode) (k : ℕ) (d : StackOfCode) → k < length stacks → drop k (map stack_view stacks) ≡ stack_view (get_or stacks k d) ∷ drop (k + 1) (map stack_view stacks)
 next_stack stacks k d h =
@@ -18,21 +19,21 @@ total_step left s rest n m total is h e =
     let f : total_of left ≡ s.count + total_of rest = ap total_of is in
     omega arith
 
-pub weight_step : (front : List ℕ) (left : List Stack) (s : Stack) (rest : List Stack) (n total : ℕ) → left ≡ s ∷ rest → begins front s.frames ≡ true → n + weight front left ≡ total → (n + s.count) + weight front rest ≡ total
+pub weight_step : (front : List ℕ) (left : List Stack) (s : Stack) (rest : List Stack) (n total : ℕ) → left ≡ s ∷ rest → is_front front s.frames ≡ true → n + box_width front left ≡ total → (n + s.count) + box_width front rest ≡ total
 weight_step front left s rest n total is has h =
-    let f : weight front left ≡ s.count + weight front rest = ap (weight front) is ∙ rw has refl in
+    let f : box_width front left ≡ s.count + box_width front rest = ap (box_width front) is ∙ rw has refl in
     omega arith
 
-pub weight_end : (front : List ℕ) (left : List Stack) (s : Stack) (rest : List Stack) (n total : ℕ) → left ≡ s ∷ rest → begins front s.frames ≡ false → n + weight front left ≡ total → n ≡ total
+pub weight_end : (front : List ℕ) (left : List Stack) (s : Stack) (rest : List Stack) (n total : ℕ) → left ≡ s ∷ rest → is_front front s.frames ≡ false → n + box_width front left ≡ total → n ≡ total
 weight_end front left s rest n total is lacks h =
-    let f : weight front left ≡ 0 = ap (weight front) is ∙ rw lacks refl in
+    let f : box_width front left ≡ 0 = ap (box_width front) is ∙ rw lacks refl in
     omega arith
 
-pub weight_le : (front : List ℕ) (stacks : List Stack) → weight front stacks ≤ total_of stacks
+pub weight_le : (front : List ℕ) (stacks : List Stack) → box_width front stacks ≤ total_of stacks
 weight_le front [] = omega arith
-weight_le front (s ∷ stacks) = by (begins front s.frames) refl (weight_le front stacks)
+weight_le front (s ∷ stacks) = by (is_front front s.frames) refl (weight_le front stacks)
   where
-    by : (b : Bool) → begins front s.frames ≡ b → weight front stacks ≤ total_of stacks → weight front (s ∷ stacks) ≤ s.count + total_of stacks
+    by : (b : Bool) → is_front front s.frames ≡ b → box_width front stacks ≤ total_of stacks → box_width front (s ∷ stacks) ≤ s.count + total_of stacks
     by true e h = rw e (omega arith)
     by false e h = rw e (omega arith)
 
@@ -56,9 +57,9 @@ total_end stacks k n total ended h =
     let f : total_of (drop k (map stack_view stacks)) ≡ 0 = ap total_of none in
     omega arith
 
-pub weighed_le : (front : List ℕ) (all left : List Stack) (s : Stack) (rest : List Stack) (n : ℕ) → left ≡ s ∷ rest → begins front s.frames ≡ true → n + weight front left ≡ weight front all → n + s.count ≤ total_of all
+pub weighed_le : (front : List ℕ) (all left : List Stack) (s : Stack) (rest : List Stack) (n : ℕ) → left ≡ s ∷ rest → is_front front s.frames ≡ true → n + box_width front left ≡ box_width front all → n + s.count ≤ total_of all
 weighed_le front all left s rest n is has h =
-    let f : (n + s.count) + weight front rest ≡ weight front all = weight_step front left s rest n (weight front all) is has h in
+    let f : (n + s.count) + box_width front rest ≡ box_width front all = weight_step front left s rest n (box_width front all) is has h in
     omega (arith, weight_le front all)
 
 pub boxes_step : (found new all : List Box) (before : Option (List ℕ)) (n : ℕ) (left : List Stack) (s : Stack) (rest : List Stack) → left ≡ s ∷ rest → found ++ boxes_from before n left ≡ all →

@@ -1,15 +1,18 @@
 -- No byte of the stacks of a plain text comes before the separator.
 use Rattle.std.proofs.Common.{◌≡◌, ◌∙◌, ◌≤◌, ◌⊎◌, inl, inr, ℕ, zero, suc, ◌+◌, ◌-◌, ◌/◌, ◌%◌, ◌==◌, ◌&&◌, ◌||◌, Bool, true, false, true≢false, cond, List, [], ◌∷◌, ◌++◌, Option, Some, None, Result, Ok, Err, length, drop, take, map, reverse, nat_le, nat_lt, refl, sym, subst, arith}
+use Rattle.std.specs.Prelude.{option_map}
 use Rattle.std.specs.Fmt.{digit_glyph}
 use Rattle.std.specs.List.{AllByRecursion, flat_map, join_with_byte, onto_first, slice_split}
 use Rattle.std.proofs.lemmas.Bool.{and_parts, eq-eqb, leb-true, ltb-false}
 use Rattle.std.proofs.lemmas.List.{reverse-append}
 use Rattle.cfi_names.specs.declared.Kind.TheVariants.{Shown, Control}
-use Rattle.cfi_names.specs.Names.{Part, byte_escape, first_part, is_control, parts, parts_behind, shown_kind, shown_part}
+use Rattle.cfi_names.specs.Names.{Part, byte_escape, first_part, is_control, parts, parts_after, shown_kind, shown_part}
 use Rattle.cfi_names.specs.Utf8.{begins, scalar, sequence_length}
-use Rattle.cfi_flame.specs.FoldedStacks.{Stack, behind, drawn_part, last_part, number_of, one_stack, plain, plain_part, stack_of, stacks_from, stacks_of, stacks_on, with_frames}
-use Rattle.cfi_flame.specs.Pictures.{ArePlain, IsPlain}
-use Rattle.cfi_flame.specs.Functions.{names_in}
+use Rattle.cfi_flame.specs.FoldedStacks.{Stack, then_stacks, last_part, one_stack, stack_of, stacks_from, stacks_of, stacks_on}
+use Rattle.cfi_flame.specs.Decimals.{decimal_of}
+use Rattle.cfi_flame.specs.PlainTexts.{drawn_part, plain, plain_part}
+use Rattle.cfi_flame.specs.Pictures.{AllPlain, IsPlain}
+use Rattle.cfi_flame.specs.FoldedStacks.{function_names}
 use Rattle.cfi_flame.specs.Turned.{as_read, turned_stack}
 
 -- ---- all of a list, by recursion
@@ -140,7 +143,7 @@ first_plain bytes = by (sequence_length bytes == 0) refl
     by true e = rw e (escapes_plain (take 1 bytes))
     by false e = rw e (kept (is_control (scalar (take (sequence_length bytes) bytes))) refl)
 
-parts_plain : (k : ℕ) (bytes : List ℕ) → AllByRecursion IsShownPlain (parts_behind k bytes)
+parts_plain : (k : ℕ) (bytes : List ℕ) → AllByRecursion IsShownPlain (parts_after k bytes)
 parts_plain k [] = tt
 parts_plain zero (b ∷ bytes) = (first_plain (b ∷ bytes), parts_plain (length (first_part (b ∷ bytes)).bytes - 1) bytes)
 parts_plain (suc k) (b ∷ bytes) = parts_plain k bytes
@@ -180,6 +183,9 @@ lines_plain (c ∷ text) h = by h.0 (c == 10) refl (lines_plain text h.1)
 
 -- ---- its stacks
 
+abbrev with_frames : List ℕ → Option ℕ → Option Stack
+with_frames frames count = option_map (λ number. record { frames = frames; count = number }) count
+
 with_plain : (frames : List ℕ) (count : Option ℕ) (stack : Stack) → IsPlain frames → with_frames frames count ≡ Some stack → IsPlain stack.frames
 with_plain frames None stack plain e = cc e
 with_plain frames (Some n) stack plain e = subst (λ (s : Option Stack). is_plain_of s) e plain
@@ -194,14 +200,14 @@ stack_plain line stack plain e = by (nat_lt (last_part 32 line) 2) refl
     by : (b : Bool) → nat_lt (last_part 32 line) 2 ≡ b → IsPlain stack.frames
     by true f = let none : None ≡ Some stack = sym (rw f refl) ∙ e in cc none
     by false f =
-        with_plain (take (last_part 32 line - 1) line) (number_of (drop (last_part 32 line) line)) stack
+        with_plain (take (last_part 32 line - 1) line) (decimal_of (drop (last_part 32 line) line)) stack
         (all_take (λ c. 31 ≤ c) (last_part 32 line - 1) line plain) (sym (rw f refl) ∙ e)
 
 abbrev AreOk : Result (List Stack) ℕ → Type 0
-AreOk (Ok stacks) = ArePlain stacks
+AreOk (Ok stacks) = AllPlain stacks
 AreOk (Err number) = Unit {0}
 
-behind_plain : (first more : Result (List Stack) ℕ) → AreOk first → AreOk more → AreOk (behind first more)
+behind_plain : (first more : Result (List Stack) ℕ) → AreOk first → AreOk more → AreOk (then_stacks first more)
 behind_plain (Ok stacks) (Ok more) a b = all_append (λ stack. IsPlain stack.frames) stacks more a b
 behind_plain (Ok stacks) (Err n) a b = tt
 behind_plain (Err n) more a b = tt
@@ -219,18 +225,18 @@ from_plain number [] h = tt
 from_plain number (line ∷ lines) h =
     behind_plain (stacks_on number line) (stacks_from (number + 1) lines) (line_plain number line h.0) (from_plain (number + 1) lines h.1)
 
-pub stacks_plain : (text : List ℕ) (stacks : List Stack) → stacks_of (plain text) ≡ Ok stacks → ArePlain stacks
+pub stacks_plain : (text : List ℕ) (stacks : List Stack) → stacks_of (plain text) ≡ Ok stacks → AllPlain stacks
 stacks_plain text stacks e = subst AreOk e (from_plain 1 (slice_split (λ c. c == 10) (plain text)) (lines_plain (plain text) (plain_text_is text)))
 
 -- ---- from the innermost function out
 
-split_plain : (frames : List ℕ) → IsPlain frames → AllByRecursion IsPlain (names_in frames)
+split_plain : (frames : List ℕ) → IsPlain frames → AllByRecursion IsPlain (function_names frames)
 split_plain [] h = (tt, tt)
 split_plain (c ∷ frames) h = by (c == 31) (split_plain frames h.1)
   where
-    by : (b : Bool) → AllByRecursion IsPlain (names_in frames) → AllByRecursion IsPlain (cond b ([] ∷ names_in frames) (onto_first c (names_in frames)))
+    by : (b : Bool) → AllByRecursion IsPlain (function_names frames) → AllByRecursion IsPlain (cond b ([] ∷ function_names frames) (onto_first c (function_names frames)))
     by true more = (tt, more)
-    by false more = onto_plain c (names_in frames) h.0 more
+    by false more = onto_plain c (function_names frames) h.0 more
 
 join_plain : (names : List (List ℕ)) → AllByRecursion IsPlain names → IsPlain (join_with_byte 31 names)
 join_plain [] h = tt
@@ -238,8 +244,8 @@ join_plain (name ∷ []) h = h.0
 join_plain (name ∷ other ∷ names) h = all_append (λ c. 31 ≤ c) name (31 ∷ join_with_byte 31 (other ∷ names)) h.0 (omega arith, join_plain (other ∷ names) h.1)
 
 turned_plain : (stack : Stack) → IsPlain stack.frames → IsPlain (turned_stack stack).frames
-turned_plain stack h = join_plain (reverse (names_in stack.frames)) (all_reverse IsPlain (names_in stack.frames) (split_plain stack.frames h))
+turned_plain stack h = join_plain (reverse (function_names stack.frames)) (all_reverse IsPlain (function_names stack.frames) (split_plain stack.frames h))
 
-pub read_plain : (turns : Bool) (stacks : List Stack) → ArePlain stacks → ArePlain (as_read turns stacks)
+pub read_plain : (turns : Bool) (stacks : List Stack) → AllPlain stacks → AllPlain (as_read turns stacks)
 read_plain true stacks h = all_map (λ stack. IsPlain stack.frames) (λ stack. IsPlain stack.frames) turned_stack turned_plain stacks h
 read_plain false stacks h = h

@@ -14,24 +14,26 @@ use Rattle.std.specs.List.Sorted.{IsStrictlySortedBy}
 use Rattle.std.specs.Map.{keys_of, lookup}
 use Rattle.std.specs.Option.{option_map_or}
 use Rattle.std.specs.Ordering.{nat_cmp}
+use Rattle.std.specs.Prelude.{find}
 use Rattle.std.specs.Str.{bytes_eq}
 use Rattle.std.specs.declared.cmp.Ordering.TheVariants.{Less}
 use Rattle.cfi_flame.specs.declared.folded.Stack.{Stack as StackOfCode}
 use Rattle.cfi_flame.specs.declared.functions.Tally.{Tally}
-use Rattle.cfi_flame.specs.Boxes.{total_of}
+use Rattle.cfi_flame.specs.FoldedStacks.{total_of}
 use Rattle.cfi_flame.specs.FoldedStacks.{Stack, stack_view}
-use Rattle.cfi_flame.specs.Functions.{AreFunctions, Row, all_in, all_of, has_name, is_last, names_in, row_at, row_of, self_in, self_of}
+use Rattle.cfi_flame.specs.Functions.{AreFunctions, Row, all_in, total_samples, has_function, is_last, row_of, self_in, own_samples}
+use Rattle.cfi_flame.specs.FoldedStacks.{function_names}
 use Rattle.cfi_flame.specs.Tallies.{AreSeen, AreTallied, CanSee, IsSeen, IsSeenBy, IsTallied, IsTalliedBy, Sets, first_count, owning, seen_again, seen_once, tally_at}
 
 -- ---- one more stack
 
-self_push : (q : List ℕ) (ss : List Stack) (s : Stack) → self_of q (ss ++ s ∷ []) ≡ self_of q ss + self_in q s
+self_push : (q : List ℕ) (ss : List Stack) (s : Stack) → own_samples q (ss ++ s ∷ []) ≡ own_samples q ss + self_in q s
 self_push q [] s = omega arith
 self_push q (x ∷ ss) s =
     let h = self_push q ss s in
     omega arith
 
-all_push : (q : List ℕ) (ss : List Stack) (s : Stack) → all_of q (ss ++ s ∷ []) ≡ all_of q ss + all_in q s
+all_push : (q : List ℕ) (ss : List Stack) (s : Stack) → total_samples q (ss ++ s ∷ []) ≡ total_samples q ss + all_in q s
 all_push q [] s = omega arith
 all_push q (x ∷ ss) s =
     let h = all_push q ss s in
@@ -65,18 +67,18 @@ part_le : (b : Bool) (n : ℕ) → cond b n 0 ≤ n
 part_le true n = omega arith
 part_le false n = omega arith
 
-self_le : (q : List ℕ) (ss : List Stack) → self_of q ss ≤ total_of ss
+self_le : (q : List ℕ) (ss : List Stack) → own_samples q ss ≤ total_of ss
 self_le q [] = omega arith
 self_le q (s ∷ ss) =
     let h = self_le q ss in
-    let g = part_le (is_last q (names_in s.frames)) s.count in
+    let g = part_le (is_last q (function_names s.frames)) s.count in
     omega arith
 
-all_le : (q : List ℕ) (ss : List Stack) → all_of q ss ≤ total_of ss
+all_le : (q : List ℕ) (ss : List Stack) → total_samples q ss ≤ total_of ss
 all_le q [] = omega arith
 all_le q (s ∷ ss) =
     let h = all_le q ss in
-    let g = part_le (has_name q s) s.count in
+    let g = part_le (has_function q s) s.count in
     omega arith
 
 total_append : (xs ys : List Stack) → total_of (xs ++ ys) ≡ total_of xs + total_of ys
@@ -91,22 +93,22 @@ one_fits done rest all s n is le small =
     omega (arith, h)
 
 -- a function that no stack has has no samples
-not_last : (b : Bool) (q : List ℕ) (s : Stack) → is_last q (names_in s.frames) ≡ b → has_name q s ≡ false → self_in q s ≡ 0
-not_last true q s e f = absurd (true≢false (sym (last_is_among q (names_in s.frames) e) ∙ f))
+not_last : (b : Bool) (q : List ℕ) (s : Stack) → is_last q (function_names s.frames) ≡ b → has_function q s ≡ false → self_in q s ≡ 0
+not_last true q s e f = absurd (true≢false (sym (last_is_among q (function_names s.frames) e) ∙ f))
 not_last false q s e f = rw e refl
 
-none_more : (b : Bool) (q : List ℕ) (s : Stack) (ss : List Stack) → has_name q s ≡ b → (b || list_any (has_name q) ss) ≡ false
-    → (list_any (has_name q) ss ≡ false → (self_of q ss ≡ 0) × (all_of q ss ≡ 0)) → (self_of q (s ∷ ss) ≡ 0) × (all_of q (s ∷ ss) ≡ 0)
+none_more : (b : Bool) (q : List ℕ) (s : Stack) (ss : List Stack) → has_function q s ≡ b → (b || list_any (has_function q) ss) ≡ false
+    → (list_any (has_function q) ss ≡ false → (own_samples q ss ≡ 0) × (total_samples q ss ≡ 0)) → (own_samples q (s ∷ ss) ≡ 0) × (total_samples q (s ∷ ss) ≡ 0)
 none_more true q s ss e f h = absurd (true≢false f)
 none_more false q s ss e f h =
     let (own, total) = h f in
-    let no_self : self_in q s ≡ 0 = not_last (is_last q (names_in s.frames)) q s refl e in
+    let no_self : self_in q s ≡ 0 = not_last (is_last q (function_names s.frames)) q s refl e in
     let no_all : all_in q s ≡ 0 = rw e refl in
     (omega arith, omega arith)
 
-none_own : (q : List ℕ) (ss : List Stack) → list_any (has_name q) ss ≡ false → (self_of q ss ≡ 0) × (all_of q ss ≡ 0)
+none_own : (q : List ℕ) (ss : List Stack) → list_any (has_function q) ss ≡ false → (own_samples q ss ≡ 0) × (total_samples q ss ≡ 0)
 none_own q [] h = (refl, refl)
-none_own q (s ∷ ss) h = none_more (has_name q s) q s ss refl h (none_own q ss)
+none_own q (s ∷ ss) h = none_more (has_function q s) q s ss refl h (none_own q ss)
 
 -- ---- a function of a stack is seen
 
@@ -146,31 +148,31 @@ finish_by has own total n c m false (Some t) among (there, is_own, is_total, sam
 
 module _ (done : List Stack) where
   pub none_seen : (k c : ℕ) (tallies : BTreeMap (Bor (List ℕ)) Tally) → AreTallied done k tallies → AreSeen done [] (k + 1) c tallies
-  none_seen k c tallies h q = begin_by (list_any (has_name q) done) (self_of q done) (all_of q done) k c (tally_at q tallies) (h q)
+  none_seen k c tallies h q = begin_by (list_any (has_function q) done) (own_samples q done) (total_samples q done) k c (tally_at q tallies) (h q)
 
   pub one_seen : (seen : List (List ℕ)) (name : List ℕ) (n c : ℕ) (old new : BTreeMap (Bor (List ℕ)) Tally) → AreSeen done seen n c old → Sets name (Some (seen_once n c (tally_at name old))) old new
       → AreSeen done (seen ++ name ∷ []) n c new
   one_seen seen name n c old new h sets q =
-      let has = list_any (has_name q) done in
-      let own = self_of q done in
-      let total = all_of q done in
+      let has = list_any (has_function q) done in
+      let own = own_samples q done in
+      let total = total_samples q done in
       let here : (bytes_eq q name ≡ true → tally_at name old ≡ tally_at q old) = λ e. ap (λ (x : List ℕ). tally_at x old) (sym ((bytes_decides q name).0 e)) in
       subst (λ (m : Bool). IsSeenBy has own total m n c (tally_at q new)) (sym (any_push (bytes_eq q) seen name))
       (subst (λ (t : Option Tally). IsSeenBy has own total (list_any (bytes_eq q) seen || bytes_eq q name) n c t) (sym (sets q))
       (see_by (bytes_eq q name) has own total n c (list_any (bytes_eq q) seen) (tally_at q old) (tally_at name old) (none_own q done) (h q) here))
 
-  pub stack_counted : (s : Stack) (n : ℕ) (old new : BTreeMap (Bor (List ℕ)) Tally) → AreSeen done (names_in s.frames) n s.count old
-      → ((q : List ℕ) → tally_at q new ≡ cond (is_last q (names_in s.frames)) (option_map (owning s.count) (tally_at q old)) (tally_at q old))
+  pub stack_counted : (s : Stack) (n : ℕ) (old new : BTreeMap (Bor (List ℕ)) Tally) → AreSeen done (function_names s.frames) n s.count old
+      → ((q : List ℕ) → tally_at q new ≡ cond (is_last q (function_names s.frames)) (option_map (owning s.count) (tally_at q old)) (tally_at q old))
       → AreTallied (done ++ s ∷ []) n new
   stack_counted s n old new h owns q =
-      let has = list_any (has_name q) done in
-      let own = self_of q done in
-      let total = all_of q done in
-      let m = has_name q s in
-      let is = is_last q (names_in s.frames) in
-      let counted = finish_by has own total n s.count m is (tally_at q old) (last_is_among q (names_in s.frames)) (h q) in
-      subst (λ (x : Bool). IsTalliedBy x (self_of q (done ++ s ∷ [])) (all_of q (done ++ s ∷ [])) n (tally_at q new)) (sym (any_push (has_name q) done s))
-      (subst (λ (x : ℕ). IsTalliedBy (has || m) x (all_of q (done ++ s ∷ [])) n (tally_at q new)) (sym (self_push q done s))
+      let has = list_any (has_function q) done in
+      let own = own_samples q done in
+      let total = total_samples q done in
+      let m = has_function q s in
+      let is = is_last q (function_names s.frames) in
+      let counted = finish_by has own total n s.count m is (tally_at q old) (last_is_among q (function_names s.frames)) (h q) in
+      subst (λ (x : Bool). IsTalliedBy x (own_samples q (done ++ s ∷ [])) (total_samples q (done ++ s ∷ [])) n (tally_at q new)) (sym (any_push (has_function q) done s))
+      (subst (λ (x : ℕ). IsTalliedBy (has || m) x (total_samples q (done ++ s ∷ [])) n (tally_at q new)) (sym (self_push q done s))
       (subst (λ (x : ℕ). IsTalliedBy (has || m) (own + self_in q s) x n (tally_at q new)) (sym (all_push q done s))
       (subst (λ (t : Option Tally). IsTalliedBy (has || m) (own + self_in q s) (total + all_in q s) n t) (sym (owns q)) counted)))
 
@@ -179,15 +181,15 @@ module _ (done : List Stack) where
 can_see : (done rest all : List Stack) (s : Stack) (seen : List (List ℕ)) (n : ℕ) (q : List ℕ) (o : Option Tally) → done ++ s ∷ rest ≡ all → total_of all < 2 ^ 64 → IsSeen q done seen n s.count o → IfSome o (CanSee n s.count)
 can_see done rest all s seen n q None is small h = tt
 can_see done rest all s seen n q (Some t) is small (there, is_own, is_total, same, last) = λ apart.
-    let fits = one_fits done rest all s (all_of q done) is (all_le q done) small in
+    let fits = one_fits done rest all s (total_samples q done) is (all_le q done) small in
     let unseen : list_any (bytes_eq q) seen ≡ false = sym same ∙ apart in
-    let f : t.total ≡ all_of q done + 0 = is_total ∙ ap (λ (b : Bool). all_of q done + cond b s.count 0) unseen in
+    let f : t.total ≡ total_samples q done + 0 = is_total ∙ ap (λ (b : Bool). total_samples q done + cond b s.count 0) unseen in
     omega (arith, fits)
 
 can_own : (done rest all : List Stack) (s : Stack) (seen : List (List ℕ)) (n : ℕ) (q : List ℕ) (o : Option Tally) → done ++ s ∷ rest ≡ all → total_of all < 2 ^ 64 → IsSeen q done seen n s.count o → IfSome o (λ t. t.own + s.count < 2 ^ 64)
 can_own done rest all s seen n q None is small h = tt
 can_own done rest all s seen n q (Some t) is small (there, is_own, is_total, same, last) =
-    let fits = one_fits done rest all s (self_of q done) is (self_le q done) small in
+    let fits = one_fits done rest all s (own_samples q done) is (self_le q done) small in
     omega (arith, fits)
 
 -- ---- at the place of a stack among all
@@ -217,12 +219,12 @@ module _ (all : List Stack) (index : ℕ) (s : Stack) (rest : List Stack) (next 
       subst (λ (seen : List (List ℕ)). AreSeen done seen (index + 1) count new) (sym more)
       (one_seen done (take k names) name (index + 1) count old new h (subst (λ (n : ℕ). Sets name (Some (seen_once (index + 1) n (tally_at name old))) old new) (sym is_count) sets))
 
-  pub counted_more : (names : List (List ℕ)) (old new : BTreeMap (Bor (List ℕ)) Tally) → take (index + 1) all ≡ done ++ s ∷ [] → names ≡ names_in s.frames → AreSeen done names (index + 1) count old
+  pub counted_more : (names : List (List ℕ)) (old new : BTreeMap (Bor (List ℕ)) Tally) → take (index + 1) all ≡ done ++ s ∷ [] → names ≡ function_names s.frames → AreSeen done names (index + 1) count old
       → ((q : List ℕ) → tally_at q new ≡ cond (is_last q names) (option_map (owning s.count) (tally_at q old)) (tally_at q old)) → AreTallied (take (index + 1) all) (index + 1) new
   counted_more names old new more are h owns =
       subst (λ (ss : List Stack). AreTallied ss (index + 1) new) (sym more)
       (stack_counted done s (index + 1) old new
-      (subst (λ (n : ℕ). AreSeen done (names_in s.frames) (index + 1) n old) is_count (subst (λ (ns : List (List ℕ)). AreSeen done ns (index + 1) count old) are h))
+      (subst (λ (n : ℕ). AreSeen done (function_names s.frames) (index + 1) n old) is_count (subst (λ (ns : List (List ℕ)). AreSeen done ns (index + 1) count old) are h))
       (subst (λ (ns : List (List ℕ)). (q : List ℕ) → tally_at q new ≡ cond (is_last q ns) (option_map (owning s.count) (tally_at q old)) (tally_at q old)) are owns))
 
 -- ---- the last function of a stack
@@ -297,13 +299,13 @@ found_by : (b : Bool) (q : List ℕ) (e : Bor (List ℕ) × Tally) (x : Option R
 found_by true q e x y is h = ap (λ (name : List ℕ). Some (named_row name e.1)) (sym ((bytes_decides q e.0.now).0 is))
 found_by false q e x y is h = h
 
-row_found : (q : List ℕ) (es : List (Bor (List ℕ) × Tally)) → row_at q (map row_in es) ≡ option_map (named_row q) (lookup (is_at (λ k. slice_cmp nat_cmp q k.now)) es)
+row_found : (q : List ℕ) (es : List (Bor (List ℕ) × Tally)) → find (λ (row : Row). bytes_eq q row.name) (map row_in es) ≡ option_map (named_row q) (lookup (is_at (λ k. slice_cmp nat_cmp q k.now)) es)
 row_found q [] = refl
 row_found q (e ∷ es) =
-    found_by (bytes_eq q e.0.now) q e (row_at q (map row_in es)) (lookup (is_at (λ k. slice_cmp nat_cmp q k.now)) es) refl (row_found q es)
+    found_by (bytes_eq q e.0.now) q e (find (λ (row : Row). bytes_eq q row.name) (map row_in es)) (lookup (is_at (λ k. slice_cmp nat_cmp q k.now)) es) refl (row_found q es)
     ∙ ap (λ (b : Bool). option_map (named_row q) (cond b (Some e.1) (lookup (is_at (λ k. slice_cmp nat_cmp q k.now)) es))) (sym (is_eq-slice_cmp q e.0.now))
 
-row_right : (all : List Stack) (n : ℕ) (q : List ℕ) (o : Option Tally) → IsTallied q all n o → option_map (named_row q) o ≡ cond (list_any (has_name q) all) (Some (row_of q all)) None
+row_right : (all : List Stack) (n : ℕ) (q : List ℕ) (o : Option Tally) → IsTallied q all n o → option_map (named_row q) o ≡ cond (list_any (has_function q) all) (Some (row_of q all)) None
 row_right all n q None h = rw h refl
 row_right all n q (Some t) (there, is_own, is_total, last) = rw there (λ i. Some (record { name = q; own = is_own i; total = is_total i }))
 

@@ -1,5 +1,5 @@
 -- The flame graph of folded stacks.
---     IsOfPlain drawing text graph      the file of the stacks of a plain text
+--     IsGraphOfPlain drawing text graph      the file of the stacks of a plain text
 --     IsLawfulOfPlain drawing text graph      how wide its boxes are, and how they lie
 --     IsPlainRefused drawing text error      why there is none
 use Rattle.std.specs.Prelude.{◌≡◌, ◌⊎◌, ◌<◌, ◌^◌, ℕ, Bool, List, Ok, map}
@@ -11,8 +11,10 @@ use Rattle.cfi_flame.specs.declared.folded.FoldedError.{FoldedError}
 use Rattle.cfi_flame.specs.declared.folded.FoldedError.TheVariants.{OutOfMemory, NotFolded}
 use Rattle.cfi_flame.specs.declared.folded.FoldedError.TheVariants.{NoSamples, TooManySamples}
 use Rattle.cfi_flame.specs.declared.folded.Stack.{Stack as StackOfCode}
-use Rattle.cfi_flame.specs.Boxes.{Box, boxes_of, total_of, wide_boxes}
-use Rattle.cfi_flame.specs.FoldedStacks.{IsRefused, Stack, drawn, stack_view, stacks_of}
+use Rattle.cfi_flame.specs.Boxes.{Box, boxes_of, wide_boxes}
+use Rattle.cfi_flame.specs.FoldedStacks.{total_of}
+use Rattle.cfi_flame.specs.FoldedStacks.{IsStackError, Stack, stack_view, stacks_of}
+use Rattle.cfi_flame.specs.PlainTexts.{drawn_name}
 use Rattle.cfi_flame.specs.Graphs.{graph_text}
 use Rattle.cfi_flame.specs.Pictures.{AreShares, IsPicture}
 use Rattle.cfi_flame.specs.Turned.{as_read}
@@ -33,7 +35,7 @@ drawing_view drawing = record {
 -- with the title as it is drawn
 abbrev pub as_drawn : Drawing → Drawing
 as_drawn drawing = record {
-  title = drawn drawing.title;
+  title = drawn_name drawing.title;
   reverse = drawing.reverse;
   least = drawing.least;
 }
@@ -53,8 +55,8 @@ pub record AreSorted (stacks sorted : List Stack) : Type 0 where
   pub view : map stack_view ordered ≡ sorted
 
 -- of sorted stacks: they have samples
-abbrev pub IsOfSorted : Drawing → List Stack → List ℕ → Type 0
-IsOfSorted drawing sorted graph =
+abbrev pub IsGraphOfSorted : Drawing → List Stack → List ℕ → Type 0
+IsGraphOfSorted drawing sorted graph =
     (0 < total_of sorted) × (total_of sorted < 2 ^ 64)
     × (graph ≡ graph_text drawing.title (total_of sorted) (drawn_boxes drawing sorted))
 
@@ -65,9 +67,9 @@ IsSortedRefused sorted NoSamples = total_of sorted ≡ 0
 IsSortedRefused sorted TooManySamples = ¬ (total_of sorted < 2 ^ 64)
 
 -- of stacks in any order
-abbrev pub IsOfStacks : Drawing → List Stack → List ℕ → Type 0
-IsOfStacks drawing stacks graph =
-    (sorted : List Stack) × AreSorted stacks sorted × IsOfSorted drawing sorted graph
+abbrev pub IsGraphOfStacks : Drawing → List Stack → List ℕ → Type 0
+IsGraphOfStacks drawing stacks graph =
+    (sorted : List Stack) × AreSorted stacks sorted × IsGraphOfSorted drawing sorted graph
 
 abbrev pub IsStacksRefused : List Stack → FoldedError → Type 0
 IsStacksRefused stacks error =
@@ -75,10 +77,10 @@ IsStacksRefused stacks error =
     ⊎ ((sorted : List Stack) × AreSorted stacks sorted × IsSortedRefused sorted error)
 
 -- of the stacks of a plain text
-abbrev pub IsOfPlain : Drawing → List ℕ → List ℕ → Type 0
-IsOfPlain drawing text graph =
+abbrev pub IsGraphOfPlain : Drawing → List ℕ → List ℕ → Type 0
+IsGraphOfPlain drawing text graph =
     (stacks : List Stack) × (stacks_of text ≡ Ok stacks)
-    × IsOfStacks drawing (as_read drawing.reverse stacks) graph
+    × IsGraphOfStacks drawing (as_read drawing.reverse stacks) graph
 
 -- ---- the law of every graph
 
@@ -97,6 +99,6 @@ IsLawfulOfPlain drawing text graph =
 
 abbrev pub IsPlainRefused : Drawing → List ℕ → FoldedError → Type 0
 IsPlainRefused drawing text error =
-    IsRefused (stacks_of text) error
+    IsStackError (stacks_of text) error
     ⊎ ((stacks : List Stack) × (stacks_of text ≡ Ok stacks)
     × IsStacksRefused (as_read drawing.reverse stacks) error)

@@ -7,11 +7,11 @@ use Rattle.std.specs.Prelude.{max, if◌then◌else◌}
 use Rattle.std.specs.List.{flat_map, fold}
 use Rattle.cfi_flame.specs.declared.graph.TheConstants.{BEFORE_ROWS, BEFORE_TITLE, BEFORE_BOXES}
 use Rattle.cfi_flame.specs.declared.graph.TheConstants.{BEHIND_BOXES}
-use Rattle.cfi_flame.specs.Boxes.{Box, depth_in, name_in}
+use Rattle.cfi_flame.specs.Boxes.{Box, depth_in, last_name}
 
 -- the entities of XML
-abbrev pub escaped : ℕ → List ℕ
-escaped c =
+abbrev pub xml_escaped : ℕ → List ℕ
+xml_escaped c =
     if c == 38 then codes "&amp;"
     else if c == 60 then codes "&lt;"
     else if c == 62 then codes "&gt;"
@@ -25,30 +25,28 @@ hue_of name = 10 + fold (λ hash c. (hash * 31 + c) % 997) 0 name % 50
 abbrev pub share : ℕ → ℕ → ℕ
 share samples total = samples * 100000000 / total
 
-abbrev pub place_text : ℕ → ℕ → ℕ → List ℕ
-place_text start row width =
+abbrev pub position_text : ℕ → ℕ → ℕ → List ℕ
+position_text start row width =
     (codes "<svg x=\"" ++ decimal start) ++ ((codes "e-6%\" y=\"" ++ decimal row)
     ++ ((codes "em\" width=\"" ++ decimal width) ++ codes "e-6%\" height=\"1em\">"))
 
 abbrev pub details_text : List ℕ → ℕ → List ℕ
 details_text name width =
-    codes "<title>" ++ (flat_map escaped name ++ (codes ": " ++ (decimal width
+    codes "<title>" ++ (flat_map xml_escaped name ++ (codes ": " ++ (decimal width
     ++ codes "</title>")))
 
 abbrev pub face_text : List ℕ → List ℕ
 face_text name =
     (codes "<rect width=\"100%\" height=\"1em\" fill=\"hsl(" ++ decimal (hue_of name))
-    ++ (codes ",80%,65%)\"/><text x=\"3\" y=\"13\">" ++ (flat_map escaped name
+    ++ (codes ",80%,65%)\"/><text x=\"3\" y=\"13\">" ++ (flat_map xml_escaped name
     ++ (codes "</text></svg>" ++ 10 ∷ [])))
 
--- a box with this name
-abbrev pub named_text : ℕ → ℕ → List ℕ → ℕ → ℕ → List ℕ
-named_text row total name left width =
-    place_text (share left total) row (share (left + width) total - share left total)
-    ++ (details_text name width ++ face_text name)
-
 abbrev pub box_text : ℕ → ℕ → Box → List ℕ
-box_text row total box = named_text row total (name_in box.functions) box.left box.width
+box_text row total box =
+    let start = share box.left total in
+    let name = last_name box.functions in
+    position_text start row (share (box.left + box.width) total - start)
+    ++ (details_text name box.width ++ face_text name)
 
 abbrev pub boxes_text : ℕ → ℕ → List Box → List ℕ
 boxes_text deepest total [] = []
@@ -68,7 +66,7 @@ deepest_of (box ∷ boxes) = max (depth_in box.functions) (deepest_of boxes)
 abbrev pub head_text : List ℕ → ℕ → List ℕ
 head_text title rows =
     (BEFORE_ROWS.now ++ decimal rows)
-    ++ (BEFORE_TITLE.now ++ (flat_map escaped title ++ BEFORE_BOXES.now))
+    ++ (BEFORE_TITLE.now ++ (flat_map xml_escaped title ++ BEFORE_BOXES.now))
 
 -- where the deepest lies so deep
 abbrev pub graph_by : List ℕ → ℕ → ℕ → List Box → List ℕ

@@ -1,3 +1,5 @@
+pub mod Decimals
+pub mod PlainTexts
 pub mod FoldedStacks
 pub mod FoldedCounts
 pub mod Functions
@@ -7,4 +9,5 @@ pub mod Boxes
 pub mod Pictures
 pub mod Graphs
 pub mod Flames
+pub mod Rankings
 pub mod Reports

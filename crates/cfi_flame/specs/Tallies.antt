@@ -12,7 +12,7 @@ use Rattle.std.specs.Ordering.{nat_cmp}
 use Rattle.std.specs.Str.{bytes_eq}
 use Rattle.cfi_flame.specs.declared.functions.Tally.{Tally}
 use Rattle.cfi_flame.specs.FoldedStacks.{Stack}
-use Rattle.cfi_flame.specs.Functions.{all_of, has_name, self_of}
+use Rattle.cfi_flame.specs.Functions.{total_samples, has_function, own_samples}
 
 abbrev pub tally_at : List ℕ → BTreeMap (Bor (List ℕ)) Tally → Option Tally
 tally_at name tallies = get_by (λ key. slice_cmp nat_cmp name key.now) tallies
@@ -51,7 +51,8 @@ IsTalliedBy has own total number (Some tally) =
 
 abbrev pub IsTallied : List ℕ → List Stack → ℕ → Option Tally → Type 0
 IsTallied name done number tally =
-    IsTalliedBy (list_any (has_name name) done) (self_of name done) (all_of name done) number tally
+    IsTalliedBy (list_any (has_function name) done) (own_samples name done)
+    (total_samples name done) number tally
 
 abbrev pub AreTallied : List Stack → ℕ → BTreeMap (Bor (List ℕ)) Tally → Type 0
 AreTallied done number tallies =
@@ -66,7 +67,7 @@ IsSeenBy has own total seen number count (Some tally) =
 
 abbrev pub IsSeen : List ℕ → List Stack → List (List ℕ) → ℕ → ℕ → Option Tally → Type 0
 IsSeen name done seen number count tally =
-    IsSeenBy (list_any (has_name name) done) (self_of name done) (all_of name done)
+    IsSeenBy (list_any (has_function name) done) (own_samples name done) (total_samples name done)
     (list_any (bytes_eq name) seen) number count tally
 
 abbrev pub AreSeen :

@@ -9,7 +9,7 @@ ghost use Rattle.cfi_flame.specs.FoldedCounts.{AreCounted, CountsMore, IsNotAdde
 ghost use Rattle.cfi_flame.specs.FoldedCounts.{counted_in, line_text};
 
 use crate::folded::FoldedError;
-use crate::graph::{push, push_number};
+use crate::text::{push, push_number};
 use std::alloc::{AllocError, Global};
 use std::collections::BTreeMap;
 
@@ -29,7 +29,7 @@ impl StackCounts {
         }
     }
 
-    /// Counts a sample with this stack, or as many.
+    /// Counts so many samples with this stack.
     ///
     /// Fails with `TooManySamples` where the stack then has 2^64 or more, and with `OutOfMemory`.
     /// Allocates for a stack that wasn't there.

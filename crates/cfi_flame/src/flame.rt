@@ -1,15 +1,16 @@
 //! The flame graph of folded stacks.
 ghost use Rattle.std.specs.Prelude.{◌≡◌, ◌<◌, IfErr, IfOk, map};
-ghost use Rattle.cfi_flame.specs.Boxes.{total_of};
-ghost use Rattle.cfi_flame.specs.Flames.{IsLawfulOfPlain, IsOfPlain, IsOfSorted, IsOfStacks};
-ghost use Rattle.cfi_flame.specs.Flames.{IsPlainRefused};
+ghost use Rattle.cfi_flame.specs.Flames.{IsGraphOfPlain, IsGraphOfSorted, IsGraphOfStacks};
+ghost use Rattle.cfi_flame.specs.Flames.{IsLawfulOfPlain, IsPlainRefused};
 ghost use Rattle.cfi_flame.specs.Flames.{IsSortedRefused, IsStacksRefused, as_drawn, drawing_view};
-ghost use Rattle.cfi_flame.specs.FoldedStacks.{plain, stack_view};
+ghost use Rattle.cfi_flame.specs.FoldedStacks.{stack_view, total_of};
+ghost use Rattle.cfi_flame.specs.PlainTexts.{plain};
 ghost use Rattle.cfi_flame.specs.Turned.{as_read, turned, turned_stack};
 
-use crate::boxes::{FlameBox, boxes_of, total_of, wide_boxes};
-use crate::folded::{FoldedError, Stack, drawn_name, plain_text, read_stacks};
+use crate::boxes::{boxes_of, wide_boxes};
+use crate::folded::{FoldedError, Stack, read_stacks, total_of};
 use crate::graph::flame_graph;
+use crate::plain::{drawn_name, plain_text};
 use crate::turned::{turned_frames, turned_stacks};
 use std::alloc::{AllocError, Global};
 
@@ -33,7 +34,7 @@ pub struct Drawing<'w> {
 /// and with `OutOfMemory`. Allocates for the stacks, the boxes and the file.
 pub fn flame_of(alloc: Global, drawing: Drawing<'_>, text: &[u8]) -> Result<Vec<u8>, FoldedError>
     ensures drawn { IfOk result (λ graph.
-        IsOfPlain (as_drawn (drawing_view drawing.entry)) (plain text.now) graph.items) }
+        IsGraphOfPlain (as_drawn (drawing_view drawing.entry)) (plain text.now) graph.items) }
     ensures lawful { IfOk result (λ graph.
         IsLawfulOfPlain (as_drawn (drawing_view drawing.entry)) (plain text.now) graph.items) }
     ensures refused { IfErr result
@@ -56,7 +57,7 @@ pub fn flame_of(alloc: Global, drawing: Drawing<'_>, text: &[u8]) -> Result<Vec<
 /// Returns the flame graph of folded stacks, with a title as it is drawn.
 fn flame_of_text(alloc: Global, drawing: Drawing<'_>, text: &[u8]) -> Result<Vec<u8>, FoldedError>
     ensures drawn { IfOk result (λ graph.
-        IsOfPlain (drawing_view drawing.entry) (plain text.now) graph.items) }
+        IsGraphOfPlain (drawing_view drawing.entry) (plain text.now) graph.items) }
     ensures refused { IfErr result
         (IsPlainRefused (drawing_view drawing.entry) (plain text.now)) }
 {
@@ -69,7 +70,7 @@ fn flame_of_text(alloc: Global, drawing: Drawing<'_>, text: &[u8]) -> Result<Vec
 /// Returns the flame graph of the stacks of a plain text.
 fn flame_of_plain(alloc: Global, drawing: Drawing<'_>, text: &[u8]) -> Result<Vec<u8>, FoldedError>
     ensures drawn { IfOk result (λ graph.
-        IsOfPlain (drawing_view drawing.entry) text.now graph.items) }
+        IsGraphOfPlain (drawing_view drawing.entry) text.now graph.items) }
     ensures refused { IfErr result (IsPlainRefused (drawing_view drawing.entry) text.now) }
 {
     match read_stacks(alloc, text) {
@@ -84,7 +85,7 @@ fn flame_of_read(
     drawing: Drawing<'_>,
     stacks: Vec<Stack<'_>>,
 ) -> Result<Vec<u8>, FoldedError>
-    ensures drawn { IfOk result (λ graph. IsOfStacks (drawing_view drawing.entry)
+    ensures drawn { IfOk result (λ graph. IsGraphOfStacks (drawing_view drawing.entry)
         (as_read drawing.entry.reverse (map stack_view stacks.entry.items)) graph.items) }
     ensures refused { IfErr result (IsStacksRefused
         (as_read drawing.entry.reverse (map stack_view stacks.entry.items))) }
@@ -102,7 +103,7 @@ fn flame_by_callers(
     drawing: Drawing<'_>,
     stacks: &[Stack<'_>],
 ) -> Result<Vec<u8>, FoldedError>
-    ensures drawn { IfOk result (λ graph. IsOfStacks (drawing_view drawing.entry)
+    ensures drawn { IfOk result (λ graph. IsGraphOfStacks (drawing_view drawing.entry)
         (map turned_stack (map stack_view stacks.now)) graph.items) }
     ensures refused { IfErr result
         (IsStacksRefused (map turned_stack (map stack_view stacks.now))) }
@@ -123,7 +124,7 @@ fn flame_of_turned(
 ) -> Result<Vec<u8>, FoldedError>
     requires { map (λ frames. frames.items) frames.now
         ≡ map (λ stack. turned stack.frames) (map stack_view stacks.now) }
-    ensures drawn { IfOk result (λ graph. IsOfStacks (drawing_view drawing.entry)
+    ensures drawn { IfOk result (λ graph. IsGraphOfStacks (drawing_view drawing.entry)
         (map turned_stack (map stack_view stacks.now)) graph.items) }
     ensures refused { IfErr result
         (IsStacksRefused (map turned_stack (map stack_view stacks.now))) }
@@ -140,7 +141,7 @@ fn flame_of_stacks(
     drawing: Drawing<'_>,
     stacks: Vec<Stack<'_>>,
 ) -> Result<Vec<u8>, FoldedError>
-    ensures drawn { IfOk result (λ graph. IsOfStacks (drawing_view drawing.entry)
+    ensures drawn { IfOk result (λ graph. IsGraphOfStacks (drawing_view drawing.entry)
         (map stack_view stacks.entry.items) graph.items) }
     ensures refused { IfErr result (IsStacksRefused (map stack_view stacks.entry.items)) }
 {
@@ -157,7 +158,7 @@ fn flame_of_sorted(
     drawing: Drawing<'_>,
     sorted: &[Stack<'_>],
 ) -> Result<Vec<u8>, FoldedError>
-    ensures drawn { IfOk result (λ graph. IsOfSorted (drawing_view drawing.entry)
+    ensures drawn { IfOk result (λ graph. IsGraphOfSorted (drawing_view drawing.entry)
         (map stack_view sorted.now) graph.items) }
     ensures refused { IfErr result (IsSortedRefused (map stack_view sorted.now)) }
 {
@@ -180,7 +181,7 @@ fn draw(
 ) -> Result<Vec<u8>, AllocError>
     requires counted { total ≡ total_of (map stack_view sorted.now) }
     requires some { 0 < total }
-    ensures { IfOk result (λ graph. IsOfSorted (drawing_view drawing.entry)
+    ensures { IfOk result (λ graph. IsGraphOfSorted (drawing_view drawing.entry)
         (map stack_view sorted.now) graph.items) }
 {
     let boxes = boxes_of(alloc, sorted)?;

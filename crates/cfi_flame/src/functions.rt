@@ -1,13 +1,12 @@
 //! The functions of stacks, and the samples that they have.
 ghost use Rattle.std.specs.Prelude.{◌≡◌, ◌+◌, ◌<◌, ◌^◌, ℕ, List, None, Some, IfOk, IfSome, OnOk};
 ghost use Rattle.std.specs.Prelude.{drop, length, map, option_map, take, if◌then◌else◌};
-ghost use Rattle.cfi_flame.specs.Boxes.{total_of};
-ghost use Rattle.cfi_flame.specs.FoldedStacks.{stack_view};
-ghost use Rattle.cfi_flame.specs.Functions.{AreFunctions, is_last, names_in, row_view};
+ghost use Rattle.cfi_flame.specs.FoldedStacks.{function_names, stack_view, total_of};
+ghost use Rattle.cfi_flame.specs.Functions.{AreFunctions, is_last, row_view};
 ghost use Rattle.cfi_flame.specs.Tallies.{AreSeen, AreTallied, CanSee, Sets, owning, seen_again};
 ghost use Rattle.cfi_flame.specs.Tallies.{first_count, seen_once, tally_at};
 
-use crate::folded::{SEPARATOR, Stack};
+use crate::folded::{Stack, function_names};
 use std::alloc::{AllocError, Global};
 use std::collections::BTreeMap;
 
@@ -61,21 +60,10 @@ fn count_stack<'text>(
     ensures { OnOk result (AreTallied (take (index + 1) (map stack_view stacks.now)) (index + 1)
         tallies.new) }
 {
-    let names = names_in(alloc, stacks[index].frames)?;
+    let names = function_names(alloc, stacks[index].frames)?;
     see_all(tallies, names.as_slice(), stacks, index)?;
     own_last(tallies, names.as_slice(), stacks[index].count);
     Ok(())
-}
-
-/// Returns the names of a stack.
-pub(crate) fn names_in<'text>(
-    alloc: Global,
-    frames: &'text [u8],
-) -> Result<Vec<&'text [u8]>, AllocError>
-    ensures { IfOk result (λ names.
-        map (λ name. name.now) names.items ≡ names_in frames.now) }
-{
-    frames.split(|byte| *byte == SEPARATOR).collect(alloc)
 }
 
 /// Counts the samples of the stack of this index for its functions, which have these names.

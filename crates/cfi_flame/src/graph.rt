@@ -2,13 +2,13 @@
 ghost use Rattle.std.specs.Prelude.{◌≡◌, ◌+◌, ◌*◌, ◌/◌, ◌^◌, ◌<◌, ◌++◌, IfOk, OnOk, decimal, map};
 ghost use Rattle.std.specs.List.{flat_map, fold};
 ghost use Rattle.cfi_flame.specs.Boxes.{box_view};
-ghost use Rattle.cfi_flame.specs.Graphs.{box_text, boxes_text, deepest_of, escaped, graph_text};
+ghost use Rattle.cfi_flame.specs.Graphs.{box_text, boxes_text, deepest_of, xml_escaped, graph_text};
 ghost use Rattle.cfi_flame.specs.Graphs.{details_text, face_text, graph_by, head_text};
-ghost use Rattle.cfi_flame.specs.Graphs.{hue_of, named_text, place_text, share};
+ghost use Rattle.cfi_flame.specs.Graphs.{hue_of, position_text, share};
 ghost use Rattle.cfi_flame.specs.Graphs.{whole_text};
 
 use crate::boxes::FlameBox;
-use itoa::Buffer;
+use crate::text::{push, push_number, push_numbered};
 use std::alloc::{AllocError, Global};
 
 /// Before the number of rows.
@@ -202,32 +202,17 @@ fn push_box(
     ensures { OnOk result (text.new.items
         ≡ text.old.items ++ box_text row total (box_view found.now)) }
 {
-    push_named(text, row, total, found.name(), found.left, found.width)
-}
-
-/// Appends a box with this name in this row.
-fn push_named(
-    text: &mut Vec<u8>,
-    row: u128,
-    total: u64,
-    name: &[u8],
-    left: u64,
-    width: u64,
-) -> Result<(), AllocError>
-    requires { 0 < total }
-    ensures { OnOk result (text.new.items
-        ≡ text.old.items ++ named_text row total name.now left width) }
-{
-    let start = share(left as u128, total);
-    let end = share(left as u128 + width as u128, total);
-    push_place(text, start, row, end.saturating_sub(start))?;
-    push_details(text, name, width)?;
+    let start = share(found.left as u128, total);
+    let end = share(found.left as u128 + found.width as u128, total);
+    let name = found.name();
+    push_position(text, start, row, end.saturating_sub(start))?;
+    push_details(text, name, found.width)?;
     push_face(text, name)
 }
 
 /// Appends where a box lies: `x` and `width` in millionths of a per cent, `y` in rows.
-fn push_place(text: &mut Vec<u8>, start: u128, row: u128, width: u128) -> Result<(), AllocError>
-    ensures { OnOk result (text.new.items ≡ text.old.items ++ place_text start row width) }
+fn push_position(text: &mut Vec<u8>, start: u128, row: u128, width: u128) -> Result<(), AllocError>
+    ensures { OnOk result (text.new.items ≡ text.old.items ++ position_text start row width) }
 {
     push_numbered(text, b"<svg x=\"", start)?;
     push_numbered(text, b"e-6%\" y=\"", row)?;
@@ -282,7 +267,7 @@ fn hue_of(name: &[u8]) -> u128
 
 /// Appends the text with the entities of XML for its characters `&`, `<`, `>` and `"`.
 fn push_escaped(text: &mut Vec<u8>, name: &[u8]) -> Result<(), AllocError>
-    ensures { OnOk result (text.new.items ≡ text.old.items ++ flat_map escaped name.now) }
+    ensures { OnOk result (text.new.items ≡ text.old.items ++ flat_map xml_escaped name.now) }
 {
     for byte in name {
         push_character(text, *byte)?;
@@ -292,7 +277,7 @@ fn push_escaped(text: &mut Vec<u8>, name: &[u8]) -> Result<(), AllocError>
 
 /// Appends a character, or its entity.
 fn push_character(text: &mut Vec<u8>, byte: u8) -> Result<(), AllocError>
-    ensures { OnOk result (text.new.items ≡ text.old.items ++ escaped byte) }
+    ensures { OnOk result (text.new.items ≡ text.old.items ++ xml_escaped byte) }
 {
     match byte {
         b'&' => push(text, b"&amp;"),
@@ -301,31 +286,4 @@ fn push_character(text: &mut Vec<u8>, byte: u8) -> Result<(), AllocError>
         b'"' => push(text, b"&quot;"),
         _ => push(text, &[byte]),
     }
-}
-
-/// Appends the bytes and a number behind them.
-pub(crate) fn push_numbered(
-    text: &mut Vec<u8>,
-    before: &[u8],
-    number: u128,
-) -> Result<(), AllocError>
-    ensures { OnOk result (text.new.items ≡ text.old.items ++ (before.now ++ decimal number)) }
-{
-    push(text, before)?;
-    push_number(text, number)
-}
-
-/// Appends a number in decimal.
-pub(crate) fn push_number(text: &mut Vec<u8>, number: u128) -> Result<(), AllocError>
-    ensures { OnOk result (text.new.items ≡ text.old.items ++ decimal number) }
-{
-    let mut buffer = Buffer::new();
-    push(text, buffer.format(number).as_bytes())
-}
-
-/// Appends the bytes.
-pub(crate) fn push(text: &mut Vec<u8>, bytes: &[u8]) -> Result<(), AllocError>
-    ensures { OnOk result (text.new.items ≡ text.old.items ++ bytes.now) }
-{
-    text.extend_from_slice(bytes)
 }

@@ -1,21 +1,29 @@
 //! Folded stacks, the flame graph of them, and a table of their functions.
 //!
-//! `folded` reads the stacks of a text, `boxes` says which boxes their graph has, `graph` has the
-//! file, an SVG with its style and its script, and `flame` does all of this. `functions` counts the
-//! samples of each function, and `report` has the table. `counts` makes folded stacks: it counts
-//! samples by their stacks.
+//! `plain` makes a text plain, and `folded` reads the stacks of its lines. `boxes` says which
+//! boxes their graph has, `graph` has the file, an SVG with its style and its script, and `flame`
+//! does all of this; where it is asked, `turned` turns the stacks first. `functions` counts the
+//! samples of each function, `ranking` puts those with most first, and `report` has the table.
+//! `counts` makes folded stacks: it counts samples by their stacks. `decimal` reads numbers, and
+//! `text` appends.
 #![tactic(auto)]
 
 pub mod boxes;
 pub mod counts;
+pub mod decimal;
 pub mod flame;
 pub mod folded;
 pub mod functions;
 pub mod graph;
+pub mod plain;
+pub mod ranking;
 pub mod report;
+mod text;
 pub mod turned;
 
 pub use counts::StackCounts;
 pub use flame::{Drawing, flame_of};
-pub use folded::{FoldedError, plain_text};
-pub use report::{Ranking, ranked_functions, report_of};
+pub use folded::FoldedError;
+pub use plain::plain_text;
+pub use ranking::{Ranking, ranked_functions};
+pub use report::report_of;

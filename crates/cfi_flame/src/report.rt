@@ -1,35 +1,22 @@
 //! The report of folded stacks: a table of their functions.
-ghost use Rattle.std.specs.Prelude.{◌≡◌, ◌++◌, ◌<◌, ◌^◌, IfErr, IfOk, OnOk};
-ghost use Rattle.std.specs.Prelude.{codes, map};
+ghost use Rattle.std.specs.Prelude.{◌≡◌, ◌++◌, ◌<◌, IfErr, IfOk, OnOk, codes, map};
 ghost use Rattle.std.specs.List.{flat_map};
-ghost use Rattle.cfi_flame.specs.Boxes.{total_of};
-ghost use Rattle.cfi_flame.specs.Flames.{IsSortedRefused};
-ghost use Rattle.cfi_flame.specs.FoldedStacks.{plain, stack_view};
 ghost use Rattle.cfi_flame.specs.Functions.{row_view};
-ghost use Rattle.cfi_flame.specs.Reports.{AreByRank, IsRanking, IsRankingOf, IsReport};
-ghost use Rattle.cfi_flame.specs.Reports.{IsReportRefused};
-ghost use Rattle.cfi_flame.specs.Reports.{count_text, hundredths, right, row_text};
-ghost use Rattle.cfi_flame.specs.Reports.{table_text};
+ghost use Rattle.cfi_flame.specs.PlainTexts.{plain};
+ghost use Rattle.cfi_flame.specs.Rankings.{IsReportRefused};
+ghost use Rattle.cfi_flame.specs.Reports.{IsReport, aligned_right, count_text, function_line};
+ghost use Rattle.cfi_flame.specs.Reports.{hundredths, table_text};
 
-use crate::boxes::total_of;
-use crate::folded::{FoldedError, Stack, plain_text, read_stacks};
-use crate::functions::{Function, functions_of};
-use crate::graph::{push, push_number};
+use crate::folded::FoldedError;
+use crate::functions::Function;
+use crate::plain::plain_text;
+use crate::ranking::ranked_functions;
+use crate::text::{push, push_number};
 use itoa::Buffer;
 use std::alloc::{AllocError, Global};
 
 /// What stands above the functions.
 const HEADING: &[u8] = b"        self    self%       total   total%  function\n";
-
-/// The functions of folded stacks, by their samples.
-#[derive(Drop)]
-pub struct Ranking<'text> {
-    /// How many samples the stacks have.
-    pub all: u64,
-    /// Each of their functions once, those with most samples of their own first, and those with as
-    /// many in the order of their names' bytes.
-    pub functions: Vec<Function<'text>>,
-}
 
 /// Returns the report of folded stacks: a table of their functions, those with most samples of
 /// their own first, and those with as many in the order of their names' bytes.
@@ -60,56 +47,6 @@ fn report_of_plain(alloc: Global, text: &[u8]) -> Result<Vec<u8>, FoldedError>
         },
         Err(error) => Err(error),
     }
-}
-
-/// Returns the functions of the stacks of a plain text, as `plain_text` makes it.
-///
-/// Fails with `NotFolded` at the first line that isn't a stack, a space and a number, with
-/// `NoSamples` where the numbers are all 0, with `TooManySamples` where their sum is 2^64 or more,
-/// and with `OutOfMemory`. Allocates for the stacks and the functions.
-pub fn ranked_functions<'text>(
-    alloc: Global,
-    text: &'text [u8],
-) -> Result<Ranking<'text>, FoldedError>
-    ensures ranked { IfOk result (λ ranking.
-        IsRanking text.now ranking.all (map row_view ranking.functions.items)) }
-    ensures refused { IfErr result (IsReportRefused text.now) }
-{
-    match read_stacks(alloc, text) {
-        Ok(stacks) => ranking_of(alloc, stacks.as_slice()),
-        Err(error) => Err(error),
-    }
-}
-
-/// Returns the functions of stacks by their samples.
-fn ranking_of<'text>(alloc: Global, stacks: &[Stack<'text>]) -> Result<Ranking<'text>, FoldedError>
-    ensures ranked { IfOk result (λ ranking.
-        IsRankingOf (map stack_view stacks.now) ranking.all
-        (map row_view ranking.functions.items)) }
-    ensures refused { IfErr result (IsSortedRefused (map stack_view stacks.now)) }
-{
-    match total_of(stacks) {
-        Some(0) => Err(FoldedError::NoSamples),
-        Some(all) => match by_rank(alloc, stacks) {
-            Ok(functions) => Ok(Ranking { all, functions }),
-            Err(_) => Err(FoldedError::OutOfMemory),
-        },
-        None => Err(FoldedError::TooManySamples),
-    }
-}
-
-/// Returns the functions of stacks, those with most samples of their own first.
-fn by_rank<'text>(
-    alloc: Global,
-    stacks: &[Stack<'text>],
-) -> Result<Vec<Function<'text>>, AllocError>
-    requires { total_of (map stack_view stacks.now) < 2 ^ 64 }
-    ensures { IfOk result (λ functions.
-        AreByRank (map stack_view stacks.now) (map row_view functions.items)) }
-{
-    let mut functions = functions_of(alloc, stacks)?;
-    functions.sort_by_key(|row| u64::MAX - row.own)?;
-    Ok(functions)
 }
 
 /// Returns the table of these functions, where there are so many samples in all.
@@ -146,7 +83,7 @@ fn push_rows(
 ) -> Result<(), AllocError>
     requires { 0 < all }
     ensures { OnOk result (text.new.items
-        ≡ text.old.items ++ flat_map (row_text all) (map row_view rows.now)) }
+        ≡ text.old.items ++ flat_map (function_line all) (map row_view rows.now)) }
 {
     for row in rows {
         push_row(alloc, text, all, row)?;
@@ -162,7 +99,8 @@ fn push_row(
     row: &Function<'_>,
 ) -> Result<(), AllocError>
     requires { 0 < all }
-    ensures { OnOk result (text.new.items ≡ text.old.items ++ row_text all (row_view row.now)) }
+    ensures { OnOk result (text.new.items
+        ≡ text.old.items ++ function_line all (row_view row.now)) }
 {
     push_count(alloc, text, all, row.own)?;
     push_count(alloc, text, all, row.total)?;
@@ -177,18 +115,18 @@ fn push_count(alloc: Global, text: &mut Vec<u8>, all: u64, samples: u64) -> Resu
     ensures { OnOk result (text.new.items ≡ text.old.items ++ count_text all samples) }
 {
     let mut digits = Buffer::new();
-    push_right(text, b"            ", digits.format(samples).as_bytes())?;
+    push_aligned(text, b"            ", digits.format(samples).as_bytes())?;
     push_percent(alloc, text, samples as u128 * 10_000 / all as u128)
 }
 
 /// Appends a share in hundredths of a per cent, in nine columns.
 fn push_percent(alloc: Global, text: &mut Vec<u8>, share: u128) -> Result<(), AllocError>
     ensures { OnOk result (text.new.items
-        ≡ text.old.items ++ right (codes "         ") (hundredths share)) }
+        ≡ text.old.items ++ aligned_right (codes "         ") (hundredths share)) }
 {
     let mut percent = Vec::new(alloc);
     push_hundredths(&mut percent, share)?;
-    push_right(text, b"         ", percent.as_slice())
+    push_aligned(text, b"         ", percent.as_slice())
 }
 
 /// Appends a share in hundredths of a per cent.
@@ -203,8 +141,8 @@ fn push_hundredths(text: &mut Vec<u8>, share: u128) -> Result<(), AllocError>
 }
 
 /// Appends a text behind as many spaces as make it as long as these.
-fn push_right(text: &mut Vec<u8>, spaces: &[u8], shown: &[u8]) -> Result<(), AllocError>
-    ensures { OnOk result (text.new.items ≡ text.old.items ++ right spaces.now shown.now) }
+fn push_aligned(text: &mut Vec<u8>, spaces: &[u8], shown: &[u8]) -> Result<(), AllocError>
+    ensures { OnOk result (text.new.items ≡ text.old.items ++ aligned_right spaces.now shown.now) }
 {
     push(text, &spaces[..spaces.len().saturating_sub(shown.len())])?;
     push(text, shown)

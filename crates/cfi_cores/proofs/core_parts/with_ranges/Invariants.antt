@@ -1,6 +1,5 @@
 use Rattle.std.proofs.Common.{◌≡◌}
-use Rattle.cfi_object.specs.FileParts.{AreOfInput}
-use Rattle.cfi_cores.specs.CoreParts.{image_of}
+use Rattle.cfi_object.specs.FileParts.{AreOfInput, image_of}
 use Rattle.cfi_cores.proofs.core_parts.with_ranges.Given as goal
 
 abbrev pub invariant-loop-range : goal.invariant-loop-range

@@ -1,6 +1,7 @@
 use Rattle.std.proofs.Common.{◌≡◌, ◌∙◌, ◌<◌, ◌^◌, ℕ, List, ap, map}
 use Rattle.std.proofs.lemmas.Result.{IfOk-weaker}
-use Rattle.cfi_flame.specs.Boxes.{Box, box_view, boxes_of, total_of, wide_boxes}
+use Rattle.cfi_flame.specs.Boxes.{Box, box_view, boxes_of, wide_boxes}
+use Rattle.cfi_flame.specs.FoldedStacks.{total_of}
 use Rattle.cfi_flame.specs.FoldedStacks.{stack_view}
 use Rattle.cfi_flame.specs.Flames.{drawing_view, drawn_boxes}
 use Rattle.cfi_flame.specs.Graphs.{graph_text}

@@ -1,8 +1,0 @@
-use Rattle.cfi_elf.specs.declared.image.FilePart.{FilePart}
-use Rattle.cfi_object.proofs.ReadParts.{more_read}
-use Rattle.cfi_cores.proofs.core_parts.more.Goals as goal
-
-pub returns-in-Ok-clause-read : goal.returns-in-Ok-clause-read
-returns-in-Ok-clause-read g c =
-    let read : FilePart = record { offset = c.args.offset; bytes = c.in_ok-bytes.bytes } in
-    more_read (g.I.FileInput.bytes c.args.input.now) c.args.parts.length c.args.parts.first.items c.args.parts.parts.items c.push.new.self.items read c.args.end c.in-Ok.ensures.items c.requires.free c.in_ok-bytes.ensures.read c.requires.read
