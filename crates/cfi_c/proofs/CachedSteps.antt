@@ -15,32 +15,38 @@ use Rattle.cfi_entry.specs.Sections.{DebugFrame, Section}
 use Rattle.cfi_unwind.specs.Scan.{chosen_fde}
 use Rattle.gimli_cfi.specs.HeaderViews.{section_view, unparsed_view}
 use Rattle.cfi_expression.specs.declared.error.FrameError.{FrameError}
-use Rattle.cfi_step.specs.declared.function.FunctionStep.{FunctionStep}
+use Rattle.cfi_step.specs.declared.function_steps.FunctionStep.{FunctionStep}
 use Rattle.cfi_step.specs.declared.module.LoadedModule.{LoadedModule}
 use Rattle.cfi_step.specs.declared.packed_rows.PackedRow.{PackedRow}
 use Rattle.cfi_step.specs.declared.row_cache.RowCache.{RowCache}
 use Rattle.cfi_step.specs.declared.step.Caller.{Caller}
 use Rattle.cfi_step.specs.Callers.{AreRecovered}
 use Rattle.cfi_step.specs.Functions.{function_of}
-use Rattle.cfi_step.specs.PackedRows.{AreEmpty, IsKept, KeepsFound, SaysRowOf, function_packed, parts_packed, rows_in}
+use Rattle.cfi_step.specs.PackedRows.{AreEmpty, IsKept, KeepsFound, IsPackedFor, function_packed, parts_packed, rows_in}
 use Rattle.cfi_step.specs.Marks.{is_trampoline as marked}
 use Rattle.cfi_step.specs.PackedRules.{numbered}
 use Rattle.cfi_step.specs.Steps.{caller_by}
 use Rattle.cfi_step.proofs.KeptRows.{same_caller}
-use Rattle.cfi_c.specs.declared.CfiBases.{CfiBases}
+use Rattle.cfi_c.specs.declared.section.CfiBases.{CfiBases}
 use Rattle.cfi_c.specs.declared.function.CfiFunction.{CfiFunction}
 use Rattle.cfi_c.specs.declared.memory.CfiMemory.{CfiMemory}
-use Rattle.cfi_c.specs.declared.stack.CfiEnd.{CfiEnd}
-use Rattle.cfi_c.specs.declared.stack.CfiModule.{CfiModule}
-use Rattle.cfi_c.specs.declared.stack.CfiValue.{CfiValue}
+use Rattle.cfi_c.specs.declared.end.CfiEnd.{CfiEnd}
+use Rattle.cfi_c.specs.declared.module.CfiModule.{CfiModule}
+use Rattle.cfi_c.specs.declared.register.CfiValue.{CfiValue}
 use Rattle.cfi_c.specs.declared.step.CfiCaller.{CfiCaller}
-use Rattle.cfi_c.specs.CachedSteps.{IsCacheMade, IsCachedFor, IsRightFor, IsRowFor, KeepsFor, held_rows}
-use Rattle.cfi_c.specs.PackedSteps.{AreOfCaller, IsCallerBy, IsSteppedByHeld, values_of}
+use Rattle.cfi_c.specs.CachedSteps.{IsCacheMade, IsCachedFor, IsRightFor, IsRowFor, StaysCachedFor, held_rows}
+use Rattle.cfi_c.specs.PackedSteps.{AreOfCaller, IsCallerBy, IsSteppedByHeld}
+use Rattle.cfi_c.specs.PassedRegisters.{values_of}
 use Rattle.cfi_c.specs.PassedMemories.{abi_in}
-use Rattle.cfi_c.specs.PassedSections.{header_in, header_of, section_as, section_beside}
-use Rattle.cfi_c.specs.PassedStacks.{is_debug_frame, known_value, known_values, sized}
-use Rattle.cfi_c.specs.StackFrames.{IsFdeBy, IsStepByFde}
-use Rattle.cfi_c.specs.SteppedFrames.{AreValues, IsStepWith, IsStepped, frame_in}
+use Rattle.cfi_c.specs.PassedSections.{header_in, passed_header, section_as, section_beside}
+use Rattle.cfi_c.specs.PassedModules.{sized}
+use Rattle.cfi_c.specs.PassedModules.{is_debug_frame}
+use Rattle.cfi_c.specs.PassedRegisters.{known_values}
+use Rattle.cfi_c.specs.PassedRegisters.{known_value}
+use Rattle.cfi_c.specs.ModuleSteps.{IsStepByPassedFde}
+use Rattle.cfi_c.specs.ModuleSteps.{IsPassedFdeBy}
+use Rattle.cfi_c.specs.SteppedFrames.{IsStepWith, IsStepped, frame_in}
+use Rattle.cfi_c.specs.PassedRegisters.{AreValues}
 use Rattle.cfi_c.proofs.StepsInModules.{found_by, found_by_scan, of_debug_frame}
 
 all_has : {X : Type 0} (P : X → Type 0) (xs : List X) (x : X) → Contains xs x → All P xs → P x
@@ -55,7 +61,7 @@ if_ok_then (Err e) P Q then is = tt
 module _ (memory : CfiMemory) (loaded : CfiModule) (a : ℕ) (registers new : List CfiValue) (row : PackedRow) (step : Result Caller FrameError)
     (is : IsCallerBy memory (take 256 registers) row step) (written : IfOk step (λ c. AreOfCaller memory (take 256 registers) row c.cfa new)) where
   by_fde : IsRowFor memory.address_size loaded a row → (fde : Fde) × (function_packed row ≡ function_of fde)
-      × IsStepByFde (frame_in memory (known_values registers)) (abi_in memory) loaded a (Ok fde) step (values_of new)
+      × IsStepByPassedFde (frame_in memory (known_values registers)) (abi_in memory) loaded a (Ok fde) step (values_of new)
   by_fde (fde, found, covers, (of_row, is_row, (parts, same))) =
       let frame = frame_in memory (known_values registers) in
       let bytes = slice_over loaded.section.now loaded.bases.big_endian in
@@ -111,13 +117,13 @@ stepped_by_held memory loaded file a rows registers old new function old_caller 
 module _ (size file a : ℕ) (passed : CfiModule) (old new : List PackedRow) where
   abbrev InModule : (List ℕ × List ℕ × CfiBases) → ℕ → PackedRow → Type 0
   InModule of b row =
-      (fde : Fde) × IsFdeBy of.2 of.0 (header_in of.1) b (Ok fde) × Covers fde b × SaysRowOf (Some 192) (Some 4) true (section_beside (header_in of.1) of.2 of.0) b fde row
+      (fde : Fde) × IsPassedFdeBy of.2 of.0 (header_in of.1) b (Ok fde) × Covers fde b × IsPackedFor (Some 192) (Some 4) true (section_beside (header_in of.1) of.2 of.0) b fde row
 
-  unchanged : new ≡ old → KeepsFor size file passed old new
+  unchanged : new ≡ old → StaysCachedFor size file passed old new
   unchanged same other another alike right = subst (IsCachedFor size other another) (sym same) right
 
-  by_found : (found : Result Fde Error) → IsFdeBy (sized size passed.bases) passed.section.now (header_in passed.header.now) a found → IfOk found (λ fde. Covers fde a)
-      → KeepsFound (Some 192) (Some 4) true (section_beside (header_in passed.header.now) (sized size passed.bases) passed.section.now) a found file old new → KeepsFor size file passed old new
+  by_found : (found : Result Fde Error) → IsPassedFdeBy (sized size passed.bases) passed.section.now (header_in passed.header.now) a found → IfOk found (λ fde. Covers fde a)
+      → KeepsFound (Some 192) (Some 4) true (section_beside (header_in passed.header.now) (sized size passed.bases) passed.section.now) a found file old new → StaysCachedFor size file passed old new
   by_found (Err e) is covers same = unchanged same
   by_found (Ok fde) is covers (inl same) = unchanged same
   by_found (Ok fde) is covers (inr (k, row, written, holds)) =
@@ -134,20 +140,20 @@ module _ (size file a : ℕ) (passed : CfiModule) (old new : List PackedRow) whe
 
   pub keeps : {R : Type 0} (position : R → Position) (loaded : LoadedModule R)
       → section_view position loaded.frame loaded.bases ≡ section_beside (header_in passed.header.now) (sized size passed.bases) passed.section.now
-      → option_map (λ header. unparsed_view position header size loaded.bases) loaded.header ≡ option_map (header_of (sized size passed.bases)) (header_in passed.header.now)
-      → IsKept position size (Some 192) (Some 4) true loaded a file old new → KeepsFor size file passed old new
+      → option_map (λ header. unparsed_view position header size loaded.bases) loaded.header ≡ option_map (passed_header (sized size passed.bases)) (header_in passed.header.now)
+      → IsKept position size (Some 192) (Some 4) true loaded a file old new → StaysCachedFor size file passed old new
   keeps position loaded sections headers (found, is, covers, kept) =
-      let here : IsFdeBy (sized size passed.bases) passed.section.now (header_in passed.header.now) a found =
+      let here : IsPassedFdeBy (sized size passed.bases) passed.section.now (header_in passed.header.now) a found =
       found_by position size loaded (sized size passed.bases) passed.section.now loaded.header (header_in passed.header.now) sections headers a found is in
       by_found found here covers (subst (λ (s : Section). KeepsFound (Some 192) (Some 4) true s a found file old new) sections kept)
 
   -- by a scan of .debug_frame
   pub keeps_scanned : (made : Section) → is_debug_frame passed ≡ true → made ≡ section_as DebugFrame (sized size passed.bases) passed.section.now
-      → (found : Result Fde Error) → found ≡ chosen_fde made a → IfOk found (λ fde. Covers fde a) → KeepsFound (Some 192) (Some 4) true made a found file old new → KeepsFor size file passed old new
+      → (found : Result Fde Error) → found ≡ chosen_fde made a → IfOk found (λ fde. Covers fde a) → KeepsFound (Some 192) (Some 4) true made a found file old new → StaysCachedFor size file passed old new
   keeps_scanned made is sections found chosen covers kept =
       let beside : made ≡ section_beside (header_in passed.header.now) (sized size passed.bases) passed.section.now =
       sections ∙ of_debug_frame (sized size passed.bases) (header_in passed.header.now) passed.section.now is in
-      let here : IsFdeBy (sized size passed.bases) passed.section.now (header_in passed.header.now) a found =
+      let here : IsPassedFdeBy (sized size passed.bases) passed.section.now (header_in passed.header.now) a found =
       found_by_scan (sized size passed.bases) (header_in passed.header.now) passed.section.now is a found (chosen ∙ ap (λ s. chosen_fde s a) sections) in
       by_found found here covers (subst (λ (s : Section). KeepsFound (Some 192) (Some 4) true s a found file old new) beside kept)
 
@@ -159,14 +165,14 @@ made sets old held cache is empty room =
     inl (refl, subst (λ (o : Option RowCache). AreEmpty (held_rows o)) (sym is) empty, ap (λ (o : Option RowCache). length (held_rows o)) is ∙ room)
 
 -- what was kept, by other names of the rows
-pub kept_as : (size file : ℕ) (loaded : CfiModule) (before old after new : List PackedRow) → before ≡ old → after ≡ new → KeepsFor size file loaded before after → KeepsFor size file loaded old new
+pub kept_as : (size file : ℕ) (loaded : CfiModule) (before old after new : List PackedRow) → before ≡ old → after ≡ new → StaysCachedFor size file loaded before after → StaysCachedFor size file loaded old new
 kept_as size file loaded before old after new same same' keeps =
     λ other another alike right. subst (IsCachedFor size other another) same' (keeps other another alike (subst (IsCachedFor size other another) (sym same) right))
 
 -- the step by what is held, after one row may have been kept
 pub stepped_after_keeping : (memory : CfiMemory) (loaded : CfiModule) (file a : ℕ) (live : Bool) (before after : List PackedRow) (registers first old new : List CfiValue) (function : CfiFunction) (old_caller caller : CfiCaller)
     (end : CfiEnd) → live ≡ true → first ≡ take 256 registers → IsAddressSize memory.address_size → length new ≤ 256
-    → KeepsFor memory.address_size file loaded before after → IsCachedFor memory.address_size file loaded before
+    → StaysCachedFor memory.address_size file loaded before after → IsCachedFor memory.address_size file loaded before
     → IsSteppedByHeld memory file a after first old new function old_caller caller end
     → IsStepped live loaded memory a registers old new function old_caller caller end
 stepped_after_keeping memory loaded file a live before after registers first old new function old_caller caller end is_live is_first is_size room keeps right held =

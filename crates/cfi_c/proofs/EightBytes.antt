@@ -9,12 +9,13 @@ use Rattle.cfi_read_core.specs.ReadFunctions.{Source, skip}
 use Rattle.cfi_read_core.specs.SliceReaders.{slice_over}
 use Rattle.cfi_expression.proofs.Cases.{number_there}
 use Rattle.cfi_expression.specs.Arithmetic.{displaced}
-use Rattle.cfi_expression.specs.Windows.{behind, number_in}
+use Rattle.cfi_expression.specs.Windows.{at_distance, number_in}
 use Rattle.cfi_c.specs.declared.first_window.FirstWindow.{FirstWindow}
 use Rattle.cfi_c.specs.declared.memory.CfiMemory.{CfiMemory}
 use Rattle.cfi_c.specs.declared.memory.CfiWindow.{CfiWindow}
 use Rattle.cfi_c.specs.FirstWindows.{HasAt, IsFirst}
-use Rattle.cfi_c.specs.PassedMemories.{first_of, number_in_memory, number_in_windows}
+use Rattle.std.specs.Option.{option_or}
+use Rattle.cfi_c.specs.PassedMemories.{number_in_memory, number_in_windows}
 
 has_left : (count left : ℕ) → count ≤ left → nat_le count left ≡ true
 has_left count left room = grind (arith, nat_tests)
@@ -38,7 +39,7 @@ module _ (whole : List ℕ) (k : ℕ) (room : k + 8 ≤ length whole) where
       let same : k ≡ 0 + k = omega arith in
       subst (λ (at : ℕ). unsigned w64 source at ≡ record { value = Ok number; place = k + 8 }) same eight
 
-  pub found : k ≤ 18446744073709551615 → behind k 8 source 0 ≡ record { value = Ok number; place = k + 8 }
+  pub found : k ≤ 18446744073709551615 → at_distance k 8 source 0 ≡ record { value = Ok number; place = k + 8 }
   unfolding address
   found low = rw (has_left k 18446744073709551615 low, passed) from_start
 
@@ -47,7 +48,7 @@ eight_there : (whole : List ℕ) (base k : ℕ) → k + 8 ≤ length whole → k
 eight_there whole base k room low =
     let there : k ≡ base + k - base = omega arith in
     sym (number_there (slice_over whole false) base (base + k) 8 (omega arith) {after = k + 8}
-    (subst (λ (distance : ℕ). behind distance 8 (slice_over whole false).source 0 ≡ record { value = Ok (number_of w64 false (slice_range whole k (k + 8))); place = k + 8 }) there (found whole k room low)))
+    (subst (λ (distance : ℕ). at_distance distance 8 (slice_over whole false).source 0 ≡ record { value = Ok (number_of w64 false (slice_range whole k (k + 8))); place = k + 8 }) there (found whole k room low)))
 
 -- it is what is read of the memory
 pub first_there : (memory : CfiMemory) (window : CfiWindow) (others : List CfiWindow) (k : ℕ) → memory.address_size ≡ 8 → memory.big_endian ≡ false → memory.windows.now ≡ window ∷ others
@@ -57,7 +58,7 @@ first_there memory window others k size little whole room low = (
   size,
   ap (λ windows. number_in_windows memory.big_endian windows (window.base + k) 8) whole
       ∙ ap (λ big. number_in_windows big (window ∷ others) (window.base + k) 8) little
-      ∙ ap (λ (o : Option ℕ). first_of o (number_in_windows false others (window.base + k) 8)) (eight_there window.bytes.now window.base k room low),
+      ∙ ap (λ (o : Option ℕ). option_or o (number_in_windows false others (window.base + k) 8)) (eight_there window.bytes.now window.base k room low),
 )
 
 some_then : {X : Type 0} (o : Option X) (P Q : X → Type 0) → ((x : X) → P x → Q x) → IfSome o P → IfSome o Q

@@ -3,7 +3,7 @@ use Rattle.std.proofs.Common.{◌≡◌, ℕ, zero, suc, ◌-◌, ◌<◌, ◌�
 use Rattle.std.proofs.Math.ListN.{get_or-eq_default}
 use Rattle.cfi_read_core.specs.RefusalNames.{errors, name_of}
 use Rattle.cfi_read_core.specs.declared.error.Error.{Error}
-use Rattle.cfi_c.specs.Refusals.{names, own_names, status_name}
+use Rattle.cfi_c.specs.Refusals.{status_names, own_names, status_name}
 
 mapped : (xs : List Error) (others : List (List ℕ)) (d : List ℕ) (e : Error) (k : ℕ) → k < length xs → slice_index_or (map name_of xs ++ others) k d ≡ name_of (get_or xs k e)
 mapped [] others d e k h = absurd (omega (arith, h))
@@ -20,4 +20,4 @@ named e (suc k) other below =
 pub unnamed : (n : ℕ) → 37 < n → codes "Unknown" ≡ status_name (pos n)
 unnamed n above =
     let far : 38 ≤ n = omega (arith, above) in
-    sym (get_or-eq_default names (codes "Unknown") far)
+    sym (get_or-eq_default status_names (codes "Unknown") far)

@@ -6,10 +6,12 @@ use Rattle.std.proofs.lemmas.Grind.{get_or-set_at}
 use Rattle.std.proofs.lemmas.List.{length-map, length-set, map-set}
 use Rattle.std.specs.Prelude.{slice_set}
 use Rattle.cfi_expression.specs.Frames.{known}
-use Rattle.cfi_c.specs.declared.stack.CfiValue.{CfiValue}
-use Rattle.cfi_c.specs.PackedSteps.{plain_of, values_of}
-use Rattle.cfi_c.specs.PassedStacks.{known_value}
-use Rattle.cfi_c.specs.SteppedFrames.{AreValues, written_value}
+use Rattle.cfi_c.specs.declared.register.CfiValue.{CfiValue}
+use Rattle.cfi_c.specs.PassedRegisters.{plain_of}
+use Rattle.cfi_c.specs.PassedRegisters.{values_of}
+use Rattle.cfi_c.specs.PassedRegisters.{known_value}
+use Rattle.cfi_c.specs.PassedRegisters.{AreValues}
+use Rattle.cfi_c.specs.PassedRegisters.{written_value}
 
 pub known_written : (value : Option ℕ) → known_value (written_value value) ≡ value
 known_written None = refl

@@ -7,18 +7,18 @@ use Rattle.cfi_step.specs.declared.walk.End.{End}
 use Rattle.cfi_step.specs.declared.walk.Start.{Start}
 use Rattle.cfi_step.specs.Walks.{State, resumed}
 use Rattle.cfi_step.proofs.Walking.{left}
-use Rattle.cfi_c.specs.declared.stack.CfiFrame.{CfiFrame}
-use Rattle.cfi_c.specs.declared.stack.CfiValue.{CfiValue}
-use Rattle.cfi_c.specs.RegisterFrames.{AreFirst, Framed, IsWalkWith, framed, frames_of, registers_of}
+use Rattle.cfi_c.specs.declared.frame.CfiFrame.{CfiFrame}
+use Rattle.cfi_c.specs.declared.register.CfiValue.{CfiValue}
+use Rattle.cfi_c.specs.RegisterFrames.{AreFirst, Framed, IsWalkWith, framed, frames_of, registers_written}
 
 -- ---- what is written
 
 pub frames_after : (done : List Framed) (f : Framed) → frames_of (done ++ (f ∷ [])) ≡ frames_of done ++ (f.frame ∷ [])
 frames_after done f = map-append (λ (g : Framed). g.frame) done (f ∷ [])
 
-pub registers_after : (done : List Framed) (f : Framed) → registers_of (done ++ (f ∷ [])) ≡ registers_of done ++ f.registers
+pub registers_after : (done : List Framed) (f : Framed) → registers_written (done ++ (f ∷ [])) ≡ registers_written done ++ f.registers
 registers_after [] f = append-nil f.registers
-registers_after (g ∷ done) f = ap (λ (rest : List CfiValue). g.registers ++ rest) (registers_after done f) ∙ sym (append_assoc g.registers (registers_of done) f.registers)
+registers_after (g ∷ done) f = ap (λ (rest : List CfiValue). g.registers ++ rest) (registers_after done f) ∙ sym (append_assoc g.registers (registers_written done) f.registers)
 
 -- one more frame
 pub one_frame : (done : List CfiFrame) (old new : List CfiFrame) (n : ℕ) (y : CfiFrame) → length done ≡ n → n < length new

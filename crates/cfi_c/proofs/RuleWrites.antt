@@ -14,8 +14,8 @@ use Rattle.cfi_state.specs.Row.{Row}
 use Rattle.cfi_state.specs.RulePairs.{IsDistinctRegisters, numbered_pair, rules_of}
 use Rattle.cfi_state.specs.declared.table.rules.RegisterRule.{RegisterRule}
 use Rattle.cfi_state.proofs.Entries.{find-past_head}
-use Rattle.cfi_c.specs.declared.CfiRule.{CfiRule}
-use Rattle.cfi_c.specs.WrittenRows.{IsRules, SameAround, rule_at, rule_in, written_rule}
+use Rattle.cfi_c.specs.declared.written.CfiRule.{CfiRule}
+use Rattle.cfi_c.specs.WrittenRows.{IsRules, SameAround, rule_at, rule_in, rule_for_c}
 
 -- ---- the first pair and the others
 
@@ -42,7 +42,7 @@ module _ (pair : Register × RegisterRule ℕ) (pairs : List (Register × Regist
 pub record AreWritten (row : Row ℕ) (left : List (Register × RegisterRule ℕ)) (old rules : List CfiRule) (first count : ℕ) : Type 0 where
   pub many : length rules ≡ length old
   pub distinct : IsDistinctRegisters left
-  pub written : (k : ℕ) → k < count → get (rules_of left) k ≡ None → rule_in rules (first + k) ≡ written_rule (rule_at row k)
+  pub written : (k : ℕ) → k < count → get (rules_of left) k ≡ None → rule_in rules (first + k) ≡ rule_for_c (rule_at row k)
   pub given : (k : ℕ) (rule : RegisterRule ℕ) → get (rules_of left) k ≡ Some rule → get row.parts.rules k ≡ Some rule
   pub around : SameAround first count old rules
 
@@ -59,11 +59,11 @@ none_given row k is = rw is (either_none (nat_le k 0xffff))
 
 -- none is written yet
 pub none_written : (row : Row ℕ) (left : List (Register × RegisterRule ℕ)) (old rules : List CfiRule) (first count : ℕ) → rules_of left ≡ row.parts.rules → IsDistinctRegisters left →
-    length rules ≡ length old → ((k : ℕ) → k < count → rule_in rules (first + k) ≡ written_rule None) → SameAround first count old rules → AreWritten row left old rules first count
+    length rules ≡ length old → ((k : ℕ) → k < count → rule_in rules (first + k) ≡ rule_for_c None) → SameAround first count old rules → AreWritten row left old rules first count
 none_written row left old rules first count same distinct many none around = record {
   many = many;
   distinct = distinct;
-  written = λ k inside absent. none k inside ∙ sym (ap written_rule (none_given row k (ap (λ m. get m k) (sym same) ∙ absent)));
+  written = λ k inside absent. none k inside ∙ sym (ap rule_for_c (none_given row k (ap (λ m. get m k) (sym same) ∙ absent)));
   given = λ k rule is. ap (λ m. get m k) (sym same) ∙ is;
   around = around;
 }
@@ -94,12 +94,12 @@ module _ (row : Row ℕ) (pair : Register × RegisterRule ℕ) (left : List (Reg
 
   module _ (small : pair.0.0 ≤ 0xffff) (below : pair.0.0 < count) (fits : first + count ≤ length old) where
     abbrev new : List CfiRule
-    new = slice_set rules (first + pair.0.0) (written_rule (Some pair.1))
+    new = slice_set rules (first + pair.0.0) (rule_for_c (Some pair.1))
 
-    written_by : (k : ℕ) → (k ≡ pair.0.0) ⊎ (k ≡ pair.0.0 → ⊥) → k < count → get (rules_of left) k ≡ None → rule_in new (first + k) ≡ written_rule (rule_at row k)
+    written_by : (k : ℕ) → (k ≡ pair.0.0) ⊎ (k ≡ pair.0.0 → ⊥) → k < count → get (rules_of left) k ≡ None → rule_in new (first + k) ≡ rule_for_c (rule_at row k)
     written_by k (inl is) inside none =
-        subst (λ (n : ℕ). rule_in new (first + n) ≡ written_rule (rule_at row n)) (sym is)
-        (get_or-set_same rules (first + pair.0.0) _ _ (omega (arith, before.many, fits, below)) ∙ sym (ap written_rule (rule_given row pair.0.0 pair.1 small own_given)))
+        subst (λ (n : ℕ). rule_in new (first + n) ≡ rule_for_c (rule_at row n)) (sym is)
+        (get_or-set_same rules (first + pair.0.0) _ _ (omega (arith, before.many, fits, below)) ∙ sym (ap rule_for_c (rule_given row pair.0.0 pair.1 small own_given)))
     written_by k (inr other) inside none =
         get_or-set_other rules (first + pair.0.0) (first + k) _ _ (λ e. other (omega (arith, e)))
         ∙ before.written k inside (get_other pair left k other ∙ none)

@@ -15,34 +15,34 @@ use Rattle.gimli_cfi.specs.EhFrameHdr.{HeaderSection, header_section}
 use Rattle.gimli_cfi.specs.RowsByHeader.{IsRowByHeader}
 use Rattle.gimli_cfi.specs.SectionSources.{GivenSection, IsGivenRow, IsRowIn, given_as, given_section, header_beside, header_given, section_kind}
 use Rattle.gimli_cfi.specs.declared.hdr.verdict.Verdict.{Verdict}
-use Rattle.cfi_c.specs.declared.CfiBases.{CfiBases}
+use Rattle.cfi_c.specs.declared.section.CfiBases.{CfiBases}
 use Rattle.cfi_c.specs.declared.check.CfiVerdict.{CfiVerdict}
-use Rattle.cfi_c.specs.PassedSections.{eh_frame_of, header_of, kind_beside, kind_of, order_of, passed, section_as, section_of, vendor_of}
+use Rattle.cfi_c.specs.PassedSections.{eh_frame_of, passed_header, kind_beside, passed_kind, passed_order, passed_source, section_as, passed_section, passed_vendor}
 use Rattle.cfi_c.specs.AddressRows.{IsAnswerOf, IsTableAnswer}
-use Rattle.cfi_c.specs.TableVerdicts.{IsCheckOf, written_if}
+use Rattle.cfi_c.specs.TableVerdicts.{IsPassedCheck, written_if}
 
 -- ---- byte orders
 
-pub by_order : (e : RunTimeEndian) (big : Bool) → is_big e ≡ big → e ≡ order_of big
-by_order Little big is = ap order_of is
-by_order Big big is = ap order_of is
+pub by_order : (e : RunTimeEndian) (big : Bool) → is_big e ≡ big → e ≡ passed_order big
+by_order Little big is = ap passed_order is
+by_order Big big is = ap passed_order is
 
-same_order : (big : Bool) → is_big (order_of big) ≡ big
+same_order : (big : Bool) → is_big (passed_order big) ≡ big
 same_order true = refl
 same_order false = refl
 
 -- ---- the section
 
-passed_as : (kind : SectionKind) (b : CfiBases) (bytes : List ℕ) (header : Option (List ℕ)) → given_as kind (passed b bytes header) ≡ section_as kind b bytes
+passed_as : (kind : SectionKind) (b : CfiBases) (bytes : List ℕ) (header : Option (List ℕ)) → given_as kind (passed_source b bytes header) ≡ section_as kind b bytes
 passed_as kind b bytes header =
-    ap (λ big. entry.section_of (record { kind = kind; position = slice_over bytes big; address_size = b.address_size; vendor = vendor_of b.aarch64 }) (passed b bytes header).bases) (same_order b.big_endian)
+    ap (λ big. entry.section_of (record { kind = kind; position = slice_over bytes big; address_size = b.address_size; vendor = passed_vendor b.aarch64 }) (passed_source b bytes header).bases) (same_order b.big_endian)
 
-same_kind : (debug_frame : Bool) → section_kind (kind_beside debug_frame None) ≡ kind_of debug_frame
+same_kind : (debug_frame : Bool) → section_kind (kind_beside debug_frame None) ≡ passed_kind debug_frame
 same_kind true = refl
 same_kind false = refl
 
-pub passed_section : (b : CfiBases) (bytes : List ℕ) → given_section (passed b bytes None) ≡ section_of b bytes
-passed_section b bytes = passed_as (section_kind (kind_beside b.debug_frame None)) b bytes None ∙ ap (λ kind. section_as kind b bytes) (same_kind b.debug_frame)
+pub same_section : (b : CfiBases) (bytes : List ℕ) → given_section (passed_source b bytes None) ≡ passed_section b bytes
+same_section b bytes = passed_as (section_kind (kind_beside b.debug_frame None)) b bytes None ∙ ap (λ kind. section_as kind b bytes) (same_kind b.debug_frame)
 
 -- ---- its header
 
@@ -50,8 +50,8 @@ no_header : (debug_frame : Bool) (given : GivenSection) → given.header ≡ Non
 no_header true given none = refl
 no_header false given none = ap (option_map (header_given given)) none
 
-passed_header : (b : CfiBases) (bytes header : List ℕ) → header_given (passed b bytes (Some header)) header ≡ header_of b header
-passed_header b bytes header = ap (λ big. header_section (slice_over header big) b.address_size (passed b bytes (Some header)).bases.eh_frame_hdr) (same_order b.big_endian)
+same_header : (b : CfiBases) (bytes header : List ℕ) → header_given (passed_source b bytes (Some header)) header ≡ passed_header b header
+same_header b bytes header = ap (λ big. header_section (slice_over header big) b.address_size (passed_source b bytes (Some header)).bases.eh_frame_hdr) (same_order b.big_endian)
 
 -- ---- the row: over the fixed storage the answer is determined by what is found
 
@@ -66,25 +66,25 @@ by_table section section' header header' a answer sections headers is =
     (so.0, so.1, row_is_due_where_fixed (Some 192) (Some 4) true section' a (refl, refl, refl) so.0 answer so.2)
 
 pub passed_answer : (b : CfiBases) (bytes : List ℕ) (header : Option (List ℕ)) (a : ℕ) (answer : Result (Row ℕ) Error)
-    → IsGivenRow (Some 192) (Some 4) true (passed b bytes header) a answer → IsAnswerOf b bytes header a answer
+    → IsGivenRow (Some 192) (Some 4) true (passed_source b bytes header) a answer → IsAnswerOf b bytes header a answer
 passed_answer b bytes None a answer is =
-    let given = passed b bytes None in
-    scanned (given_section given) (section_of b bytes) a answer (passed_section b bytes)
+    let given = passed_source b bytes None in
+    scanned (given_section given) (passed_section b bytes) a answer (same_section b bytes)
     (subst (λ h. IsRowIn (Some 192) (Some 4) true (given_section given) h a answer) (no_header b.debug_frame given refl) is)
 passed_answer b bytes (Some header) a answer is =
-    by_table (given_as EhFrame (passed b bytes (Some header))) (eh_frame_of b bytes) (header_given (passed b bytes (Some header)) header) (header_of b header) a answer
-    (passed_as EhFrame b bytes (Some header)) (passed_header b bytes header) is
+    by_table (given_as EhFrame (passed_source b bytes (Some header))) (eh_frame_of b bytes) (header_given (passed_source b bytes (Some header)) header) (passed_header b header) a answer
+    (passed_as EhFrame b bytes (Some header)) (same_header b bytes header) is
 
 -- ---- the verdict
 
 pub passed_verdict : (b : CfiBases) (bytes : List ℕ) (header : Option (List ℕ)) (verdict : Option Verdict) (out : CfiVerdict)
-    → IsVerdictOf (passed b bytes header) verdict → out ≡ written_if verdict → IsCheckOf b bytes header out
+    → IsVerdictOf (passed_source b bytes header) verdict → out ≡ written_if verdict → IsPassedCheck b bytes header out
 passed_verdict b bytes None verdict out is written =
-    let given = passed b bytes None in
+    let given = passed_source b bytes None in
     (verdict, subst (λ h. IsVerdictIf (given_section given) h verdict) (no_header b.debug_frame given refl) is, written)
 passed_verdict b bytes (Some header) verdict out is written = (
   verdict,
-  subst (λ s. IsVerdictIf s (Some (header_of b header)) verdict) (passed_as EhFrame b bytes (Some header))
-      (subst (λ h. IsVerdictIf (given_as EhFrame (passed b bytes (Some header))) (Some h) verdict) (passed_header b bytes header) is),
+  subst (λ s. IsVerdictIf s (Some (passed_header b header)) verdict) (passed_as EhFrame b bytes (Some header))
+      (subst (λ h. IsVerdictIf (given_as EhFrame (passed_source b bytes (Some header))) (Some h) verdict) (same_header b bytes header) is),
   written,
 )

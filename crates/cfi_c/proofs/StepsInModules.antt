@@ -23,17 +23,23 @@ use Rattle.cfi_step.specs.declared.step.Caller.{Caller}
 use Rattle.cfi_compiled.specs.CompiledTables.{TableContents}
 use Rattle.cfi_step.specs.Modules.{address_in_file}
 use Rattle.cfi_step.specs.declared.function.Function.{Function}
-use Rattle.cfi_step.specs.declared.function.FunctionStep.{FunctionStep}
+use Rattle.cfi_step.specs.declared.function_steps.FunctionStep.{FunctionStep}
 use Rattle.cfi_step.specs.Functions.{IsStepInFunction, function_in}
 use Rattle.cfi_step.specs.Modules.{IsFoundBy, IsStepByDebug, IsStepByFde as IsStepByLoaded, IsStepByFound, IsStepIn, IsStepOr, IsStepVia}
 use Rattle.cfi_step.specs.Steps.{IsStepBy}
 use Rattle.cfi_step.specs.Walks.{State, address_of}
-use Rattle.cfi_c.specs.declared.CfiBases.{CfiBases}
-use Rattle.cfi_c.specs.declared.stack.CfiModule.{CfiModule}
+use Rattle.cfi_c.specs.declared.section.CfiBases.{CfiBases}
+use Rattle.cfi_c.specs.declared.module.CfiModule.{CfiModule}
 use Rattle.cfi_c.specs.declared.stack.CfiStack.{CfiStack}
-use Rattle.cfi_c.specs.PassedSections.{eh_frame_of, header_in, header_of, kind_of, section_as, section_beside}
-use Rattle.cfi_c.specs.PassedStacks.{abi_of, is_debug_frame, sized}
-use Rattle.cfi_c.specs.StackFrames.{IsFdeBy, IsFunctionStep, IsStepByFde, IsStepInModule, frame_of}
+use Rattle.cfi_c.specs.PassedSections.{eh_frame_of, header_in, passed_header, passed_kind, section_as, section_beside}
+use Rattle.cfi_c.specs.PassedStacks.{stack_abi}
+use Rattle.cfi_c.specs.PassedModules.{sized}
+use Rattle.cfi_c.specs.PassedModules.{is_debug_frame}
+use Rattle.cfi_c.specs.ModuleSteps.{IsStepInModule}
+use Rattle.cfi_c.specs.ModuleSteps.{stack_frame}
+use Rattle.cfi_c.specs.ModuleSteps.{IsFunctionStep}
+use Rattle.cfi_c.specs.ModuleSteps.{IsStepByPassedFde}
+use Rattle.cfi_c.specs.ModuleSteps.{IsPassedFdeBy}
 
 -- ---- which section it is
 
@@ -47,14 +53,14 @@ and_true false = refl
 
 pub of_eh_frame : (bases : CfiBases) (header : Option (List ℕ)) (bytes : List ℕ) → (bases.debug_frame && is_none header) ≡ false → eh_frame_of bases bytes ≡ section_beside header bases bytes
 of_eh_frame bases (Some header) bytes is = refl
-of_eh_frame bases None bytes is = ap (λ (b : Bool). section_as (kind_of b) bases bytes) (sym is ∙ and_true bases.debug_frame)
+of_eh_frame bases None bytes is = ap (λ (b : Bool). section_as (passed_kind b) bases bytes) (sym is ∙ and_true bases.debug_frame)
 
 pub of_debug_frame : (bases : CfiBases) (header : Option (List ℕ)) (bytes : List ℕ) → (bases.debug_frame && is_none header) ≡ true → section_as DebugFrame bases bytes ≡ section_beside header bases bytes
 of_debug_frame bases (Some header) bytes is = absurd (true≢false (sym is ∙ and_false bases.debug_frame))
-of_debug_frame bases None bytes is = ap (λ (b : Bool). section_as (kind_of b) bases bytes) (sym is ∙ and_true bases.debug_frame)
+of_debug_frame bases None bytes is = ap (λ (b : Bool). section_as (passed_kind b) bases bytes) (sym is ∙ and_true bases.debug_frame)
 
 pub found_by_scan : (bases : CfiBases) (header : Option (List ℕ)) (bytes : List ℕ) → (bases.debug_frame && is_none header) ≡ true
-    → (a : ℕ) (found : Result Fde Error) → found ≡ chosen_fde (section_as DebugFrame bases bytes) a → IsFdeBy bases bytes header a found
+    → (a : ℕ) (found : Result Fde Error) → found ≡ chosen_fde (section_as DebugFrame bases bytes) a → IsPassedFdeBy bases bytes header a found
 found_by_scan bases (Some header) bytes is a found by = absurd (true≢false (sym is ∙ and_false bases.debug_frame))
 found_by_scan bases None bytes is a found by = by ∙ ap (λ s. chosen_fde s a) (of_debug_frame bases None bytes is)
 
@@ -63,13 +69,13 @@ found_by_scan bases None bytes is a found by = by ∙ ap (λ s. chosen_fde s a) 
 module _ {R : Type 0} (position : R → Position) (size : ℕ) (loaded : LoadedModule R) (bases : CfiBases) (bytes : List ℕ) where
   pub found_by : (made : Option (EhFrameHdr R)) (passed : Option (List ℕ))
       → section_view position loaded.frame loaded.bases ≡ section_beside passed bases bytes
-      → option_map (λ header. unparsed_view position header size loaded.bases) made ≡ option_map (header_of bases) passed
-      → (a : ℕ) (found : Result Fde Error) → IsFoundBy position size loaded made a found → IsFdeBy bases bytes passed a found
+      → option_map (λ header. unparsed_view position header size loaded.bases) made ≡ option_map (passed_header bases) passed
+      → (a : ℕ) (found : Result Fde Error) → IsFoundBy position size loaded made a found → IsPassedFdeBy bases bytes passed a found
   found_by None None same headers a found is = is ∙ ap (λ s. chosen_fde s a) same
   found_by None (Some bytes') same headers a found is = absurd (cc)
   found_by (Some header) None same headers a found is = absurd (cc)
   found_by (Some header) (Some bytes') same headers a found is =
-      let same_header : unparsed_view position header size loaded.bases ≡ header_of bases bytes' = cc in
+      let same_header : unparsed_view position header size loaded.bases ≡ passed_header bases bytes' = cc in
       subst (λ (h : HeaderSection). FoundByHeader (eh_frame_of bases bytes) a h (parsed h) found) same_header
       (subst (λ (s : Section). FoundByHeader s a (unparsed_view position header size loaded.bases) (parsed (unparsed_view position header size loaded.bases)) found) same is)
 
@@ -80,9 +86,9 @@ not_moved bias a none fits = ap (λ (n : ℕ). address_in_file n a) none ∙ (ad
 module _ {R : Type 0} (position : R → Position) (frame : Frame) (abi : Abi) (passed : CfiModule) (loaded : LoadedModule R)
     (bytes : (eh_frame_view position loaded.frame).position ≡ slice_over passed.section.now passed.bases.big_endian)
     (sections : section_view position loaded.frame loaded.bases ≡ section_beside (header_in passed.header.now) (sized frame.size passed.bases) passed.section.now)
-    (headers : option_map (λ header. unparsed_view position header frame.size loaded.bases) loaded.header ≡ option_map (header_of (sized frame.size passed.bases)) (header_in passed.header.now)) where
+    (headers : option_map (λ header. unparsed_view position header frame.size loaded.bases) loaded.header ≡ option_map (passed_header (sized frame.size passed.bases)) (header_in passed.header.now)) where
   by_fde : (a : ℕ) (found : Result Fde Error) (result : Result Caller FrameError) (caller : List (Option ℕ))
-      → IsStepByLoaded position (λ (n : ℕ). n) frame abi (Some 192) (Some 4) true loaded a found result caller → IsStepByFde frame abi passed a found result caller
+      → IsStepByLoaded position (λ (n : ℕ). n) frame abi (Some 192) (Some 4) true loaded a found result caller → IsStepByPassedFde frame abi passed a found result caller
   by_fde a found result caller is = (
     found_by position frame.size loaded (sized frame.size passed.bases) passed.section.now loaded.header (header_in passed.header.now) sections headers a found is.0,
     is.1,
@@ -93,7 +99,7 @@ module _ {R : Type 0} (position : R → Position) (frame : Frame) (abi : Abi) (p
   -- the step with its function, of a file that isn't moved
   pub in_function : (a : ℕ) (function : Option Function) (result : Result Caller FrameError) (caller : List (Option ℕ)) → loaded.bias ≡ 0 → a < 2 ^ 64
       → IsStepInFunction position (λ (n : ℕ). n) frame abi (Some 192) (Some 4) true loaded (address_in_file loaded.bias a) function result caller
-      → (found : Result Fde Error) × IsStepByFde frame abi passed a found result caller × (function ≡ function_in found)
+      → (found : Result Fde Error) × IsStepByPassedFde frame abi passed a found result caller × (function ≡ function_in found)
   in_function a function result caller unmoved fits is =
       let at : IsStepInFunction position (λ (n : ℕ). n) frame abi (Some 192) (Some 4) true loaded a function result caller =
       subst (λ (n : ℕ). IsStepInFunction position (λ (n : ℕ). n) frame abi (Some 192) (Some 4) true loaded n function result caller) (not_moved loaded.bias a unmoved fits) is in
@@ -101,10 +107,10 @@ module _ {R : Type 0} (position : R → Position) (frame : Frame) (abi : Abi) (p
 
 module _ {R : Type 0} (position : R → Position) (stack : CfiStack) (passed : CfiModule) (loaded : LoadedModule R) where
   pub as_passed : (s : State) (frame : Frame) (abi : Abi) (a : ℕ) (result : Result Caller FrameError) (caller : List (Option ℕ))
-      → frame ≡ frame_of stack s → abi ≡ abi_of stack → a ≡ address_of s
+      → frame ≡ stack_frame stack s → abi ≡ stack_abi stack → a ≡ address_of s
       → (eh_frame_view position loaded.frame).position ≡ slice_over passed.section.now passed.bases.big_endian
       → section_view position loaded.frame loaded.bases ≡ section_beside (header_in passed.header.now) (sized stack.address_size passed.bases) passed.section.now
-      → option_map (λ header. unparsed_view position header stack.address_size loaded.bases) loaded.header ≡ option_map (header_of (sized stack.address_size passed.bases)) (header_in passed.header.now)
+      → option_map (λ header. unparsed_view position header stack.address_size loaded.bases) loaded.header ≡ option_map (passed_header (sized stack.address_size passed.bases)) (header_in passed.header.now)
       → loaded.compiled ≡ None → loaded.debug ≡ None → loaded.bias ≡ 0 → a < 2 ^ 64 → IsStepIn position (λ (n : ℕ). n) frame abi (Some 192) (Some 4) true loaded a result caller
       → IsStepInModule stack passed s result caller
   as_passed s frame abi a result caller frames abis addresses bytes sections headers none alone unmoved fits is =
@@ -115,13 +121,13 @@ module _ {R : Type 0} (position : R → Position) (stack : CfiStack) (passed : C
       subst (λ (n : ℕ). IsStepVia position (λ (n : ℕ). n) frame abi (Some 192) (Some 4) true loaded.compiled loaded n result caller) (not_moved loaded.bias a unmoved fits) first in
       let found : IsStepByFound position (λ (n : ℕ). n) frame abi (Some 192) (Some 4) true loaded a result caller =
       subst (λ (o : Option (Bor TableContents)). IsStepVia position (λ (n : ℕ). n) frame abi (Some 192) (Some 4) true o loaded a result caller) none at in
-      let framed : IsStepByFound position (λ (n : ℕ). n) (frame_of stack s) abi (Some 192) (Some 4) true loaded a result caller =
+      let framed : IsStepByFound position (λ (n : ℕ). n) (stack_frame stack s) abi (Some 192) (Some 4) true loaded a result caller =
       subst (λ (f : Frame). IsStepByFound position (λ (n : ℕ). n) f abi (Some 192) (Some 4) true loaded a result caller) frames found in
-      let ruled : IsStepByFound position (λ (n : ℕ). n) (frame_of stack s) (abi_of stack) (Some 192) (Some 4) true loaded a result caller =
-      subst (λ (b : Abi). IsStepByFound position (λ (n : ℕ). n) (frame_of stack s) b (Some 192) (Some 4) true loaded a result caller) abis framed in
-      let so : IsStepByFound position (λ (n : ℕ). n) (frame_of stack s) (abi_of stack) (Some 192) (Some 4) true loaded (address_of s) result caller =
-      subst (λ (n : ℕ). IsStepByFound position (λ (n : ℕ). n) (frame_of stack s) (abi_of stack) (Some 192) (Some 4) true loaded n result caller) addresses ruled in
-      (so.0, by_fde position (frame_of stack s) (abi_of stack) passed loaded bytes sections headers (address_of s) so.0 result caller so.1)
+      let ruled : IsStepByFound position (λ (n : ℕ). n) (stack_frame stack s) (stack_abi stack) (Some 192) (Some 4) true loaded a result caller =
+      subst (λ (b : Abi). IsStepByFound position (λ (n : ℕ). n) (stack_frame stack s) b (Some 192) (Some 4) true loaded a result caller) abis framed in
+      let so : IsStepByFound position (λ (n : ℕ). n) (stack_frame stack s) (stack_abi stack) (Some 192) (Some 4) true loaded (address_of s) result caller =
+      subst (λ (n : ℕ). IsStepByFound position (λ (n : ℕ). n) (stack_frame stack s) (stack_abi stack) (Some 192) (Some 4) true loaded n result caller) addresses ruled in
+      (so.0, by_fde position (stack_frame stack s) (stack_abi stack) passed loaded bytes sections headers (address_of s) so.0 result caller so.1)
 
 -- ---- by a scan
 
@@ -145,12 +151,12 @@ by_scan frame abi passed n made bytes a found function result caller is size sec
     )
 
 pub as_scanned : (stack : CfiStack) (passed : CfiModule) (s : State) (frame : Frame) (abi : Abi) (a : ℕ) (step : FunctionStep) (caller : List (Option ℕ))
-    → frame ≡ frame_of stack s → abi ≡ abi_of stack → a ≡ address_of s → IsFunctionStep frame abi passed a step caller → IsStepInModule stack passed s step.caller caller
+    → frame ≡ stack_frame stack s → abi ≡ stack_abi stack → a ≡ address_of s → IsFunctionStep frame abi passed a step caller → IsStepInModule stack passed s step.caller caller
 as_scanned stack passed s frame abi a step caller frames abis addresses is =
-    let framed : IsFunctionStep (frame_of stack s) abi passed a step caller = subst (λ (f : Frame). IsFunctionStep f abi passed a step caller) frames is in
-    let ruled : IsFunctionStep (frame_of stack s) (abi_of stack) passed a step caller = subst (λ (b : Abi). IsFunctionStep (frame_of stack s) b passed a step caller) abis framed in
-    let at : IsFunctionStep (frame_of stack s) (abi_of stack) passed (address_of s) step caller =
-    subst (λ (n : ℕ). IsFunctionStep (frame_of stack s) (abi_of stack) passed n step caller) addresses ruled in
+    let framed : IsFunctionStep (stack_frame stack s) abi passed a step caller = subst (λ (f : Frame). IsFunctionStep f abi passed a step caller) frames is in
+    let ruled : IsFunctionStep (stack_frame stack s) (stack_abi stack) passed a step caller = subst (λ (b : Abi). IsFunctionStep (stack_frame stack s) b passed a step caller) abis framed in
+    let at : IsFunctionStep (stack_frame stack s) (stack_abi stack) passed (address_of s) step caller =
+    subst (λ (n : ℕ). IsFunctionStep (stack_frame stack s) (stack_abi stack) passed n step caller) addresses ruled in
     (at.0, at.1)
 
 -- what holds if there is none

@@ -7,8 +7,8 @@ use Rattle.cfi_entry.specs.Fdes.{Fde, end_of}
 use Rattle.cfi_entry.specs.Sections.{DebugFrame, EhFrame}
 use Rattle.cfi_unwind.specs.Scan.{chosen_fde}
 use Rattle.gimli_cfi.proofs.Computing.{bytes, computing}
-use Rattle.cfi_c.specs.declared.stack.CfiModule.{CfiModule}
-use Rattle.cfi_c.specs.PassedStacks.{section_in}
+use Rattle.cfi_c.specs.declared.module.CfiModule.{CfiModule}
+use Rattle.cfi_c.specs.PassedModules.{passed_section_in}
 
 -- a CIE of .debug_frame, which gives no size of an address, and the FDE of 0x1000 to 0x1020
 abbrev frames : List ℕ
@@ -28,22 +28,22 @@ shown (Ok fde) = Ok (fde.offset ∷ fde.initial ∷ end_of fde ∷ [])
 shown (Err e) = Err e
 
 -- addresses have the size that the stack gives, whatever the bases say
-debug_frame_chosen : shown (chosen_fde (section_in 8 (module_of true [])) 0x1002) ≡ Ok (20 ∷ 0x1000 ∷ 0x1020 ∷ [])
+debug_frame_chosen : shown (chosen_fde (passed_section_in 8 (module_of true [])) 0x1002) ≡ Ok (20 ∷ 0x1000 ∷ 0x1020 ∷ [])
 unfolding computing
 debug_frame_chosen = refl
 
 -- of four bytes, 0x1000 is followed by a length of 0
-by_another_size : shown (chosen_fde (section_in 4 (module_of true [])) 0x1002) ≡ Err NoUnwindInfoForAddress
+by_another_size : shown (chosen_fde (passed_section_in 4 (module_of true [])) 0x1002) ≡ Err NoUnwindInfoForAddress
 unfolding computing
 by_another_size = refl
 
 -- in .eh_frame 0xffffffff is how far before it the CIE is
-same_bytes_of_eh_frame : shown (chosen_fde (section_in 8 (module_of false [])) 0x1002) ≡ Err (OffsetOutOfBounds 0xffffffff)
+same_bytes_of_eh_frame : shown (chosen_fde (passed_section_in 8 (module_of false [])) 0x1002) ≡ Err (OffsetOutOfBounds 0xffffffff)
 unfolding computing
 same_bytes_of_eh_frame = refl
 
-beside_a_header : (section_in 8 (module_of true (1 ∷ []))).kind ≡ EhFrame
+beside_a_header : (passed_section_in 8 (module_of true (1 ∷ []))).kind ≡ EhFrame
 beside_a_header = refl
 
-without_one : (section_in 8 (module_of true [])).kind ≡ DebugFrame
+without_one : (passed_section_in 8 (module_of true [])).kind ≡ DebugFrame
 without_one = refl

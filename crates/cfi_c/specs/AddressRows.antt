@@ -1,6 +1,6 @@
 -- The row of an address, as C gets it.
---     IsAnswered answer out rules first count      the row with its status and, from `first` on,
---         the rules of the registers below `count`; after an error the number that it carries
+--     IsAnsweredForC answer out rules first count      the row with its status and, from `first`
+--         on, the rules of the registers below `count`; after an error the number that it carries
 --     IsAnswerOf bases bytes header a answer      the row of the address, without a header by a
 --         scan of the section
 --     IsAnswerForC live bases bytes header a out rules first count      what C gets, with a context
@@ -19,18 +19,19 @@ use Rattle.cfi_unwind.specs.AddressRow.{row_by_scan, row_of_fde}
 use Rattle.gimli_cfi.specs.EhFrameHdr as headers
 use Rattle.gimli_cfi.specs.FaithfulTables.{IsFaithful}
 use Rattle.gimli_cfi.specs.RowsByHeader.{FoundByHeader}
-use Rattle.cfi_c.specs.declared.CfiBases.{CfiBases}
-use Rattle.cfi_c.specs.declared.CfiRow.{CfiRow}
-use Rattle.cfi_c.specs.declared.CfiRule.{CfiRule}
-use Rattle.cfi_c.specs.Refusals.{number}
+use Rattle.cfi_c.specs.declared.section.CfiBases.{CfiBases}
+use Rattle.cfi_c.specs.declared.written.CfiRow.{CfiRow}
+use Rattle.cfi_c.specs.declared.written.CfiRule.{CfiRule}
+use Rattle.cfi_c.specs.Refusals.{error_status}
 use Rattle.cfi_read_core.specs.RefusalNames.{value_of}
-use Rattle.cfi_c.specs.PassedSections.{section_of, eh_frame_of, header_of}
-use Rattle.cfi_c.specs.WrittenRows.{IsWritten, IsRules}
+use Rattle.cfi_c.specs.PassedSections.{eh_frame_of, passed_header, passed_section}
+use Rattle.cfi_c.specs.WrittenRows.{IsRules, IsWritten}
 
-abbrev pub IsAnswered : Result (Row ℕ) Error → CfiRow → List CfiRule → ℕ → ℕ → Type 0
-IsAnswered (Ok row) out rules first count =
+abbrev pub IsAnsweredForC : Result (Row ℕ) Error → CfiRow → List CfiRule → ℕ → ℕ → Type 0
+IsAnsweredForC (Ok row) out rules first count =
     (out.status ≡ pos 0) × IsWritten row out × IsRules row rules first count
-IsAnswered (Err e) out rules first count = (out.status ≡ number e) × (out.refused ≡ value_of e)
+IsAnsweredForC (Err e) out rules first count =
+    (out.status ≡ error_status e) × (out.refused ≡ value_of e)
 
 -- of the FDE that is found, or the refusal in its place
 abbrev pub IsTableAnswer : Section → headers.HeaderSection → ℕ → Result (Row ℕ) Error → Type 0
@@ -40,9 +41,9 @@ IsTableAnswer section header a answer =
 
 abbrev pub IsAnswerOf : CfiBases → List ℕ → Option (List ℕ) → ℕ → Result (Row ℕ) Error → Type 0
 IsAnswerOf bases bytes None a answer =
-    answer ≡ row_by_scan (Some 192) (Some 4) (section_of bases bytes) a
+    answer ≡ row_by_scan (Some 192) (Some 4) (passed_section bases bytes) a
 IsAnswerOf bases bytes (Some header) a answer =
-    IsTableAnswer (eh_frame_of bases bytes) (header_of bases header) a answer
+    IsTableAnswer (eh_frame_of bases bytes) (passed_header bases header) a answer
 
 abbrev pub IsSizedAnswer : CfiBases → List ℕ → Option (List ℕ) → ℕ → Result (Row ℕ) Error → Type 0
 IsSizedAnswer bases bytes header a answer =
@@ -54,21 +55,22 @@ IsSizedAnswer bases bytes header a answer =
 abbrev pub IsFaithfulHeader : CfiBases → List ℕ → List ℕ → Type 0
 IsFaithfulHeader bases bytes header =
     (read : headers.Header) × (table : headers.Table) × (eh_frame : ℕ)
-    × (headers.header_of (header_of bases header) ≡ Ok read) × (read.table ≡ Some table)
+    × (headers.header_of (passed_header bases header) ≡ Ok read) × (read.table ≡ Some table)
     × (read.eh_frame ≡ Direct eh_frame)
-    × IsFaithful (header_of bases header) table eh_frame (eh_frame_of bases bytes)
+    × IsFaithful (passed_header bases header) table eh_frame (eh_frame_of bases bytes)
 
 -- the row by a scan of .eh_frame
-abbrev pub IsScanned : CfiBases → List ℕ → ℕ → CfiRow → List CfiRule → ℕ → ℕ → Type 0
-IsScanned bases bytes a out rules first count =
-    IsAnswered (row_by_scan (Some 192) (Some 4) (eh_frame_of bases bytes) a) out rules first count
+abbrev pub IsScannedForC : CfiBases → List ℕ → ℕ → CfiRow → List CfiRule → ℕ → ℕ → Type 0
+IsScannedForC bases bytes a out rules first count =
+    IsAnsweredForC (row_by_scan (Some 192) (Some 4) (eh_frame_of bases bytes) a) out rules first
+    count
 
 -- 32: there is no context
 abbrev pub IsAnswerForC :
     Bool → CfiBases → List ℕ → Option (List ℕ) → ℕ → CfiRow → List CfiRule → ℕ → ℕ → Type 0
 IsAnswerForC true bases bytes header a out rules first count =
     (answer : Result (Row ℕ) Error) × IsSizedAnswer bases bytes header a answer
-    × IsAnswered answer out rules first count
+    × IsAnsweredForC answer out rules first count
 IsAnswerForC false bases bytes header a out rules first count =
     (out.status ≡ pos 32) × (out.refused ≡ 0)
 

@@ -22,7 +22,7 @@ use Rattle.std.specs.contracts.prelude.UsizeDebug.TheImpl as usize-debug
 use Rattle.std.specs.contracts.prelude.UsizeOrd.TheImpl as usize-ord
 use Rattle.std.specs.contracts.prelude.UsizePartialEq.TheImpl as usize-partial-eq
 use Rattle.std.specs.contracts.prelude.UsizePartialOrd.TheImpl as usize-partial-ord
-use denote.Builtin.{usize, unit}
+use denote.Builtin.{unit, usize}
 use denote.Param.{number}
 use denote.RattleType.{RattleType}
 use denote.Struct.Tuple.{Tuple}
@@ -36,8 +36,8 @@ pair = Tuple (register ∷ RegisterRule.the_row usize ∷ [])
 abbrev rules : RattleType
 rules = ArrayVec.the_row pair (number 192) unit
 
-abbrev pub context_row : RattleType
-context_row =
+abbrev pub heap_context_row : RattleType
+heap_context_row =
     let empty_pair =
     pair-default.ghosts register (RegisterRule.the_row usize) register-default.ghosts
     pair-default.no_dict (rule-default.ghosts usize) pair-default.no_dict in

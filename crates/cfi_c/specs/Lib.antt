@@ -8,8 +8,13 @@ pub mod AddressRows
 pub mod ManyAddresses
 pub mod TableRows
 pub mod TableVerdicts
+pub mod PassedModules
+pub mod PassedRegisters
 pub mod PassedStacks
+pub mod Ends
+pub mod ModuleSteps
 pub mod StackFrames
+pub mod WrittenFunctions
 pub mod PassedMemories
 pub mod SteppedFrames
 pub mod PassedSteps

@@ -1,38 +1,36 @@
 -- Modules by the program headers of their files, as a loader has mapped them (System V ABI chapter
 -- 5, "Program Header", "Program Loading"; LSB Core, "The .eh_frame_hdr section").
 --     range_of bias headers      the addresses of the process that a file's segments take
---     bytes_in a size windows      bytes at an address, of the first window that has them all
---     module_of bases windows bias headers      the module, or why there is none
---     status_of e      an error as C gets it
+--     image_module bases windows bias headers      the module, or why there is none
+--     image_status e      an error as C gets it
 --     IsRangeMade, IsModuleMade      what C gets
 use Rattle.std.specs.Prelude.{◌≡◌, ℕ, ℤ, pos, ◌+◌, ◌-◌, ◌^◌, Bool, false, List, [], ◌∷◌, find, max}
-use Rattle.std.specs.Prelude.{min, Option, Some, None, Result, Ok, Err, nat_le, ◌==◌}
-use Rattle.std.specs.Prelude.{if◌then◌else◌}
+use Rattle.std.specs.Prelude.{min, Option, Some, None, Result, Ok, Err, ◌==◌, if◌then◌else◌}
 use Rattle.cfi_read_core.specs.declared.error.Error.{Error}
 use Rattle.cfi_read_core.specs.declared.error.Error.TheVariants.{UnsupportedAddressSize}
 use Rattle.cfi_read_core.specs.Addresses.{is_sized}
 use Rattle.cfi_parts.specs.Pointers.{direct}
 use Rattle.gimli_cfi.specs.EhFrameHdr as headers
 use Rattle.cfi_elf.specs.declared.program_header.ProgramHeader.{ProgramHeader}
-use Rattle.cfi_elf.specs.Fields.{part}
-use Rattle.cfi_elf.specs.Options.{or_else}
 use Rattle.cfi_elf.specs.Results.{and_then, or_missing}
-use Rattle.cfi_elf.specs.Segments.{is_loaded_at, minus, plus}
-use Rattle.cfi_c.specs.declared.CfiBases.{CfiBases}
+use Rattle.cfi_elf.specs.Segments.{is_loaded_at}
+use Rattle.cfi_elf.specs.Modular.{minus, plus}
+use Rattle.cfi_c.specs.declared.section.CfiBases.{CfiBases}
 use Rattle.cfi_c.specs.declared.image.ImageError.{ImageError}
 use Rattle.cfi_c.specs.declared.image.ImageError.TheVariants as images
 use Rattle.cfi_c.specs.declared.image.Placed.{Placed as PlacedInCode}
 use Rattle.cfi_c.specs.declared.memory.CfiWindow.{CfiWindow}
 use Rattle.cfi_c.specs.declared.program_header.CfiProgramHeader.{CfiProgramHeader}
 use Rattle.cfi_c.specs.declared.program_header.CfiRange.{CfiRange}
-use Rattle.cfi_c.specs.declared.stack.CfiModule.{CfiModule}
-use Rattle.cfi_c.specs.PassedSections.{header_of}
-use Rattle.cfi_c.specs.Refusals.{number}
+use Rattle.cfi_c.specs.declared.module.CfiModule.{CfiModule}
+use Rattle.cfi_c.specs.PassedMemories.{bytes_in}
+use Rattle.cfi_c.specs.PassedSections.{passed_header}
+use Rattle.cfi_c.specs.Refusals.{error_status}
 
 -- ---- program headers
 
-abbrev pub segment_view : CfiProgramHeader → ProgramHeader
-segment_view header = record {
+abbrev pub program_header_view : CfiProgramHeader → ProgramHeader
+program_header_view header = record {
   p_type = header.p_type;
   p_flags = header.p_flags;
   p_offset = header.p_offset;
@@ -46,8 +44,8 @@ abbrev pub is_type : ℕ → CfiProgramHeader → Bool
 is_type p_type header = header.p_type == p_type
 
 -- whether a loaded segment has the address, in the file's addresses, with bytes of the file
-abbrev pub has_address : ℕ → CfiProgramHeader → Bool
-has_address place header = is_loaded_at place (segment_view header)
+abbrev pub has_file_byte : ℕ → CfiProgramHeader → Bool
+has_file_byte place header = is_loaded_at place (program_header_view header)
 
 -- ---- the addresses of the process
 
@@ -78,16 +76,6 @@ range_of bias headers = range_if bias headers (find (is_type 1) headers)
 
 -- ---- the bytes that are there
 
-abbrev pub bytes_in_window : ℕ → ℕ → CfiWindow → Option (List ℕ)
-bytes_in_window a size window =
-    if nat_le window.base a then part window.bytes.now (a - window.base) size else None
-
--- of the first window that has them all
-abbrev pub bytes_in : ℕ → ℕ → List CfiWindow → Option (List ℕ)
-bytes_in a size [] = None
-bytes_in a size (window ∷ windows) =
-    or_else (bytes_in_window a size window) (bytes_in a size windows)
-
 -- bytes at an address of the process
 pub record Placed : Type 0 where
   pub address : ℕ
@@ -108,8 +96,8 @@ placed_in windows a size =
 -- ---- the sections
 
 -- the bytes of .eh_frame_hdr in the file, where they are loaded
-unfoldable pub header_in : List CfiWindow → ℕ → List CfiProgramHeader → Result Placed ImageError
-header_in windows bias headers =
+unfoldable pub placed_header : List CfiWindow → ℕ → List CfiProgramHeader → Result Placed ImageError
+placed_header windows bias headers =
     and_then (or_missing images.NoHeader (find (is_type 0x6474e550) headers)) (λ header.
     placed_in windows (plus header.p_vaddr bias) header.p_filesz)
 
@@ -125,16 +113,16 @@ bases_of given section header =
 -- where a header points
 unfoldable pub pointed_to : CfiBases → Placed → Result ℕ ImageError
 pointed_to given header =
-    let section = header_of (bases_of given 0 header.address) header.bytes in
+    let section = passed_header (bases_of given 0 header.address) header.bytes in
     and_then (refused_by (headers.header_of section)) (λ parsed.
     refused_by (direct parsed.eh_frame))
 
 -- from there to the end of the file's bytes of the segment, where they are loaded
-unfoldable pub section_in :
+unfoldable pub placed_section :
     List CfiWindow → ℕ → List CfiProgramHeader → ℕ → Result Placed ImageError
-section_in windows bias headers a =
+placed_section windows bias headers a =
     let place = minus a bias in
-    and_then (or_missing images.NoSection (find (has_address place) headers)) (λ header.
+    and_then (or_missing images.NoSection (find (has_file_byte place) headers)) (λ header.
     placed_in windows a (header.p_filesz - (place - header.p_vaddr)))
 
 -- ---- the module
@@ -147,8 +135,8 @@ pub record Module : Type 0 where
   pub bases : CfiBases
 
 -- what a module of the code is
-abbrev pub module_view : CfiModule → Module
-module_view loaded = record {
+abbrev pub image_module_view : CfiModule → Module
+image_module_view loaded = record {
   start = loaded.start;
   end = loaded.end;
   section = loaded.section.now;
@@ -170,26 +158,26 @@ unfoldable pub sized_module :
     CfiBases → List CfiWindow → ℕ → List CfiProgramHeader → Result Module ImageError
 sized_module given windows bias headers =
     and_then (or_missing images.NoSegments (range_of bias headers)) (λ range.
-    and_then (header_in windows bias headers) (λ header.
+    and_then (placed_header windows bias headers) (λ header.
     and_then (pointed_to given header) (λ a.
-    and_then (section_in windows bias headers a) (λ section.
+    and_then (placed_section windows bias headers a) (λ section.
     Ok (module_with given range header section)))))
 
-abbrev pub module_of :
+abbrev pub image_module :
     CfiBases → List CfiWindow → ℕ → List CfiProgramHeader → Result Module ImageError
-module_of given windows bias headers =
+image_module given windows bias headers =
     if is_sized given.address_size
     then sized_module given windows bias headers
     else Err (images.Refused (UnsupportedAddressSize given.address_size))
 
 -- ---- what C gets
 
-abbrev pub status_of : ImageError → ℤ
-status_of images.NoSegments = pos 34
-status_of images.NoHeader = pos 35
-status_of images.NoSection = pos 36
-status_of images.NotInMemory = pos 37
-status_of (images.Refused e) = number e
+abbrev pub image_status : ImageError → ℤ
+image_status images.NoSegments = pos 34
+image_status images.NoHeader = pos 35
+image_status images.NoSection = pos 36
+image_status images.NotInMemory = pos 37
+image_status (images.Refused e) = error_status e
 
 -- nothing is written where there is none
 abbrev pub IsRangeMade : Option CfiRange → CfiRange → CfiRange → ℤ → Type 0
@@ -198,4 +186,4 @@ IsRangeMade None old new status = (status ≡ pos 34) × (new ≡ old)
 
 abbrev pub IsModuleMade : Result Module ImageError → Module → Module → ℤ → Type 0
 IsModuleMade (Ok made) old new status = (status ≡ pos 0) × (new ≡ made)
-IsModuleMade (Err e) old new status = (status ≡ status_of e) × (new ≡ old)
+IsModuleMade (Err e) old new status = (status ≡ image_status e) × (new ≡ old)

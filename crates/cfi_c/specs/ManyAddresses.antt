@@ -2,9 +2,9 @@
 --     AreAnswered live .. n ..      the first n of the addresses; IsCount says which n
 use Rattle.std.specs.Prelude.{◌≡◌, ◌⊎◌, ℕ, ◌+◌, ◌<◌, ◌≤◌, ◌*◌, pos, Bool, List, Option}
 use Rattle.std.specs.Prelude.{slice_index_or}
-use Rattle.cfi_c.specs.declared.CfiBases.{CfiBases}
-use Rattle.cfi_c.specs.declared.CfiRow.{CfiRow}
-use Rattle.cfi_c.specs.declared.CfiRule.{CfiRule}
+use Rattle.cfi_c.specs.declared.section.CfiBases.{CfiBases}
+use Rattle.cfi_c.specs.declared.written.CfiRow.{CfiRow}
+use Rattle.cfi_c.specs.declared.written.CfiRule.{CfiRule}
 use Rattle.cfi_c.specs.WrittenRows.{rule_in}
 use Rattle.cfi_c.specs.AddressRows.{IsAnswerForC}
 
@@ -29,8 +29,8 @@ no_row = record {
   status = pos 0;
 }
 
-abbrev pub row_in : List CfiRow → ℕ → CfiRow
-row_in rows k = slice_index_or rows k no_row
+abbrev pub row_at_index : List CfiRow → ℕ → CfiRow
+row_at_index rows k = slice_index_or rows k no_row
 
 -- each of the first n addresses has its row, and its rules from the `per_row` times as many-th on;
 -- nothing after them is written
@@ -39,7 +39,7 @@ pub record AreAnswered (live : Bool) (bases : CfiBases) (bytes : List ℕ) (head
     (rules new_rules : List CfiRule) : Type 0 where
   pub each :
       (i : ℕ) → i < n →
-      IsAnswerForC live bases bytes header (slice_index_or addresses i 0) (row_in new_rows i)
+      IsAnswerForC live bases bytes header (slice_index_or addresses i 0) (row_at_index new_rows i)
       new_rules (i * per_row) per_row
-  pub rows_kept : (i : ℕ) → n ≤ i → row_in new_rows i ≡ row_in rows i
+  pub rows_kept : (i : ℕ) → n ≤ i → row_at_index new_rows i ≡ row_at_index rows i
   pub rules_kept : (k : ℕ) → n * per_row ≤ k → rule_in new_rules k ≡ rule_in rules k

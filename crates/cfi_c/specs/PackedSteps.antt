@@ -1,16 +1,15 @@
 -- The caller of one frame by a packed row, as C gets it. A packed row has no expressions, so it is
 -- the caller for whatever bytes a section has.
 --     IsCallerBy memory registers row caller      what a step returns by a row
---     plain_of registers      registers, of which none that isn't known has a value
 --     AreOfCaller memory registers row cfa new      the registers of the caller
 --     IsPackedStep memory registers row old new step      a step by a row, which writes registers
 --     IsPlacedBy memory registers row old new old_caller caller end      what C gets of the caller
 --     IsSteppedBy memory registers row old new function old_caller caller end      what C gets
 --     IsSteppedByHeld .. file a rows ..      the same by one of these rows, that of an address of a
 --         file
-use Rattle.std.specs.Prelude.{◌≡◌, ℕ, ◌<◌, ◌^◌, Bool, List, length, map, Option, Some, None}
-use Rattle.std.specs.Prelude.{Result, Ok, Err, IfOk, OnErr, bit_and}
-use Rattle.std.specs.Int.{w64, bit_not}
+use Rattle.std.specs.Prelude.{◌≡◌, ℕ, ◌<◌, ◌^◌, Bool, List, length, map, Option, Some, None, Result}
+use Rattle.std.specs.Prelude.{Ok, Err, IfOk, OnErr, bit_and}
+use Rattle.std.specs.Int.{bit_not, w64}
 use Rattle.std.specs.FinMap as map
 use Rattle.std.specs.List.{Contains}
 use Rattle.cfi_read_core.specs.declared.common.Register.{Register}
@@ -20,7 +19,7 @@ use Rattle.cfi_state.specs.declared.table.rules.RegisterRule.{RegisterRule}
 use Rattle.cfi_expression.specs.declared.error.FrameError.{FrameError}
 use Rattle.cfi_expression.specs.declared.error.FrameError.TheVariants.{UnknownRegister}
 use Rattle.cfi_expression.specs.Frames.{Frame}
-use Rattle.cfi_expression.specs.Stacks.{map_value}
+use Rattle.cfi_read_core.specs.ReaderCalls.{map_ok}
 use Rattle.cfi_step.specs.declared.packed_rows.PackedRow.{PackedRow}
 use Rattle.cfi_step.specs.declared.step.Caller.{Caller}
 use Rattle.cfi_step.specs.declared.packed_rules.SmallRule.{SmallRule}
@@ -32,23 +31,16 @@ use Rattle.cfi_step.specs.PackedRules.{numbered, rule_by}
 use Rattle.cfi_step.specs.Steps.{caller_by}
 use Rattle.cfi_c.specs.declared.function.CfiFunction.{CfiFunction}
 use Rattle.cfi_c.specs.declared.memory.CfiMemory.{CfiMemory}
-use Rattle.cfi_c.specs.declared.stack.CfiEnd.{CfiEnd}
-use Rattle.cfi_c.specs.declared.stack.CfiValue.{CfiValue}
+use Rattle.cfi_c.specs.declared.end.CfiEnd.{CfiEnd}
+use Rattle.cfi_c.specs.declared.register.CfiValue.{CfiValue}
 use Rattle.cfi_c.specs.declared.step.CfiCaller.{CfiCaller}
 use Rattle.cfi_c.specs.PassedMemories.{abi_in}
-use Rattle.cfi_c.specs.PassedStacks.{known_value}
-use Rattle.cfi_c.specs.SteppedFrames.{AreValues, caller_or, end_by, frame_in, written_function}
-use Rattle.cfi_c.specs.SteppedFrames.{written_value}
+use Rattle.cfi_c.specs.PassedRegisters.{AreValues, values_of}
+use Rattle.cfi_c.specs.SteppedFrames.{caller_or, frame_in}
+use Rattle.cfi_c.specs.WrittenFunctions.{written_function}
+use Rattle.cfi_c.specs.Ends.{end_by}
 
 -- ---- the frame
-
--- the values of registers that are passed
-abbrev pub values_of : List CfiValue → List (Option ℕ)
-values_of registers = map known_value registers
-
--- the same registers, with 0 for the value of each that isn't known
-abbrev pub plain_of : List CfiValue → List CfiValue
-plain_of registers = map (λ register. written_value (known_value register)) registers
 
 -- without these bits an address is as it is without its signature, where it has one
 abbrev pub Clears : ℕ → Bool → ℕ → Type 0
@@ -61,8 +53,8 @@ IsPcOf mask signed (Some a) ra pc = pc ≡ Ok (Some (unsigned mask signed a))
 IsPcOf mask signed None ra pc = pc ≡ Err (UnknownRegister ra)
 
 module _ (memory : CfiMemory) (registers : List CfiValue) where
-  abbrev pub frame_of : Frame
-  frame_of = frame_in memory (values_of registers)
+  abbrev pub passed_frame : Frame
+  passed_frame = frame_in memory (values_of registers)
 
   -- the pc by the rule of its register, where the row says with these bits that it is signed
   abbrev pub IsPcBy :
@@ -70,13 +62,13 @@ module _ (memory : CfiMemory) (registers : List CfiValue) where
   IsPcBy cfa ra bits given pc =
       (bytes : Position) (parts : Parts ℕ) →
       Clears memory.signature_mask (is_signed (map.get parts.rules 34)) bits → pc
-      ≡ return_by frame_of bytes (abi_in memory) (λ (n : ℕ). n) parts cfa (numbered ra) given
+      ≡ return_by passed_frame bytes (abi_in memory) (λ (n : ℕ). n) parts cfa (numbered ra) given
 
   module _ (row : PackedRow) where
     abbrev pub IsCallerBy : Result Caller FrameError → Type 0
     IsCallerBy caller =
         (bytes : Position) → caller
-        ≡ caller_by frame_of bytes (abi_in memory) (λ (n : ℕ). n)
+        ≡ caller_by passed_frame bytes (abi_in memory) (λ (n : ℕ). n)
         (numbered row.numbers.return_address) (is_trampoline row.numbers.marks)
         (parts_packed row)
 
@@ -84,19 +76,19 @@ module _ (memory : CfiMemory) (registers : List CfiValue) where
     abbrev pub IsCallerFrom : ℕ → Result Caller FrameError → Type 0
     IsCallerFrom cfa caller =
         (bytes : Position) → caller
-        ≡ map_value
+        ≡ map_ok
         (λ pc. record {
           cfa = cfa;
           pc = pc;
           is_interrupted = is_trampoline row.numbers.marks;
           args_size = (parts_packed row).args_size;
         })
-        (return_address frame_of bytes (abi_in memory) (λ (n : ℕ). n) (parts_packed row) cfa
+        (return_address passed_frame bytes (abi_in memory) (λ (n : ℕ). n) (parts_packed row) cfa
         (numbered row.numbers.return_address))
 
     abbrev pub AreOfCaller : ℕ → List CfiValue → Type 0
     AreOfCaller cfa new =
-        ((bytes : Position) → AreRecovered frame_of bytes (abi_in memory) (λ (n : ℕ). n)
+        ((bytes : Position) → AreRecovered passed_frame bytes (abi_in memory) (λ (n : ℕ). n)
         (parts_packed row) cfa (length new) (values_of new))
         × AreValues (values_of new) new
 
@@ -129,14 +121,14 @@ module _ (memory : CfiMemory) where
   IsSavedPc a bits pc =
       (registers : List CfiValue) (bytes : Position) (signed : Bool) (ra : Register) →
       Clears memory.signature_mask signed bits → pc
-      ≡ on_ok (pc_of (frame_of memory registers) bytes (abi_in memory) (λ (n : ℕ). n) signed ra)
-      (saved_at (frame_of memory registers) a)
+      ≡ on_ok (pc_of (passed_frame memory registers) bytes (abi_in memory) (λ (n : ℕ). n) signed ra)
+      (saved_at (passed_frame memory registers) a)
 
   -- the value that a register has in the caller, by its rule
   abbrev pub IsValueBy : ℕ → SmallRule → Option ℕ → Type 0
   IsValueBy cfa rule value =
       (registers : List CfiValue) (bytes : Position) (k : ℕ) → value
-      ≡ given (by_rule (frame_of memory registers) bytes (abi_in memory) (λ (n : ℕ). n) cfa k
+      ≡ given (by_rule (passed_frame memory registers) bytes (abi_in memory) (λ (n : ℕ). n) cfa k
       (rule_by rule))
 
 -- ---- by a row that a cache holds

@@ -2,11 +2,11 @@
 --     Framed      a frame, and its registers
 --     IsWalkWith IsStep s frames end      the frames from s on with their registers, and why there
 --         are no more
---     frames_of all, registers_of all      what is written of them, one after the other
+--     frames_of all, registers_written all      what is written of them, one after the other
 --     IsUnwoundWith live modules stack pc registers frames new values new_values count end
 --         what C gets, with a context or none
-use Rattle.std.specs.Prelude.{◌≡◌, ◌⊎◌, ℕ, ◌+◌, ◌*◌, ◌<◌, Bool, true, false, List, [], ◌∷◌}
-use Rattle.std.specs.Prelude.{◌++◌, drop, length, map, take, Option, None, Result, Ok, Err}
+use Rattle.std.specs.Prelude.{◌≡◌, ◌⊎◌, ℕ, ◌+◌, ◌*◌, ◌<◌, Bool, true, false, List, [], ◌∷◌, ◌++◌}
+use Rattle.std.specs.Prelude.{drop, length, map, take, Option, None, Result, Ok, Err}
 use Rattle.cfi_read_core.specs.declared.error.Error.TheVariants.{UnsupportedAddressSize}
 use Rattle.cfi_read_core.specs.Addresses.{IsAddressSize}
 use Rattle.cfi_step.specs.declared.step.Caller.{Caller}
@@ -14,14 +14,15 @@ use Rattle.cfi_step.specs.declared.walk.End.{End}
 use Rattle.cfi_step.specs.declared.walk.End.TheVariants.{NoRoom}
 use Rattle.cfi_step.specs.declared.walk.Start.{Start}
 use Rattle.cfi_step.specs.Walks.{State, resumed}
-use Rattle.cfi_c.specs.declared.stack.CfiEnd.{CfiEnd}
-use Rattle.cfi_c.specs.declared.stack.CfiFrame.{CfiFrame}
-use Rattle.cfi_c.specs.declared.stack.CfiModule.{CfiModule}
+use Rattle.cfi_c.specs.declared.end.CfiEnd.{CfiEnd}
+use Rattle.cfi_c.specs.declared.frame.CfiFrame.{CfiFrame}
+use Rattle.cfi_c.specs.declared.module.CfiModule.{CfiModule}
 use Rattle.cfi_c.specs.declared.stack.CfiStack.{CfiStack}
-use Rattle.cfi_c.specs.declared.stack.CfiValue.{CfiValue}
-use Rattle.cfi_c.specs.PassedStacks.{known_values}
-use Rattle.cfi_c.specs.StackFrames.{IsStepForC, frame_by, no_context, refused_end, written_end}
-use Rattle.cfi_c.specs.SteppedFrames.{written_value}
+use Rattle.cfi_c.specs.declared.register.CfiValue.{CfiValue}
+use Rattle.cfi_c.specs.PassedRegisters.{known_values, written_value}
+use Rattle.cfi_c.specs.StackFrames.{frame_by}
+use Rattle.cfi_c.specs.ModuleSteps.{IsStepForC}
+use Rattle.cfi_c.specs.Ends.{no_context, refused_end, written_end}
 
 -- ---- a walk
 
@@ -51,9 +52,9 @@ abbrev pub frames_of : List Framed → List CfiFrame
 frames_of all = map (λ f. f.frame) all
 
 -- one after the other
-abbrev pub registers_of : List Framed → List CfiValue
-registers_of [] = []
-registers_of (f ∷ fs) = f.registers ++ registers_of fs
+abbrev pub registers_written : List Framed → List CfiValue
+registers_written [] = []
+registers_written (f ∷ fs) = f.registers ++ registers_written fs
 
 -- where the first ones are written, and nothing behind them
 abbrev pub AreFirst : {A : Type 0} → List A → List A → List A → Type 0
@@ -82,31 +83,31 @@ module _ (IsStep : State → Result Caller End → List (Option ℕ) → Type 0)
   IsWalkedTo end pc registers frames new values new_values count =
       (all : List Framed) × IsWalkWith IsStep (innermost pc registers) all end
       × (count ≡ length all) × AreFirst (frames_of all) frames new
-      × AreFirst (registers_of all) values new_values
+      × AreFirst (registers_written all) values new_values
       × (end ≡ NoRoom → IsFull (length registers) count (length frames) (length values))
 
-abbrev pub IsWalked :
+abbrev pub IsWalkedWith :
     List CfiModule → CfiStack → ℕ → List (Option ℕ) → List CfiFrame → List CfiFrame →
     List CfiValue → List CfiValue → ℕ → CfiEnd → Type 0
-IsWalked modules stack pc registers frames new values new_values count out =
+IsWalkedWith modules stack pc registers frames new values new_values count out =
     (end : End)
     × IsWalkedTo (IsStepForC stack modules) end pc registers frames new values new_values count
     × (out ≡ written_end end)
 
 -- nothing is walked
-abbrev pub IsRefused :
+abbrev pub IsNotWalkedWith :
     CfiEnd → List CfiFrame → List CfiFrame → List CfiValue → List CfiValue → ℕ → CfiEnd → Type 0
-IsRefused due frames new values new_values count out =
+IsNotWalkedWith due frames new values new_values count out =
     (count ≡ 0) × (new ≡ frames) × (new_values ≡ values) × (out ≡ due)
 
 abbrev pub IsUnwoundWith :
     Bool → List CfiModule → CfiStack → ℕ → List CfiValue → List CfiFrame → List CfiFrame →
     List CfiValue → List CfiValue → ℕ → CfiEnd → Type 0
 IsUnwoundWith false modules stack pc registers frames new values new_values count out =
-    IsRefused no_context frames new values new_values count out
+    IsNotWalkedWith no_context frames new values new_values count out
 IsUnwoundWith true modules stack pc registers frames new values new_values count out =
     ((IsAddressSize stack.address_size → ⊥) →
-    IsRefused (refused_end 16 (UnsupportedAddressSize stack.address_size)) frames new values
+    IsNotWalkedWith (refused_end 16 (UnsupportedAddressSize stack.address_size)) frames new values
     new_values count out)
     × (IsAddressSize stack.address_size →
-    IsWalked modules stack pc (known_values registers) frames new values new_values count out)
+    IsWalkedWith modules stack pc (known_values registers) frames new values new_values count out)

@@ -7,17 +7,17 @@
 use Rattle.std.specs.Prelude.{◌≡◌, ◌⊎◌, ℕ, ℤ, pos, List, length, Option, Some, None}
 use Rattle.cfi_read_core.specs.Addresses.{IsAddressSize}
 use Rattle.cfi_read_core.specs.ReaderCalls.{map_ok}
-use Rattle.cfi_read_core.specs.declared.error.Error.TheVariants.{UnsupportedAddressSize}
 use Rattle.cfi_read_core.specs.declared.error.Error.TheVariants.{OutOfMemory}
-use Rattle.gimli_cfi.specs.Words.{Row, Parts}
-use Rattle.cfi_compiled.specs.CompiledTables.{TableContents, IsCompiled, parts_at}
-use Rattle.cfi_c.specs.declared.CfiBases.{CfiBases}
-use Rattle.cfi_c.specs.declared.CfiRow.{CfiRow}
-use Rattle.cfi_c.specs.declared.CfiRule.{CfiRule}
+use Rattle.cfi_read_core.specs.declared.error.Error.TheVariants.{UnsupportedAddressSize}
+use Rattle.gimli_cfi.specs.Words.{Parts, Row}
+use Rattle.cfi_compiled.specs.CompiledTables.{IsCompiled, TableContents, parts_at}
+use Rattle.cfi_c.specs.declared.section.CfiBases.{CfiBases}
+use Rattle.cfi_c.specs.declared.written.CfiRow.{CfiRow}
+use Rattle.cfi_c.specs.declared.written.CfiRule.{CfiRule}
 use Rattle.cfi_c.specs.declared.table.CfiTable.{CfiTable}
-use Rattle.cfi_c.specs.Refusals.{number}
-use Rattle.cfi_c.specs.PassedSections.{section_of}
-use Rattle.cfi_c.specs.AddressRows.{IsAnswered}
+use Rattle.cfi_c.specs.Refusals.{error_status}
+use Rattle.cfi_c.specs.PassedSections.{passed_section}
+use Rattle.cfi_c.specs.AddressRows.{IsAnsweredForC}
 
 abbrev pub table_in : CfiTable → Option TableContents
 table_in table = table.held.table
@@ -26,10 +26,10 @@ table_in table = table.held.table
 
 -- for every address the row by a scan of the bytes, but its two addresses
 abbrev pub IsTableOf : CfiBases → List ℕ → TableContents → Type 0
-IsTableOf bases bytes table = IsCompiled (Some 192) (Some 4) (section_of bases bytes) table
+IsTableOf bases bytes table = IsCompiled (Some 192) (Some 4) (passed_section bases bytes) table
 
-abbrev pub IsMade : CfiBases → List ℕ → ℤ → Option TableContents → Type 0
-IsMade bases bytes status new =
+abbrev pub IsTableNew : CfiBases → List ℕ → ℤ → Option TableContents → Type 0
+IsTableNew bases bytes status new =
     (table : TableContents) × (status ≡ pos 0) × (new ≡ Some table) × IsTableOf bases bytes table
 
 -- nothing is written
@@ -40,9 +40,9 @@ abbrev pub IsTableMade :
     CfiBases → List ℕ → Option TableContents → ℤ → Option TableContents → Type 0
 IsTableMade bases bytes old status new =
     ((IsAddressSize bases.address_size → ⊥) →
-    IsLeft old (number (UnsupportedAddressSize bases.address_size)) status new)
+    IsLeft old (error_status (UnsupportedAddressSize bases.address_size)) status new)
     × (IsAddressSize bases.address_size →
-    IsMade bases bytes status new ⊎ IsLeft old (number OutOfMemory) status new)
+    IsTableNew bases bytes status new ⊎ IsLeft old (error_status OutOfMemory) status new)
 
 -- ---- and asked
 
@@ -53,5 +53,5 @@ unplaced parts = record { start_address = 0; end_address = 0; parts = parts }
 -- 33: there is no table
 abbrev pub IsTableRow : Option TableContents → ℕ → CfiRow → List CfiRule → Type 0
 IsTableRow (Some table) a out rules =
-    IsAnswered (map_ok unplaced (parts_at table a)) out rules 0 (length rules)
+    IsAnsweredForC (map_ok unplaced (parts_at table a)) out rules 0 (length rules)
 IsTableRow None a out rules = (out.status ≡ pos 33) × (out.refused ≡ 0)

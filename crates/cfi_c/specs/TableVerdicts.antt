@@ -9,12 +9,12 @@ use Rattle.gimli_cfi.specs.CheckVerdicts.{IsVerdictIf}
 use Rattle.gimli_cfi.specs.declared.hdr.unfaithful.Unfaithful.{Unfaithful}
 use Rattle.gimli_cfi.specs.declared.hdr.unfaithful.Unfaithful.TheVariants as reasons
 use Rattle.gimli_cfi.specs.declared.hdr.verdict.Verdict.{Verdict}
-use Rattle.gimli_cfi.specs.declared.hdr.verdict.Verdict.TheVariants.{Faithful, Unfaithful as Not}
-use Rattle.gimli_cfi.specs.declared.hdr.verdict.Verdict.TheVariants.{NoTable, Refused}
-use Rattle.cfi_c.specs.declared.CfiBases.{CfiBases}
+use Rattle.gimli_cfi.specs.declared.hdr.verdict.Verdict.TheVariants.{Faithful, NoTable, Refused}
+use Rattle.gimli_cfi.specs.declared.hdr.verdict.Verdict.TheVariants.{Unfaithful as Not}
+use Rattle.cfi_c.specs.declared.section.CfiBases.{CfiBases}
 use Rattle.cfi_c.specs.declared.check.CfiVerdict.{CfiVerdict}
-use Rattle.cfi_c.specs.PassedSections.{eh_frame_of, header_of}
-use Rattle.cfi_c.specs.Refusals.{number}
+use Rattle.cfi_c.specs.PassedSections.{eh_frame_of, passed_header}
+use Rattle.cfi_c.specs.Refusals.{error_status}
 use Rattle.cfi_read_core.specs.RefusalNames.{value_of}
 
 -- ---- how C sees it
@@ -38,7 +38,7 @@ refused_verdict kind first e = record {
   third = 0;
   refused = value_of e;
   kind = kind;
-  status = number e;
+  status = error_status e;
 }
 
 abbrev pub written_reason : Unfaithful → CfiVerdict
@@ -64,14 +64,14 @@ written_if (Some verdict) = written_verdict verdict
 
 -- ---- the verdict
 
-abbrev pub IsCheckOf : CfiBases → List ℕ → Option (List ℕ) → CfiVerdict → Type 0
-IsCheckOf bases bytes header out =
+abbrev pub IsPassedCheck : CfiBases → List ℕ → Option (List ℕ) → CfiVerdict → Type 0
+IsPassedCheck bases bytes header out =
     (verdict : Option Verdict)
-    × IsVerdictIf (eh_frame_of bases bytes) (option_map (header_of bases) header) verdict
+    × IsVerdictIf (eh_frame_of bases bytes) (option_map (passed_header bases) header) verdict
     × (out ≡ written_if verdict)
 
 abbrev pub IsCheckedForC : CfiBases → List ℕ → Option (List ℕ) → CfiVerdict → Type 0
 IsCheckedForC bases bytes header out =
     ((IsAddressSize bases.address_size → ⊥) →
     out ≡ refused_verdict 2 0 (UnsupportedAddressSize bases.address_size))
-    × (IsAddressSize bases.address_size → IsCheckOf bases bytes header out)
+    × (IsAddressSize bases.address_size → IsPassedCheck bases bytes header out)

@@ -1,6 +1,6 @@
 -- Rows as C sees them.
 --     IsWritten row out      a row but for its rules
---     written_rule rule      the rule of a register
+--     rule_for_c rule      the rule of a register
 --     IsRules row rules first count      from `first` on, the rules of the registers below `count`
 use Rattle.std.specs.Prelude.{◌≡◌, ◌⊎◌, ℕ, ◌+◌, ◌<◌, ◌≤◌, ℤ, pos, List, length, nat_le, Option}
 use Rattle.std.specs.Prelude.{Some, None, slice_index_or, if◌then◌else◌}
@@ -10,8 +10,8 @@ use Rattle.cfi_state.specs.declared.table.rules.CfaRule.TheVariants as cfa
 use Rattle.cfi_state.specs.declared.table.rules.RegisterRule.{RegisterRule}
 use Rattle.cfi_state.specs.declared.table.rules.RegisterRule.TheVariants as rule
 use Rattle.cfi_state.specs.Row.{Row}
-use Rattle.cfi_c.specs.declared.CfiRow.{CfiRow}
-use Rattle.cfi_c.specs.declared.CfiRule.{CfiRule}
+use Rattle.cfi_c.specs.declared.written.CfiRow.{CfiRow}
+use Rattle.cfi_c.specs.declared.written.CfiRule.{CfiRule}
 
 -- ---- a row
 
@@ -39,28 +39,28 @@ abbrev pub placed_rule : ℕ → ℕ → ℕ → CfiRule
 placed_rule kind place length =
     record { kind = kind; value = pos 0; place = place; length = length }
 
-abbrev pub written_rule : Option (RegisterRule ℕ) → CfiRule
-written_rule None = plain_rule 0 (pos 0)
-written_rule (Some rule.Undefined) = plain_rule 1 (pos 0)
-written_rule (Some rule.SameValue) = plain_rule 2 (pos 0)
-written_rule (Some (rule.Offset n)) = plain_rule 3 n
-written_rule (Some (rule.ValOffset n)) = plain_rule 4 n
-written_rule (Some (rule.Register r)) = plain_rule 5 (pos r.0)
-written_rule (Some (rule.Expression e)) = placed_rule 6 e.offset e.length
-written_rule (Some (rule.ValExpression e)) = placed_rule 7 e.offset e.length
-written_rule (Some rule.Architectural) = plain_rule 8 (pos 0)
-written_rule (Some (rule.Constant n)) = placed_rule 9 n 0
+abbrev pub rule_for_c : Option (RegisterRule ℕ) → CfiRule
+rule_for_c None = plain_rule 0 (pos 0)
+rule_for_c (Some rule.Undefined) = plain_rule 1 (pos 0)
+rule_for_c (Some rule.SameValue) = plain_rule 2 (pos 0)
+rule_for_c (Some (rule.Offset n)) = plain_rule 3 n
+rule_for_c (Some (rule.ValOffset n)) = plain_rule 4 n
+rule_for_c (Some (rule.Register r)) = plain_rule 5 (pos r.0)
+rule_for_c (Some (rule.Expression e)) = placed_rule 6 e.offset e.length
+rule_for_c (Some (rule.ValExpression e)) = placed_rule 7 e.offset e.length
+rule_for_c (Some rule.Architectural) = plain_rule 8 (pos 0)
+rule_for_c (Some (rule.Constant n)) = placed_rule 9 n 0
 
 -- no register is above 65535
 abbrev pub rule_at : Row ℕ → ℕ → Option (RegisterRule ℕ)
 rule_at row k = if nat_le k 0xffff then map.get row.parts.rules k else None
 
 abbrev pub rule_in : List CfiRule → ℕ → CfiRule
-rule_in rules k = slice_index_or rules k (written_rule None)
+rule_in rules k = slice_index_or rules k (rule_for_c None)
 
 abbrev pub IsRules : Row ℕ → List CfiRule → ℕ → ℕ → Type 0
 IsRules row rules first count =
-    (k : ℕ) → k < count → rule_in rules (first + k) ≡ written_rule (rule_at row k)
+    (k : ℕ) → k < count → rule_in rules (first + k) ≡ rule_for_c (rule_at row k)
 
 -- the rules before `first`, and those from `first + count` on
 abbrev pub SameAround : ℕ → ℕ → List CfiRule → List CfiRule → Type 0

@@ -1,74 +1,28 @@
 //! The caller of one frame, with a cache of rows.
-ghost use Rattle.std.specs.Prelude.{◌≡◌, ◌≤◌, [], false, length, true};
+ghost use Rattle.std.specs.Prelude.{◌≡◌, ◌≤◌, false, length, true};
 ghost use Rattle.std.specs.Option.{option_map};
 ghost use Rattle.cfi_read_core.specs.Addresses.{IsAddressSize};
-ghost use Rattle.cfi_step.specs.PackedRows.{AreEmpty, rows_in};
+ghost use Rattle.cfi_step.specs.PackedRows.{rows_in};
 ghost use Rattle.cfi_step.specs.Steps.{row_address};
 ghost use Rattle.cfi_c.specs.AddressRows.{is_live};
-ghost use Rattle.cfi_c.specs.CachedSteps.{IsCacheMade, IsCachedFor, KeepsFor, held_rows, rows_of};
+ghost use Rattle.cfi_c.specs.CachedSteps.{IsCachedFor, StaysCachedFor, cache_rows, held_rows};
 ghost use Rattle.cfi_c.specs.PackedSteps.{IsSteppedByHeld};
 ghost use Rattle.cfi_c.specs.SteppedFrames.{IsStepped};
 
 use crate::cache::CfiCache;
 use crate::context::{CfiContext, Context};
-use crate::debug_frame::{is_debug_frame, keep_in_debug_frame};
-use crate::find::is_sized;
+use crate::debug_frame::keep_in_debug_frame;
+use crate::end::CfiEnd;
 use crate::function::CfiFunction;
 use crate::memory::CfiMemory;
-use crate::module::loaded_of;
+use crate::module::{CfiModule, is_debug_frame, loaded_of};
 use crate::packed_step::step_by_packed;
-use crate::refusal::number_of;
-use crate::stack::{CfiEnd, CfiModule, CfiValue, first_registers};
+use crate::register::{CfiValue, first_registers};
+use crate::section::is_sized;
 use crate::step::{CfiCaller, cfi_step};
 use cfi_step::{RowCache, keep_row, row_address};
-use gimli_cfi::Error;
 use std::alloc::Global;
 use std::mem;
-
-/// Makes a cache for four rows in each of so many sets, without one, and frees the cache that was
-/// there. Returns 0; or the number of `OutOfMemory` where memory was refused, and then writes
-/// nothing.
-#[unsafe(no_mangle)]
-pub extern "C" fn cfi_cache_new(alloc: Global, sets: usize, cache: &mut CfiCache) -> i32
-    ensures { IsCacheMade sets (rows_of cache.old) result (rows_of cache.new) }
-{
-    let Ok(made) = RowCache::new(alloc, sets) else {
-        return number_of(Error::OutOfMemory);
-    };
-    let Ok(held) = Box::new(alloc, made) else {
-        return number_of(Error::OutOfMemory);
-    };
-    *cache = CfiCache::of(alloc, Some(held));
-    0
-}
-
-/// Frees the cache, where there is one.
-#[unsafe(no_mangle)]
-pub extern "C" fn cfi_cache_free(alloc: Global, cache: &mut CfiCache)
-    ensures { rows_of cache.new ≡ [] }
-{
-    *cache = CfiCache::of(alloc, None);
-}
-
-/// Forgets all rows of the cache. Does not allocate.
-#[unsafe(no_mangle)]
-pub extern "C" fn cfi_cache_clear(alloc: Global, cache: &mut CfiCache)
-    ensures { AreEmpty (rows_of cache.new) }
-{
-    let mut held = mem::replace(cache, CfiCache::of(alloc, None)).into_box();
-    clear_held(&mut held);
-    *cache = CfiCache::of(alloc, held);
-}
-
-/// Forgets all rows of the cache that is held.
-fn clear_held(held: &mut Option<Box<RowCache>>)
-    ensures { AreEmpty (held_rows (option_map (λ cache. cache.value) held.new)) }
-{
-    match held {
-        Some(rows) => rows.as_mut().clear(),
-        None => {}
-    }
-}
 
 /// The step of `cfi_step`, with the same result, registers, function, caller and end, with a cache
 /// of rows: by the row that the cache holds for the file and the address, if it does; else the row
@@ -93,14 +47,14 @@ pub extern "C" fn cfi_step_cached(
     caller: &mut CfiCaller,
     end: &mut CfiEnd,
 ) -> u32
-    ensures stepped { IsCachedFor memory.now.address_size file module.now (rows_of cache.old) →
+    ensures stepped { IsCachedFor memory.now.address_size file module.now (cache_rows cache.old) →
         IsStepped context.old.live module.now memory.now (row_address pc is_interrupted)
         registers.now caller_registers.old caller_registers.new function.new caller.old caller.new
         end.new }
     ensures kind { result ≡ end.new.kind }
     ensures context { context.new.live ≡ context.old.live }
-    ensures kept { KeepsFor memory.now.address_size file module.now
-        (rows_of cache.old) (rows_of cache.new) }
+    ensures kept { StaysCachedFor memory.now.address_size file module.now
+        (cache_rows cache.old) (cache_rows cache.new) }
 {
     let mut held = mem::replace(cache, CfiCache::of(alloc, None)).into_box();
     let address = row_address(pc, is_interrupted);
@@ -162,7 +116,7 @@ fn step_by_held(
     ensures unwritten { result ≡ false →
         (caller_registers.new ≡ caller_registers.old) × (caller.new ≡ caller.old) }
     ensures context { context.new.live ≡ context.old.live }
-    ensures kept { KeepsFor memory.now.address_size file module.now
+    ensures kept { StaysCachedFor memory.now.address_size file module.now
         (held_rows (option_map (λ cache. cache.value) held.old))
         (held_rows (option_map (λ cache. cache.value) held.new)) }
 {
@@ -214,7 +168,7 @@ fn step_by_rows(
     ensures unwritten { result ≡ false →
         (caller_registers.new ≡ caller_registers.old) × (caller.new ≡ caller.old) }
     ensures context { context.new.live ≡ context.old.live }
-    ensures kept { KeepsFor memory.now.address_size file module.now
+    ensures kept { StaysCachedFor memory.now.address_size file module.now
         (rows_in rows.old) (rows_in rows.new) }
 {
     match rows.held(file, address) {
@@ -272,7 +226,7 @@ fn step_after_keeping(
     ensures unwritten { result ≡ false →
         (caller_registers.new ≡ caller_registers.old) × (caller.new ≡ caller.old) }
     ensures context { context.new.live ≡ context.old.live }
-    ensures kept { KeepsFor memory.now.address_size file module.now
+    ensures kept { StaysCachedFor memory.now.address_size file module.now
         (rows_in rows.old) (rows_in rows.new) }
 {
     if rows.is_refused(file, address) {
@@ -316,7 +270,7 @@ fn keep_found(
 )
     requires { IsAddressSize size }
     ensures context { context.new.live ≡ context.old.live }
-    ensures kept { KeepsFor size file module.now (rows_in rows.old) (rows_in rows.new) }
+    ensures kept { StaysCachedFor size file module.now (rows_in rows.old) (rows_in rows.new) }
 {
     let mut held = mem::replace(context, CfiContext::of(alloc, None)).into_box();
     keep_with(&mut held, rows, file, module, size, address);
@@ -334,7 +288,7 @@ fn keep_with(
 )
     requires { IsAddressSize size }
     ensures live { is_live held.new ≡ is_live held.old }
-    ensures kept { KeepsFor size file module.now (rows_in rows.old) (rows_in rows.new) }
+    ensures kept { StaysCachedFor size file module.now (rows_in rows.old) (rows_in rows.new) }
 {
     match held {
         Some(context) => keep_in_module(context.as_mut(), rows, file, module, size, address),
@@ -352,7 +306,7 @@ fn keep_in_module(
     address: u64,
 )
     requires { IsAddressSize size }
-    ensures { KeepsFor size file module.now (rows_in rows.old) (rows_in rows.new) }
+    ensures { StaysCachedFor size file module.now (rows_in rows.old) (rows_in rows.new) }
 {
     if is_debug_frame(module) {
         keep_in_debug_frame(module, rows, file, context, size, address);

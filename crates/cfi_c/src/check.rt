@@ -4,9 +4,8 @@ ghost use Rattle.cfi_c.specs.PassedSections.{header_in, lent};
 ghost use Rattle.cfi_c.specs.TableVerdicts.{IsCheckedForC, plain_verdict, refused_verdict};
 ghost use Rattle.cfi_c.specs.TableVerdicts.{written_if, written_reason, written_verdict};
 
-use crate::find::{is_sized, source_of};
 use crate::refusal::number_of;
-use crate::{CfiBases, header_in};
+use crate::section::{CfiBases, header_in, is_sized, source_of};
 use gimli_cfi::{Error, Unfaithful, Verdict};
 
 /// A verdict on the table of a header, by its kind: 0 faithful, 1 no table, 2 the header can't be

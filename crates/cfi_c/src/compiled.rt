@@ -4,16 +4,15 @@ ghost use Rattle.std.specs.Option.{option_map};
 ghost use Rattle.cfi_read_core.specs.Addresses.{IsAddressSize};
 ghost use Rattle.cfi_read_core.specs.ReaderCalls.{map_ok};
 ghost use Rattle.cfi_compiled.specs.CompiledRows.{parts_kept, parts_lent};
-ghost use Rattle.cfi_c.specs.AddressRows.{IsAnswered};
+ghost use Rattle.cfi_c.specs.AddressRows.{IsAnsweredForC};
 ghost use Rattle.cfi_c.specs.PassedSections.{lent};
 ghost use Rattle.cfi_c.specs.WrittenRows.{IsRules, rule_at};
 ghost use Rattle.cfi_c.specs.TableRows.{IsTableMade, IsTableOf, IsTableRow, table_in, unplaced};
 
-use crate::find::{is_sized, source_of};
 use crate::refusal::{NO_TABLE, number_of};
+use crate::section::{CfiBases, is_sized, source_of};
 use crate::table::CfiTable;
-use crate::written::{cfa_row, rule_of};
-use crate::{CfiBases, CfiRow, CfiRule};
+use crate::written::{CfiRow, CfiRule, cfa_row, rule_of};
 use cfi_compiled::{CompiledRow, CompiledTable};
 use gimli_cfi::{CallFrameSection, Error, Register, RegisterRule};
 use std::alloc::Global;
@@ -117,7 +116,7 @@ fn answer(table: Option<&CompiledTable>, address: u64, row: &mut CfiRow, rules: 
 /// Writes what a row says, and as many rules as fit; or the number of the error, with what it
 /// carries.
 fn write_row(found: Result<CompiledRow<'_>, Error>, row: &mut CfiRow, rules: &mut [CfiRule])
-    ensures { IsAnswered (map_ok unplaced (parts_lent found.entry))
+    ensures { IsAnsweredForC (map_ok unplaced (parts_lent found.entry))
         row.new rules.new 0 (length rules.new) }
 {
     match found {

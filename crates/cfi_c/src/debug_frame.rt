@@ -1,39 +1,28 @@
 //! Modules whose section is `.debug_frame`: the FDE of an address is found by a scan.
-ghost use Rattle.std.specs.Prelude.{◌≡◌, ◌≤◌, OnErr, Some, length, true};
+ghost use Rattle.std.specs.Prelude.{◌≡◌, ◌≤◌, OnErr, length, true};
 ghost use Rattle.cfi_read_core.specs.Addresses.{IsAddressSize};
 ghost use Rattle.cfi_read_core.specs.ByteOrder.{is_big};
 ghost use Rattle.cfi_read_core.specs.SliceReaders.{slice_over, slice_position};
 ghost use Rattle.cfi_entry.specs.SectionViews.{debug_frame_view};
 ghost use Rattle.cfi_entry.specs.Sections.{DebugFrame as debug_frame_kind, section_of};
-ghost use Rattle.cfi_unwind.specs.FdeViews.{HasCieOf, IsFdeOf, fde_view};
 ghost use Rattle.cfi_expression.specs.Frames.{frame_view};
-ghost use Rattle.cfi_step.specs.PackedRows.{KeepsRowOf, rows_in};
-ghost use Rattle.cfi_c.specs.CachedSteps.{KeepsFor};
+ghost use Rattle.cfi_step.specs.PackedRows.{rows_in};
+ghost use Rattle.cfi_c.specs.CachedSteps.{StaysCachedFor};
 ghost use Rattle.cfi_c.specs.PassedSections.{section_as};
-ghost use Rattle.cfi_c.specs.PassedStacks.{is_debug_frame, sized};
-ghost use Rattle.cfi_c.specs.StackFrames.{IsFunctionStep};
+ghost use Rattle.cfi_c.specs.PassedModules.{is_debug_frame, sized};
+ghost use Rattle.cfi_c.specs.ModuleSteps.{IsFunctionStep};
 
 use crate::context::Context;
-use crate::find::{bases_of, endian_of, vendor_of};
-use crate::stack::CfiModule;
-use cfi_step::function::function_of;
-use cfi_step::{Abi, Frame, FrameError, FunctionStep, Memory, RowCache, step_by_fde};
-use gimli_cfi::{
-    BaseAddresses, DebugFrame, EndianSlice, FrameDescriptionEntry, RunTimeEndian, scan_for_fde,
-};
+use crate::module::{CfiModule, is_debug_frame};
+use crate::section::{bases_of, endian_of, vendor_of};
+use cfi_step::{Abi, Frame, FunctionStep, Memory, RowCache, function_step, keep_found};
+use gimli_cfi::{BaseAddresses, DebugFrame, EndianSlice, RunTimeEndian, scan_for_fde};
 
 /// `.debug_frame` of a module, with the bases of its pointers.
 #[derive(Drop)]
 struct Scanned<'a> {
     frame: DebugFrame<EndianSlice<'a, RunTimeEndian>>,
     bases: BaseAddresses,
-}
-
-/// Whether the module's section is `.debug_frame`: it says so, and has no header.
-pub fn is_debug_frame(module: &CfiModule<'_>) -> bool
-    ensures { result ≡ is_debug_frame module.now }
-{
-    module.bases.debug_frame && module.header.is_empty()
 }
 
 /// The section, whose addresses have this size where a CIE gives none.
@@ -75,25 +64,10 @@ pub fn step_in_debug_frame<M: Memory>(
     ensures unwritten { OnErr result.caller (caller.new ≡ caller.old) }
 {
     let scanned = scanned_of(module, frame.address_size.bytes());
-    match scan_for_fde(&scanned.frame, &scanned.bases, address) {
-        Ok(fde) => FunctionStep {
-            function: Some(function_of(&fde)),
-            caller: step_by_fde(
-                &fde,
-                &scanned.frame,
-                &scanned.bases,
-                context,
-                address,
-                abi,
-                frame,
-                caller,
-            ),
-        },
-        Err(error) => FunctionStep {
-            function: None,
-            caller: Err(FrameError::NoRow(error)),
-        },
-    }
+    let section = &scanned.frame;
+    let bases = &scanned.bases;
+    let found = scan_for_fde(section, bases, address);
+    function_step(found, section, bases, context, address, abi, frame, caller)
 }
 
 /// Keeps the row that the module has for the address, as `keep_row`. Apart, as the step.
@@ -108,36 +82,10 @@ pub fn keep_in_debug_frame(
 )
     requires size { IsAddressSize size }
     requires kind { is_debug_frame module.now ≡ true }
-    ensures { KeepsFor size file module.now (rows_in rows.old) (rows_in rows.new) }
+    ensures { StaysCachedFor size file module.now (rows_in rows.old) (rows_in rows.new) }
 {
     let scanned = scanned_of(module, size);
-    match scan_for_fde(&scanned.frame, &scanned.bases, address) {
-        Ok(fde) => keep_row_of(&fde, &scanned, rows, file, context, address),
-        Err(_error) => {}
-    }
-}
-
-/// Keeps the row that the FDE has for the address.
-fn keep_row_of(
-    fde: &FrameDescriptionEntry<EndianSlice<'_, RunTimeEndian>>,
-    scanned: &Scanned<'_>,
-    rows: &mut RowCache,
-    file: u64,
-    context: &mut Context,
-    address: u64,
-)
-    requires own { IsFdeOf (slice_position is_big)
-        (debug_frame_view (slice_position is_big) scanned.now.frame).position fde.now }
-    requires cie { HasCieOf (slice_position is_big)
-        (debug_frame_view (slice_position is_big) scanned.now.frame).position fde.now }
-    ensures { KeepsRowOf (Some 192) (Some 4) true
-        (section_of (debug_frame_view (slice_position is_big) scanned.now.frame)
-        scanned.now.bases) address
-        (fde_view (slice_position is_big) (λ n. n) fde.now) file
-        (rows_in rows.old) (rows_in rows.new) }
-{
-    match fde.unwind_info_for_address(&scanned.frame, &scanned.bases, context, address) {
-        Ok(row) => rows.keep(file, address, row, &function_of(fde)),
-        Err(_error) => {}
-    }
+    let bases = &scanned.bases;
+    let found = scan_for_fde(&scanned.frame, bases, address);
+    keep_found(found, &scanned.frame, bases, rows, file, context, address);
 }

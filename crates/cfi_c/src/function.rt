@@ -1,8 +1,10 @@
 //! Functions as C sees them.
-ghost use Rattle.std.specs.Prelude.{◌≡◌};
-ghost use Rattle.cfi_c.specs.SteppedFrames.{address_of, is_indirect, written_function};
+ghost use Rattle.std.specs.Prelude.{◌≡◌, None, Some};
+ghost use Rattle.cfi_step.specs.PackedRows.{function_packed};
+ghost use Rattle.cfi_c.specs.WrittenFunctions.{is_pointer_indirect, pointer_address};
+ghost use Rattle.cfi_c.specs.WrittenFunctions.{written_function};
 
-use cfi_step::Function;
+use cfi_step::{Function, PackedRow};
 use gimli_cfi::Pointer;
 
 /// What an FDE and its CIE say of a function, beside its rows.
@@ -67,7 +69,7 @@ pub fn written_function(function: Option<Function>) -> CfiFunction
 
 /// What a pointer points to, or where the pointer is; 0 if there is none.
 fn address_of(pointer: Option<Pointer>) -> u64
-    ensures { result ≡ address_of pointer }
+    ensures { result ≡ pointer_address pointer }
 {
     match pointer {
         Some(pointer) => pointer.pointer(),
@@ -77,10 +79,51 @@ fn address_of(pointer: Option<Pointer>) -> u64
 
 /// Whether a pointer is given by the address where it is.
 fn is_indirect(pointer: Option<Pointer>) -> bool
-    ensures { result ≡ is_indirect pointer }
+    ensures { result ≡ is_pointer_indirect pointer }
 {
     match pointer {
         Some(Pointer::Indirect(_address)) => true,
         _ => false,
     }
+}
+
+/// Writes what the row says of the function.
+#[inline(always)]
+pub fn write_function(row: &PackedRow, function: &mut CfiFunction)
+    ensures { function.new ≡ written_function (Some (function_packed row.now)) }
+{
+    match row.plain_function() {
+        Some(plain) => write_plain(plain, function),
+        None => write_any_function(row, function),
+    }
+}
+
+/// Writes a function that has no pointers.
+#[inline(always)]
+fn write_plain(plain: Function, function: &mut CfiFunction)
+    requires lsda { plain.lsda ≡ None }
+    requires personality { plain.personality ≡ None }
+    ensures { function.new ≡ written_function (Some plain) }
+{
+    // a field at a time, as in `packed_registers`
+    function.start = plain.start;
+    function.end = plain.end;
+    function.lsda = 0;
+    function.personality = 0;
+    function.fde = plain.offset;
+    function.return_address = plain.return_address.0;
+    function.is_known = true;
+    function.has_lsda = false;
+    function.has_personality = false;
+    function.lsda_is_indirect = false;
+    function.personality_is_indirect = false;
+    function.is_signal_trampoline = plain.is_signal_trampoline;
+}
+
+/// Writes any function.
+#[inline(never)]
+fn write_any_function(row: &PackedRow, function: &mut CfiFunction)
+    ensures { function.new ≡ written_function (Some (function_packed row.now)) }
+{
+    *function = written_function(Some(row.function()));
 }

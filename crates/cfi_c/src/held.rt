@@ -1,6 +1,6 @@
 //! A context by its address, as C holds it.
 ghost use Rattle.std.specs.Prelude.{◌≡◌, Bool, true, false};
-ghost use Rattle.cfi_c.specs.HeldContexts.{owned};
+ghost use Rattle.cfi_c.specs.HeldContexts.{owned_context};
 
 use crate::context::Context;
 use crate::unboxed::Unboxed;
@@ -18,7 +18,7 @@ pub struct HeldContext {
 }
 
 impl Model for HeldContext {
-    ghost also_owns = { λ held. owned held.live held.alloc held.at };
+    ghost also_owns = { λ held. owned_context held.live held.alloc held.at };
 }
 
 impl HeldContext {

@@ -2,7 +2,7 @@
 ghost use Rattle.std.specs.Prelude.{◌≡◌, Option, Some, None, true};
 ghost use Rattle.cfi_step.specs.declared.row_cache.RowCache.{RowCache};
 ghost use Rattle.cfi_c.specs.AddressRows.{is_live};
-ghost use Rattle.cfi_c.specs.HeldCaches.{owned};
+ghost use Rattle.cfi_c.specs.HeldCaches.{owned_cache};
 
 use crate::unboxed::Unboxed;
 use cfi_step::RowCache;
@@ -20,7 +20,7 @@ pub struct HeldCache {
 }
 
 impl Model for HeldCache {
-    ghost also_owns = { λ held. owned held.cache held.alloc held.at };
+    ghost also_owns = { λ held. owned_cache held.cache held.alloc held.at };
 }
 
 impl HeldCache {

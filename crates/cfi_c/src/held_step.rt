@@ -3,16 +3,18 @@ ghost use Rattle.std.specs.Prelude.{◌≡◌, ◌*◌, ◌≤◌, length, false
 ghost use Rattle.std.specs.Option.{option_map};
 ghost use Rattle.cfi_step.specs.PackedRows.{rows_in};
 ghost use Rattle.cfi_step.specs.Steps.{row_address};
-ghost use Rattle.cfi_c.specs.CachedSteps.{IsCachedFor, held_rows, rows_of};
-ghost use Rattle.cfi_c.specs.declared.stack.CfiModule.{CfiModule};
-ghost use Rattle.cfi_c.specs.PackedSteps.{IsSteppedByHeld, plain_of};
+ghost use Rattle.cfi_c.specs.CachedSteps.{IsCachedFor, cache_rows, held_rows};
+ghost use Rattle.cfi_c.specs.declared.module.CfiModule.{CfiModule};
+ghost use Rattle.cfi_c.specs.PackedSteps.{IsSteppedByHeld};
+ghost use Rattle.cfi_c.specs.PassedRegisters.{plain_of};
 ghost use Rattle.cfi_c.specs.SteppedFrames.{IsStepped};
 
 use crate::cache::CfiCache;
+use crate::end::CfiEnd;
 use crate::function::CfiFunction;
 use crate::memory::CfiMemory;
 use crate::packed_step::step_in_place;
-use crate::stack::{CfiEnd, CfiValue};
+use crate::register::CfiValue;
 use crate::step::CfiCaller;
 use cfi_step::{RowCache, row_address};
 use std::alloc::Global;
@@ -40,13 +42,13 @@ pub extern "C" fn cfi_step_held(
     end: &mut CfiEnd,
 ) -> bool
     ensures stepped { result ≡ true → (loaded : CfiModule) →
-        IsCachedFor memory.now.address_size file loaded (rows_of cache.old) →
+        IsCachedFor memory.now.address_size file loaded (cache_rows cache.old) →
         IsStepped true loaded memory.now (row_address pc is_interrupted) registers.old
         (plain_of registers.old) (plain_of registers.new) function.new caller.old caller.new
         end.new }
     ensures unwritten { result ≡ false →
         (registers.new ≡ registers.old) × (caller.new ≡ caller.old) }
-    ensures kept { rows_of cache.new ≡ rows_of cache.old }
+    ensures kept { cache_rows cache.new ≡ cache_rows cache.old }
 {
     if registers.len() > 256 || memory.address_size != 8 || !cache.live {
         return false;

@@ -2,7 +2,7 @@
 ghost use Rattle.std.specs.Prelude.{◌≡◌, Option, Some, None, true};
 ghost use Rattle.cfi_compiled.specs.CompiledTables.{TableContents};
 ghost use Rattle.cfi_c.specs.AddressRows.{is_live};
-ghost use Rattle.cfi_c.specs.HeldTables.{owned};
+ghost use Rattle.cfi_c.specs.HeldTables.{owned_table};
 
 use crate::unboxed::Unboxed;
 use cfi_compiled::CompiledTable;
@@ -20,7 +20,7 @@ pub struct HeldTable {
 }
 
 impl Model for HeldTable {
-    ghost also_owns = { λ held. owned held.table held.alloc held.at };
+    ghost also_owns = { λ held. owned_table held.table held.alloc held.at };
 }
 
 // It may go to another thread, as the table that it owns.

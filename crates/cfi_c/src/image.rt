@@ -1,20 +1,18 @@
 //! A module by the program headers of its file, as a loader has mapped it (System V ABI chapter 5,
 //! "Program Loading"; LSB Core, "The .eh_frame_hdr section").
-ghost use Rattle.std.specs.Prelude.{◌≡◌, option_map};
+ghost use Rattle.std.specs.Prelude.{◌≡◌};
 ghost use Rattle.cfi_read_core.specs.Addresses.{IsAddressSize};
 ghost use Rattle.cfi_read_core.specs.ReaderCalls.{map_ok};
-ghost use Rattle.cfi_c.specs.LoadedImages.{IsModuleMade, bases_of, bytes_in, bytes_in_window};
-ghost use Rattle.cfi_c.specs.LoadedImages.{header_in, module_of, module_view, placed_in};
-ghost use Rattle.cfi_c.specs.LoadedImages.{placed_view, pointed_to, refused_by, section_in};
-ghost use Rattle.cfi_c.specs.LoadedImages.{sized_module, status_of};
+ghost use Rattle.cfi_c.specs.LoadedImages.{IsModuleMade, bases_of, image_module, image_module_view};
+ghost use Rattle.cfi_c.specs.LoadedImages.{image_status, placed_header, placed_in, placed_section};
+ghost use Rattle.cfi_c.specs.LoadedImages.{placed_view, pointed_to, refused_by, sized_module};
+ghost use Rattle.cfi_c.specs.PassedMemories.{bytes_in};
 
-use crate::CfiBases;
-use crate::find::{bases_of as section_bases, endian_of, is_sized};
-use crate::memory::CfiWindow;
+use crate::memory::{CfiWindow, bytes_in};
+use crate::module::CfiModule;
 use crate::program_header::{CfiProgramHeader, header_segment, range_of, segment_at};
 use crate::refusal::{NO_HEADER, NO_SECTION, NO_SEGMENTS, NOT_IN_MEMORY, number_of};
-use crate::stack::CfiModule;
-use cfi_elf::bytes::part;
+use crate::section::{CfiBases, bases_of as section_bases, endian_of, is_sized};
 use gimli_cfi::{EhFrameHdr, Error};
 
 /// Why no module is found.
@@ -58,8 +56,8 @@ pub extern "C" fn cfi_module_of_headers<'a>(
     windows: &[CfiWindow<'a>],
     loaded: &mut CfiModule<'a>,
 ) -> i32
-    ensures { IsModuleMade (module_of bases.now windows.now bias headers.now)
-        (module_view loaded.old) (module_view loaded.new) result }
+    ensures { IsModuleMade (image_module bases.now windows.now bias headers.now)
+        (image_module_view loaded.old) (image_module_view loaded.new) result }
 {
     match module_of(bases, windows, bias, headers) {
         Ok(found) => {
@@ -72,7 +70,7 @@ pub extern "C" fn cfi_module_of_headers<'a>(
 
 /// The status of an error.
 fn status_of(error: ImageError) -> i32
-    ensures { result ≡ status_of error }
+    ensures { result ≡ image_status error }
 {
     match error {
         ImageError::NoSegments => NO_SEGMENTS,
@@ -90,7 +88,8 @@ fn module_of<'a>(
     bias: u64,
     headers: &[CfiProgramHeader],
 ) -> Result<CfiModule<'a>, ImageError>
-    ensures { map_ok module_view result ≡ module_of bases.now windows.now bias headers.now }
+    ensures { map_ok image_module_view result
+        ≡ image_module bases.now windows.now bias headers.now }
 {
     if is_sized(bases.address_size) {
         return sized_module(bases, windows, bias, headers);
@@ -107,7 +106,8 @@ fn sized_module<'a>(
     headers: &[CfiProgramHeader],
 ) -> Result<CfiModule<'a>, ImageError>
     requires { IsAddressSize bases.now.address_size }
-    ensures { map_ok module_view result ≡ sized_module bases.now windows.now bias headers.now }
+    ensures { map_ok image_module_view result
+        ≡ sized_module bases.now windows.now bias headers.now }
 {
     let Some(range) = range_of(headers, bias) else {
         return Err(ImageError::NoSegments);
@@ -141,13 +141,13 @@ fn bases_of(given: &CfiBases, section: u64, header: u64) -> CfiBases
 }
 
 /// The bytes of `.eh_frame_hdr`, where they are loaded.
-#[tactic(auto, unfolding(crate::specs::LoadedImages::header_in))]
+#[tactic(auto, unfolding(crate::specs::LoadedImages::placed_header))]
 fn header_in<'a>(
     windows: &[CfiWindow<'a>],
     bias: u64,
     headers: &[CfiProgramHeader],
 ) -> Result<Placed<'a>, ImageError>
-    ensures { map_ok placed_view result ≡ header_in windows.now bias headers.now }
+    ensures { map_ok placed_view result ≡ placed_header windows.now bias headers.now }
 {
     let Some(segment) = header_segment(headers) else {
         return Err(ImageError::NoHeader);
@@ -185,14 +185,14 @@ fn refused_by(found: Result<u64, Error>) -> Result<u64, ImageError>
 
 /// The bytes from an address of the process to the end of the file's bytes of its segment, where
 /// they are loaded.
-#[tactic(auto, unfolding(crate::specs::LoadedImages::section_in))]
+#[tactic(auto, unfolding(crate::specs::LoadedImages::placed_section))]
 fn section_in<'a>(
     windows: &[CfiWindow<'a>],
     bias: u64,
     headers: &[CfiProgramHeader],
     address: u64,
 ) -> Result<Placed<'a>, ImageError>
-    ensures { map_ok placed_view result ≡ section_in windows.now bias headers.now address }
+    ensures { map_ok placed_view result ≡ placed_section windows.now bias headers.now address }
 {
     let place = address.wrapping_sub(bias);
     let Some(segment) = segment_at(headers, place) else {
@@ -217,26 +217,4 @@ fn placed_in<'a>(
         Some(bytes) => Ok(Placed { address, bytes }),
         None => Err(ImageError::NotInMemory),
     }
-}
-
-/// So many bytes at an address, of the first window that has them all.
-fn bytes_in<'a>(windows: &[CfiWindow<'a>], address: u64, size: u64) -> Option<&'a [u8]>
-    ensures { option_map (λ bytes. bytes.now) result ≡ bytes_in address size windows.now }
-{
-    for window in windows {
-        if let Some(bytes) = bytes_in_window(window, address, size) {
-            return Some(bytes);
-        }
-    }
-    None
-}
-
-/// The same, of this window.
-fn bytes_in_window<'a>(window: &CfiWindow<'a>, address: u64, size: u64) -> Option<&'a [u8]>
-    ensures { option_map (λ bytes. bytes.now) result ≡ bytes_in_window address size window.now }
-{
-    if address < window.base {
-        return None;
-    }
-    part(window.bytes, address - window.base, size)
 }

@@ -1,12 +1,14 @@
 //! Memory in several windows, as C passes it.
-ghost use Rattle.std.specs.Prelude.{◌≡◌};
+ghost use Rattle.std.specs.Prelude.{◌≡◌, option_map};
 ghost use Rattle.cfi_read_core.specs.Addresses.{IsAddressSize};
 ghost use Rattle.cfi_read_core.specs.ByteOrder.{is_big};
 ghost use Rattle.cfi_read_core.specs.SliceReaders.{slice_over, slice_position};
-ghost use Rattle.cfi_c.specs.PassedMemories.{abi_in, number_in_window};
+ghost use Rattle.cfi_expression.specs.Arithmetic.{displaced};
+ghost use Rattle.cfi_c.specs.PassedMemories.{abi_in, bytes_in, bytes_in_window, number_in_window};
 
+use cfi_elf::bytes::part;
 use cfi_step::{Abi, Memory, Window};
-use gimli_cfi::{EndianSlice, Register, RunTimeEndian};
+use gimli_cfi::{EndianSlice, ReaderAddress, Register, RunTimeEndian};
 
 /// Some bytes of memory.
 #[repr(C)]
@@ -53,15 +55,18 @@ fn read_in(window: &CfiWindow<'_>, big_endian: bool, address: u64, size: u8) -> 
     requires { IsAddressSize size }
     ensures { result ≡ number_in_window big_endian window.now address size }
 {
-    window_of(window, big_endian).read(address, size)
+    window_over(window.base, window.bytes, big_endian).read(address, size)
 }
 
-/// The bytes of a window as memory, in which numbers have this order.
+/// The bytes from an address on as memory, in which numbers have this order.
 #[inline(always)]
-fn window_of<'a>(window: &CfiWindow<'a>, big_endian: bool) -> Window<EndianSlice<'a, RunTimeEndian>>
-    ensures base { result.base ≡ window.now.base }
-    ensures bytes { slice_position is_big result.bytes
-        ≡ slice_over window.now.bytes.now big_endian }
+pub fn window_over<'a>(
+    base: u64,
+    bytes: &'a [u8],
+    big_endian: bool,
+) -> Window<EndianSlice<'a, RunTimeEndian>>
+    ensures base { result.base ≡ base }
+    ensures bytes { slice_position is_big result.bytes ≡ slice_over bytes.now big_endian }
 {
     let endian = if big_endian {
         RunTimeEndian::Big
@@ -69,8 +74,8 @@ fn window_of<'a>(window: &CfiWindow<'a>, big_endian: bool) -> Window<EndianSlice
         RunTimeEndian::Little
     };
     Window {
-        base: window.base,
-        bytes: EndianSlice::new(window.bytes, endian),
+        base,
+        bytes: EndianSlice::new(bytes, endian),
     }
 }
 
@@ -83,4 +88,35 @@ pub fn abi_in(memory: &CfiMemory<'_>) -> Abi
         signature_mask: memory.signature_mask,
         max_iterations: memory.max_iterations,
     }
+}
+
+/// So many bytes at an address, of the first window that has them all.
+pub fn bytes_in<'a>(windows: &[CfiWindow<'a>], address: u64, size: u64) -> Option<&'a [u8]>
+    ensures { option_map (λ bytes. bytes.now) result ≡ bytes_in address size windows.now }
+{
+    for window in windows {
+        if let Some(bytes) = bytes_in_window(window, address, size) {
+            return Some(bytes);
+        }
+    }
+    None
+}
+
+/// The same, of this window.
+fn bytes_in_window<'a>(window: &CfiWindow<'a>, address: u64, size: u64) -> Option<&'a [u8]>
+    ensures { option_map (λ bytes. bytes.now) result ≡ bytes_in_window address size window.now }
+{
+    if address < window.base {
+        return None;
+    }
+    part(window.bytes, address - window.base, size)
+}
+
+/// An address plus a number with a sign, modulo the size.
+#[inline(always)]
+pub fn displaced(address: u64, offset: i64, size: u8) -> u64
+    requires { IsAddressSize size }
+    ensures { result ≡ displaced size address offset }
+{
+    address.wrapping_add_sized(offset.cast_unsigned(), size)
 }

@@ -1,103 +1,67 @@
-//! Modules that C passes, and steps in them.
-ghost use Rattle.std.specs.Prelude.{◌≡◌, ◌<◌, ◌≤◌, true, Err, None, IfSome, OnErr};
-ghost use Rattle.std.specs.Prelude.{length, position};
+//! The modules that C passes.
+ghost use Rattle.std.specs.Prelude.{◌≡◌, ◌<◌, true, None, IfSome, length, position};
 ghost use Rattle.std.specs.Option.{option_map};
 ghost use Rattle.cfi_read_core.specs.Addresses.{IsAddressSize};
 ghost use Rattle.cfi_read_core.specs.ByteOrder.{is_big};
 ghost use Rattle.cfi_read_core.specs.SliceReaders.{slice_over, slice_position};
 ghost use Rattle.cfi_entry.specs.SectionViews.{eh_frame_view};
 ghost use Rattle.gimli_cfi.specs.HeaderViews.{header_reader, section_view, unparsed_view};
-ghost use Rattle.cfi_c.specs.PassedSections.{eh_frame_of, header_in, header_of};
 ghost use Rattle.cfi_step.specs.CodeRanges.{are_sorted};
-ghost use Rattle.cfi_c.specs.PassedStacks.{end_of, has_code, module_at, sized, start_of};
-ghost use Rattle.cfi_c.specs.PassedSteps.{AreOfStack};
-ghost use Rattle.cfi_c.specs.StackFrames.{IsStepForC, IsStepInModule};
+ghost use Rattle.cfi_c.specs.PassedSections.{eh_frame_of, header_in, passed_header};
+ghost use Rattle.cfi_c.specs.PassedModules.{code_end, code_start, has_code, is_debug_frame};
+ghost use Rattle.cfi_c.specs.PassedModules.{passed_module_at, sized};
 
-use crate::context::Context;
-use crate::debug_frame::{is_debug_frame, step_in_debug_frame};
-use crate::find::{bases_of, endian_of, vendor_of};
-use crate::stack::{CfiModule, CfiStack};
+use crate::section::{CfiBases, bases_of, endian_of, vendor_of};
 use cfi_step::code::{code_at, has_code};
-use cfi_step::walk::{Start, checked};
-use cfi_step::{
-    Abi, AddressSize, Caller, End, Frame, FrameError, LoadedModule, Steps, Window, row_address,
-    step_in_module,
-};
+use cfi_step::{HasCode, LoadedModule};
 use gimli_cfi::{EhFrame, EhFrameHdr, EndianSlice, RunTimeEndian};
 
-/// The steps of a walk over what C passes.
+/// A module as it is loaded.
+#[repr(C)]
 #[derive(Drop)]
-pub struct PassedSteps<'a> {
-    /// The modules, in any order.
-    pub modules: &'a [CfiModule<'a>],
-    /// Whether they are in the order of their addresses, and none overlaps another.
-    pub are_in_order: bool,
-    /// The stack, whose size of an address is one.
-    pub stack: &'a CfiStack<'a>,
-    /// Its bytes as memory.
-    pub memory: Window<EndianSlice<'a, RunTimeEndian>>,
-    /// What the ABI says of its frames.
-    pub abi: Abi,
+pub struct CfiModule<'a> {
+    /// The first address of its code, and the first after it.
+    pub start: u64,
+    pub end: u64,
+    /// `.eh_frame`; or `.debug_frame`, if the bases say so and there is no header.
+    pub section: &'a [u8],
+    /// `.eh_frame_hdr`; empty if there is none.
+    pub header: &'a [u8],
+    /// Where the two are loaded. The address size is that of the stack.
+    pub bases: CfiBases,
 }
 
-impl<K> Steps<K, Context> for PassedSteps<'_> {
-    ghost use Rattle.std.specs.Prelude.{⊤};
+impl HasCode for CfiModule<'_> {
+    ghost use Rattle.cfi_c.specs.PassedModules.{code_end, code_start};
 
-    ghost is_step = { λ steps. IsStepForC steps.stack.now steps.modules.now };
+    ghost start = { code_start };
 
-    ghost can_step = { λ steps cache. AreOfStack steps };
+    ghost end = { code_end };
 
-    ghost keeps = { λ steps old new. ⊤ };
-
-    fn step(
-        &self,
-        _cache: &mut [K],
-        context: &mut Context,
-        at: &Start,
-        registers: &[Option<u64>],
-        caller: &mut [Option<u64>],
-    ) -> Result<Caller, End> {
-        step_from(self, context, at, registers, caller)
+    fn start(&self) -> u64 {
+        self.start
     }
 
-    ghost keeps_none = { λ steps cache. tt };
-
-    ghost keeps_then = { λ steps old next new first then. tt };
+    fn end(&self) -> u64 {
+        self.end
+    }
 }
 
-/// The step from a frame, in the first module whose code its address is in.
-fn step_from(
-    steps: &PassedSteps<'_>,
-    context: &mut Context,
-    at: &Start,
-    registers: &[Option<u64>],
-    caller: &mut [Option<u64>],
-) -> Result<Caller, End>
-    requires of_stack { AreOfStack steps.now }
-    requires room { length caller.old ≤ 0x10000 }
-    ensures step { IsStepForC steps.now.stack.now steps.now.modules.now
-        (record { at = at.now; registers = registers.now; caller = caller.old })
-        result caller.new }
-    ensures room { result ≡ Err End.NoRoom → ⊥ }
+/// Whether the module's section is `.debug_frame`: it says so, and has no header.
+pub fn is_debug_frame(module: &CfiModule<'_>) -> bool
+    ensures { result ≡ is_debug_frame module.now }
 {
-    match module_at(
-        steps.modules,
-        steps.are_in_order,
-        row_address(at.pc, at.is_interrupted),
-    ) {
-        None => Err(End::NoModule),
-        Some(module) => checked(at, step_in(steps, context, module, at, registers, caller)),
-    }
+    module.bases.debug_frame && module.header.is_empty()
 }
 
 /// The first module whose code the address is in: by halving, if the modules are in order.
-fn module_at<'m, 'a>(
+pub fn module_at<'m, 'a>(
     modules: &'m [CfiModule<'a>],
     are_in_order: bool,
     address: u64,
 ) -> Option<&'m CfiModule<'a>>
-    requires { are_in_order ≡ true → are_sorted start_of end_of 0 modules.now ≡ true }
-    ensures { option_map (λ loaded. loaded.now) result ≡ module_at modules.now address }
+    requires { are_in_order ≡ true → are_sorted code_start code_end 0 modules.now ≡ true }
+    ensures { option_map (λ loaded. loaded.now) result ≡ passed_module_at modules.now address }
 {
     if are_in_order {
         return code_at(modules, address);
@@ -116,53 +80,6 @@ fn module_index(modules: &[CfiModule<'_>], address: u64) -> Option<usize>
     modules.iter().position(|module| has_code(module, address))
 }
 
-/// The caller of a frame of the module's code.
-fn step_in(
-    steps: &PassedSteps<'_>,
-    context: &mut Context,
-    module: &CfiModule<'_>,
-    at: &Start,
-    registers: &[Option<u64>],
-    caller: &mut [Option<u64>],
-) -> Result<Caller, FrameError>
-    requires of_stack { AreOfStack steps.now }
-    requires room { length caller.old ≤ 0x10000 }
-    ensures step { IsStepInModule steps.now.stack.now module.now
-        (record { at = at.now; registers = registers.now; caller = caller.old })
-        result caller.new }
-    ensures unwritten { OnErr result (caller.new ≡ caller.old) }
-{
-    let size = steps.stack.address_size;
-    let frame = Frame {
-        registers,
-        memory: &steps.memory,
-        address_size: AddressSize::new(size),
-    };
-    let address = row_address(at.pc, at.is_interrupted);
-    if is_debug_frame(module) {
-        return step_in_debug_frame(module, context, address, &steps.abi, &frame, caller).caller;
-    }
-    let loaded = loaded_of(module, size);
-    step_in_module(&loaded, context, address, &steps.abi, &frame, caller)
-}
-
-/// The bytes of the stack as memory.
-pub fn memory_of<'a>(stack: &CfiStack<'a>) -> Window<EndianSlice<'a, RunTimeEndian>>
-    ensures base { result.base ≡ stack.now.base }
-    ensures bytes { slice_position is_big result.bytes
-        ≡ slice_over stack.now.bytes.now stack.now.big_endian }
-{
-    let endian = if stack.big_endian {
-        RunTimeEndian::Big
-    } else {
-        RunTimeEndian::Little
-    };
-    Window {
-        base: stack.base,
-        bytes: EndianSlice::new(stack.bytes, endian),
-    }
-}
-
 /// The module with its sections, whose addresses have this size. They are given at the addresses of
 /// the process, so there is no bias.
 pub fn loaded_of<'a>(
@@ -176,7 +93,8 @@ pub fn loaded_of<'a>(
         ≡ eh_frame_of (sized size module.now.bases) module.now.section.now }
     ensures header { option_map
         (λ header. unparsed_view (slice_position is_big) header size result.bases) result.header
-        ≡ option_map (header_of (sized size module.now.bases)) (header_in module.now.header.now) }
+        ≡ option_map (passed_header (sized size module.now.bases))
+        (header_in module.now.header.now) }
     ensures compiled { result.compiled ≡ None }
     ensures debug { result.debug ≡ None }
     ensures bias { result.bias ≡ 0 }

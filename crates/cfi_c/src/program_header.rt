@@ -1,7 +1,6 @@
 //! Program headers as C passes them (System V ABI chapter 5, "Program Header").
 ghost use Rattle.std.specs.Prelude.{◌≡◌, IfSome, find, true};
-ghost use Rattle.cfi_elf.specs.Segments.{plus};
-ghost use Rattle.cfi_c.specs.LoadedImages.{IsRangeMade, end_of_segment, has_address, highest};
+ghost use Rattle.cfi_c.specs.LoadedImages.{IsRangeMade, end_of_segment, has_file_byte, highest};
 ghost use Rattle.cfi_c.specs.LoadedImages.{is_type, lowest, range_of};
 
 use crate::refusal::NO_SEGMENTS;
@@ -125,8 +124,8 @@ pub fn header_segment(headers: &[CfiProgramHeader]) -> Option<CfiProgramHeader>
 
 /// The first loaded segment that has a byte of the file at this address of the file.
 pub fn segment_at(headers: &[CfiProgramHeader], place: u64) -> Option<CfiProgramHeader>
-    ensures found { result ≡ find (has_address place) headers.now }
-    ensures has { IfSome result (λ header. has_address place header ≡ true) }
+    ensures found { result ≡ find (has_file_byte place) headers.now }
+    ensures has { IfSome result (λ header. has_file_byte place header ≡ true) }
 {
     for header in headers {
         if has_address(header, place) {
@@ -138,7 +137,7 @@ pub fn segment_at(headers: &[CfiProgramHeader], place: u64) -> Option<CfiProgram
 
 /// Whether the segment is loaded, and has a byte of the file at the address.
 fn has_address(header: &CfiProgramHeader, place: u64) -> bool
-    ensures { result ≡ has_address place header.now }
+    ensures { result ≡ has_file_byte place header.now }
 {
     header.p_type == PT_LOAD && header.p_vaddr <= place && place - header.p_vaddr < header.p_filesz
 }

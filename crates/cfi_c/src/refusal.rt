@@ -1,6 +1,7 @@
 //! Errors as numbers and names.
-ghost use Rattle.std.specs.Prelude.{◌≡◌, ◌<◌, pos};
-ghost use Rattle.cfi_c.specs.Refusals.{number, status_name};
+ghost use Rattle.std.specs.Prelude.{◌≡◌, ◌<◌, ℕ, length, pos, slice_index_or};
+ghost use Rattle.cfi_read_core.specs.RefusalNames.{name_of};
+ghost use Rattle.cfi_c.specs.Refusals.{status_name, error_status};
 
 use gimli_cfi::{DwCfa, DwEhPe, Error, ReaderOffsetId};
 
@@ -24,7 +25,7 @@ pub const NOT_IN_MEMORY: i32 = 37;
 
 /// Returns the status of an error: its number, from 1 to 31.
 pub fn number_of(error: Error) -> i32
-    ensures { result ≡ number error }
+    ensures { result ≡ error_status error }
 {
     i32::from(error.number())
 }
@@ -64,6 +65,31 @@ const REFUSALS: [Error; 31] = [
     Error::NoUnwindInfoForAddress,
     Error::OutOfMemory,
 ];
+
+/// Writes the name of a status and a zero after it, as much of both as fits, and returns the length
+/// of the name in bytes: `Ok` for 0, `NoContext` for `NO_CONTEXT`, `Unknown` for a number that is
+/// not a status.
+#[unsafe(no_mangle)]
+pub extern "C" fn cfi_status_name(status: i32, name: &mut [u8]) -> usize
+    ensures length { result ≡ length (status_name status) }
+    ensures written { (k : ℕ) → k < length name.new → k < length (status_name status) →
+        slice_index_or name.new k 0 ≡ slice_index_or (status_name status) k 0 }
+    ensures ended { slice_index_or name.new (length (status_name status)) 0 ≡ 0 }
+    ensures rest { (k : ℕ) → length (status_name status) < k →
+        slice_index_or name.new k 0 ≡ slice_index_or name.old k 0 }
+    ensures refusals { (e : Error) → status_name (error_status e) ≡ name_of e }
+{
+    let text = name_of(status);
+    for k in 0..text.len() {
+        if k < name.len() {
+            name[k] = text[k];
+        }
+    }
+    if text.len() < name.len() {
+        name[text.len()] = 0;
+    }
+    text.len()
+}
 
 /// Returns the name of a status.
 pub fn name_of(status: i32) -> &'static [u8]

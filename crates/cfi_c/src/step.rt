@@ -1,33 +1,26 @@
 //! The caller of one frame.
-ghost use Rattle.std.specs.Prelude.{◌≡◌, ◌≤◌, OnErr, length, map, true};
+ghost use Rattle.std.specs.Prelude.{◌≡◌, ◌≤◌, OnErr, length, map};
 ghost use Rattle.cfi_read_core.specs.Addresses.{IsAddressSize};
 ghost use Rattle.cfi_step.specs.Steps.{row_address};
 ghost use Rattle.cfi_c.specs.AddressRows.{is_live};
-ghost use Rattle.cfi_c.specs.PassedStacks.{known_value};
-ghost use Rattle.cfi_c.specs.SteppedFrames.{AreValues, IsStepFrom, IsStepOf, IsStepWith, IsStepped};
-ghost use Rattle.cfi_c.specs.SteppedFrames.{caller_after, caller_or, end_after, end_by};
-ghost use Rattle.cfi_c.specs.SteppedFrames.{function_after, written_value};
+ghost use Rattle.cfi_c.specs.PassedRegisters.{known_value};
+ghost use Rattle.cfi_c.specs.SteppedFrames.{IsHeldStep, IsPassedStep, IsStepWith, IsStepped};
+ghost use Rattle.cfi_c.specs.SteppedFrames.{caller_after, caller_or, end_after, function_after};
+ghost use Rattle.cfi_c.specs.Ends.{end_by};
 
 use crate::context::{CfiContext, Context};
-use crate::debug_frame::{is_debug_frame, step_in_debug_frame};
-use crate::find::is_sized;
+use crate::debug_frame::step_in_debug_frame;
+use crate::end::{CfiEnd, NONE, failed_end, no_context, plain_end, unsized_end};
 use crate::function::{CfiFunction, written_function};
 use crate::memory::{CfiMemory, abi_in};
-use crate::module::loaded_of;
-use crate::refusal::NO_CONTEXT;
-use crate::stack::{
-    CfiEnd, CfiModule, CfiValue, failed_end, first_registers, plain_end, refused_end, write_values,
-};
-use crate::unwind::NOT_WALKED;
+use crate::module::{CfiModule, is_debug_frame, loaded_of};
+use crate::register::{CfiValue, first_registers, write_registers, write_values};
+use crate::section::is_sized;
 use cfi_step::{
     AddressSize, Caller, Frame, FrameError, FunctionStep, row_address, step_in_function,
 };
-use gimli_cfi::Error;
 use std::alloc::Global;
 use std::mem;
-
-/// The kind of an end where there is a caller.
-pub const NONE: u32 = 17;
 
 /// For so many registers little of the stack is taken.
 const FEW: usize = 32;
@@ -90,7 +83,7 @@ pub extern "C" fn cfi_step(
     end.kind
 }
 
-/// The step with the context that is held, or why there is none.
+/// The step with the context that is held, if the size of an address is one; or why there is none.
 fn step_held(
     held: &mut Option<Box<Context>>,
     module: &CfiModule<'_>,
@@ -99,48 +92,19 @@ fn step_held(
     registers: &[CfiValue],
     caller_registers: &mut [CfiValue],
 ) -> Result<FunctionStep, CfiEnd>
-    ensures step { IsStepOf (is_live held.old) module.now memory.now address registers.now
+    ensures step { IsHeldStep (is_live held.old) module.now memory.now address registers.now
         caller_registers.old caller_registers.new result }
     ensures kept { is_live held.new ≡ is_live held.old }
 {
-    match held {
-        Some(context) => step_sized(
-            context.as_mut(),
-            module,
-            memory,
-            address,
-            registers,
-            caller_registers,
-        ),
-        None => Err(CfiEnd {
-            refused: 0,
-            kind: NOT_WALKED,
-            status: NO_CONTEXT,
-        }),
-    }
-}
-
-/// The step, if the size of an address is one.
-fn step_sized(
-    context: &mut Context,
-    module: &CfiModule<'_>,
-    memory: &CfiMemory<'_>,
-    address: u64,
-    registers: &[CfiValue],
-    caller_registers: &mut [CfiValue],
-) -> Result<FunctionStep, CfiEnd>
-    ensures { IsStepOf true module.now memory.now address registers.now
-        caller_registers.old caller_registers.new result }
-{
+    let Some(context) = held else {
+        return Err(no_context());
+    };
     if !is_sized(memory.address_size) {
-        return Err(refused_end(
-            NOT_WALKED,
-            Error::UnsupportedAddressSize(memory.address_size),
-        ));
+        return Err(unsized_end(memory.address_size));
     }
     let registers = first_registers(registers);
     let step = step_by_values(
-        context,
+        context.as_mut(),
         module,
         memory,
         address,
@@ -257,7 +221,7 @@ fn step_from(
 ) -> FunctionStep
     requires size { IsAddressSize memory.now.address_size }
     requires room { length caller.old ≤ 0x10000 }
-    ensures { IsStepFrom module.now memory.now address registers.now result caller.new }
+    ensures { IsPassedStep module.now memory.now address registers.now result caller.new }
 {
     let size = memory.address_size;
     let frame = Frame {
@@ -271,28 +235,6 @@ fn step_from(
     }
     let loaded = loaded_of(module, size);
     step_in_function(&loaded, context, address, &abi, &frame, caller)
-}
-
-/// Writes the values of the caller's registers.
-fn write_registers(found: &[Option<u64>], registers: &mut [CfiValue])
-    ensures { AreValues found.now registers.new }
-{
-    for k in 0..registers.len() {
-        registers[k] = written_value(if k < found.len() { found[k] } else { None });
-    }
-}
-
-/// The value of a register as C sees it.
-pub fn written_value(value: Option<u64>) -> CfiValue
-    ensures { result ≡ written_value value }
-{
-    match value {
-        Some(value) => CfiValue { value, known: true },
-        None => CfiValue {
-            value: 0,
-            known: false,
-        },
-    }
 }
 
 /// What the FDE says of the function, after a step.

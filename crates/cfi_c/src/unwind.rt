@@ -2,25 +2,22 @@
 ghost use Rattle.std.specs.Prelude.{◌≡◌, ◌≤◌, None, drop, length, map, take, true};
 ghost use Rattle.cfi_read_core.specs.Addresses.{IsAddressSize};
 ghost use Rattle.cfi_c.specs.AddressRows.{is_live};
-ghost use Rattle.cfi_c.specs.StackFrames.{IsUnwound, IsWalkForC, IsWalkTo};
-ghost use Rattle.cfi_c.specs.PassedStacks.{known_value};
+ghost use Rattle.cfi_c.specs.StackFrames.{IsUnwoundForC, IsWalkForC, IsWalkTo};
+ghost use Rattle.cfi_c.specs.PassedRegisters.{known_value};
 
 use crate::context::{CfiContext, Context};
-use crate::find::is_sized;
-use crate::module::{PassedSteps, memory_of};
-use crate::refusal::NO_CONTEXT;
-use crate::stack::{
-    CfiEnd, CfiFrame, CfiModule, CfiStack, CfiValue, abi_of, end_of, first_registers, refused_end,
-    write_values,
-};
+use crate::end::{CfiEnd, end_of, no_context, unsized_end};
+use crate::frame::CfiFrame;
+use crate::memory::window_over;
+use crate::module::CfiModule;
+use crate::passed_steps::PassedSteps;
+use crate::register::{CfiValue, first_registers, write_values};
+use crate::section::is_sized;
+use crate::stack::{CfiStack, abi_of};
 use cfi_step::code::out_of_order;
 use cfi_step::{End, Walk, write_frames};
-use gimli_cfi::Error;
 use std::alloc::Global;
 use std::mem;
-
-/// The kind of an end where nothing is walked.
-pub const NOT_WALKED: u32 = 16;
 
 /// Writes the frames of a stack, from the innermost one out, as far as there is room. The pc and
 /// the registers are those of the innermost frame; registers from 256 on are not read.
@@ -39,7 +36,7 @@ pub extern "C" fn cfi_unwind(
     frames: &mut [CfiFrame],
     end: &mut CfiEnd,
 ) -> usize
-    ensures unwound { IsUnwound context.old.live modules.now stack.now pc registers.now
+    ensures unwound { IsUnwoundForC context.old.live modules.now stack.now pc registers.now
         frames.old frames.new result end.new }
     ensures kept { context.new.live ≡ context.old.live }
 {
@@ -49,7 +46,7 @@ pub extern "C" fn cfi_unwind(
     count
 }
 
-/// Writes the frames, with the context that is held.
+/// Writes the frames, with the context that is held, if the size of an address is one.
 fn unwind(
     held: &mut Option<Box<Context>>,
     modules: &[CfiModule<'_>],
@@ -59,45 +56,20 @@ fn unwind(
     frames: &mut [CfiFrame],
     end: &mut CfiEnd,
 ) -> usize
-    ensures unwound { IsUnwound (is_live held.old) modules.now stack.now pc registers.now
+    ensures unwound { IsUnwoundForC (is_live held.old) modules.now stack.now pc registers.now
         frames.old frames.new result end.new }
     ensures kept { is_live held.new ≡ is_live held.old }
 {
-    match held {
-        Some(context) => unwind_sized(context.as_mut(), modules, stack, pc, registers, frames, end),
-        None => {
-            *end = CfiEnd {
-                refused: 0,
-                kind: NOT_WALKED,
-                status: NO_CONTEXT,
-            };
-            0
-        }
-    }
-}
-
-/// Writes the frames, if the size of an address is one.
-fn unwind_sized(
-    context: &mut Context,
-    modules: &[CfiModule<'_>],
-    stack: &CfiStack<'_>,
-    pc: u64,
-    registers: &[CfiValue],
-    frames: &mut [CfiFrame],
-    end: &mut CfiEnd,
-) -> usize
-    ensures { IsUnwound true modules.now stack.now pc registers.now
-        frames.old frames.new result end.new }
-{
+    let Some(context) = held else {
+        *end = no_context();
+        return 0;
+    };
     if !is_sized(stack.address_size) {
-        *end = refused_end(
-            NOT_WALKED,
-            Error::UnsupportedAddressSize(stack.address_size),
-        );
+        *end = unsized_end(stack.address_size);
         return 0;
     }
     let registers = first_registers(registers);
-    let walk = walk_from(context, modules, stack, pc, registers, frames);
+    let walk = walk_from(context.as_mut(), modules, stack, pc, registers, frames);
     *end = end_of(walk.end);
     walk.count
 }
@@ -153,7 +125,7 @@ fn walk(
         modules,
         are_in_order: out_of_order(modules).is_none(),
         stack,
-        memory: memory_of(stack),
+        memory: window_over(stack.base, stack.bytes, stack.big_endian),
         abi: abi_of(stack),
     };
     let mut no_rows: [(); 0] = [];

@@ -2,25 +2,22 @@
 ghost use Rattle.std.specs.Prelude.{◌≡◌, ◌+◌, ◌++◌, ◌≤◌, List, drop, length, map, take, true};
 ghost use Rattle.cfi_read_core.specs.Addresses.{IsAddressSize};
 ghost use Rattle.cfi_c.specs.AddressRows.{is_live};
-ghost use Rattle.cfi_c.specs.PassedStacks.{known_value};
+ghost use Rattle.cfi_c.specs.PassedRegisters.{known_value, written_value};
 ghost use Rattle.cfi_c.specs.RegisterFrames.{IsUnwoundWith, IsWalkedTo};
-ghost use Rattle.cfi_c.specs.StackFrames.{IsStepForC};
-ghost use Rattle.cfi_c.specs.SteppedFrames.{written_value};
+ghost use Rattle.cfi_c.specs.ModuleSteps.{IsStepForC};
 
 use crate::context::{CfiContext, Context};
-use crate::find::is_sized;
-use crate::module::{PassedSteps, memory_of};
-use crate::refusal::NO_CONTEXT;
-use crate::stack::{
-    CfiEnd, CfiFrame, CfiModule, CfiStack, CfiValue, abi_of, end_of, first_registers, refused_end,
-    write_values,
-};
-use crate::step::written_value;
-use crate::unwind::NOT_WALKED;
+use crate::end::{CfiEnd, end_of, no_context, unsized_end};
+use crate::frame::CfiFrame;
+use crate::memory::window_over;
+use crate::module::CfiModule;
+use crate::passed_steps::PassedSteps;
+use crate::register::{CfiValue, first_registers, write_values, written_value};
+use crate::section::is_sized;
+use crate::stack::{CfiStack, abi_of};
 use cfi_step::code::out_of_order;
 use cfi_step::walk::{Start, resumed};
 use cfi_step::{End, Steps, Walk, WalkFrame};
-use gimli_cfi::Error;
 use std::alloc::Global;
 use std::mem;
 
@@ -55,7 +52,8 @@ pub extern "C" fn cfi_unwind_registers(
     count
 }
 
-/// Writes the frames and registers, with the context that is held.
+/// Writes the frames and registers, with the context that is held, if the size of an address is
+/// one.
 fn unwind(
     held: &mut Option<Box<Context>>,
     modules: &[CfiModule<'_>],
@@ -70,50 +68,16 @@ fn unwind(
         frames.old frames.new values.old values.new result end.new }
     ensures kept { is_live held.new ≡ is_live held.old }
 {
-    match held {
-        Some(context) => unwind_sized(
-            context.as_mut(),
-            modules,
-            stack,
-            pc,
-            registers,
-            frames,
-            values,
-            end,
-        ),
-        None => {
-            *end = CfiEnd {
-                refused: 0,
-                kind: NOT_WALKED,
-                status: NO_CONTEXT,
-            };
-            0
-        }
-    }
-}
-
-/// Writes them, if the size of an address is one.
-fn unwind_sized(
-    context: &mut Context,
-    modules: &[CfiModule<'_>],
-    stack: &CfiStack<'_>,
-    pc: u64,
-    registers: &[CfiValue],
-    frames: &mut [CfiFrame],
-    values: &mut [CfiValue],
-    end: &mut CfiEnd,
-) -> usize
-    ensures { IsUnwoundWith true modules.now stack.now pc registers.now
-        frames.old frames.new values.old values.new result end.new }
-{
+    let Some(context) = held else {
+        *end = no_context();
+        return 0;
+    };
     if !is_sized(stack.address_size) {
-        *end = refused_end(
-            NOT_WALKED,
-            Error::UnsupportedAddressSize(stack.address_size),
-        );
+        *end = unsized_end(stack.address_size);
         return 0;
     }
     let registers = first_registers(registers);
+    let context = context.as_mut();
     let walk = walk_from(context, modules, stack, pc, registers, frames, values);
     *end = end_of(walk.end);
     walk.count
@@ -144,7 +108,7 @@ fn walk_from(
         modules,
         are_in_order: out_of_order(modules).is_none(),
         stack,
-        memory: memory_of(stack),
+        memory: window_over(stack.base, stack.bytes, stack.big_endian),
         abi: abi_of(stack),
     };
     let mut no_rows: [(); 0] = [];

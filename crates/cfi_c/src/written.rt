@@ -1,12 +1,47 @@
-//! Writes rows, rules and errors into the caller's memory.
+//! Rows, rules and errors as C sees them, in its memory.
 ghost use Rattle.std.specs.Prelude.{◌≡◌, ◌+◌, ◌≤◌, length, pos};
 ghost use Rattle.cfi_read_core.specs.ReaderCalls.{map_ok};
-ghost use Rattle.cfi_c.specs.AddressRows.{IsAnswered};
-ghost use Rattle.cfi_c.specs.WrittenRows.{IsCfa, IsRules, IsWritten, SameAround, written_rule};
+ghost use Rattle.cfi_c.specs.AddressRows.{IsAnsweredForC};
+ghost use Rattle.cfi_c.specs.WrittenRows.{IsCfa, IsRules, IsWritten, SameAround, rule_for_c};
 
 use crate::refusal::number_of;
-use crate::{CfiRow, CfiRule};
 use gimli_cfi::{ArrayLike, CfaRule, Error, Register, RegisterRule, UnwindTableRow};
+
+/// A row without its rules; or an error.
+#[repr(C)]
+#[derive(Clone, Copy)]
+pub struct CfiRow {
+    /// The first address for which the row holds, and the first after them.
+    pub start: u64,
+    pub end: u64,
+    pub args_size: u64,
+    /// 0: a register and an offset, 1: an expression.
+    pub cfa_kind: u32,
+    /// The register and the offset; 0 for an expression.
+    pub cfa_register: u32,
+    pub cfa_offset: i64,
+    /// Offset and length in bytes of the expression in the section; 0 for a register.
+    pub cfa_place: u64,
+    pub cfa_length: u64,
+    /// The place, byte or number that the error carries, else 0.
+    pub refused: u64,
+    /// 0, or the number of the error.
+    pub status: i32,
+}
+
+/// The rule of one register.
+#[repr(C)]
+#[derive(Clone, Copy)]
+pub struct CfiRule {
+    /// 0: no rule, 1: undefined, 2: same value, 3: offset, 4: value offset, 5: register,
+    /// 6: expression, 7: value expression, 8: architectural, 9: constant.
+    pub kind: u64,
+    /// The offset, or the register.
+    pub value: i64,
+    /// Offset and length in bytes of the expression in the section; or the constant, and 0.
+    pub place: u64,
+    pub length: u64,
+}
 
 /// Writes the row, and from `first` on the rules of the registers below `count`; or the number of
 /// the error, with what it carries.
@@ -18,7 +53,7 @@ pub fn write_answer<A: ArrayLike<Item = (Register, RegisterRule<usize>)>>(
     count: usize,
 )
     requires { first + count ≤ length rules.old }
-    ensures answered { IsAnswered (map_ok (λ row. row.now) answer.entry)
+    ensures answered { IsAnsweredForC (map_ok (λ row. row.now) answer.entry)
         row.new rules.new first count }
     ensures around { SameAround first count rules.old rules.new }
 {
@@ -112,7 +147,7 @@ fn number_in(register: Register) -> usize
 
 /// Returns the rule as C sees it.
 pub fn rule_of(rule: Option<RegisterRule<usize>>) -> CfiRule
-    ensures { result ≡ written_rule rule }
+    ensures { result ≡ rule_for_c rule }
 {
     let Some(rule) = rule else {
         return plain(0, 0);

@@ -12,8 +12,8 @@ use Rattle.gimli_cfi.specs.Words.{Parts}
 use Rattle.cfi_compiled.specs.declared.facts.CieFacts.{CieFacts}
 use Rattle.cfi_compiled.specs.declared.rests.KeptRow.{KeptRow}
 use Rattle.cfi_compiled.specs.declared.step_list.NumberedStep.{NumberedStep}
-use Rattle.cfi_compiled.specs.FrameParts.{frame_of}
-use Rattle.cfi_compiled.specs.KeptRows.{AreNamed, IsGrown, IsRestOf, RestLists, frame_in, parts_in, rest_args, rest_facts, rest_rules, results_in}
+use Rattle.cfi_compiled.specs.FrameParts.{frame_parts}
+use Rattle.cfi_compiled.specs.KeptRows.{AreNamed, IsGrown, IsRestOf, RestLists, frame_of_kept, parts_of_kept, rest_args, rest_facts, rest_rules, results_in}
 use Rattle.cfi_compiled.specs.CompiledTables.{AreNumbersOf, IsAdded, IsSound, frame_at, frame_numbered, step_named, steps_of}
 use Rattle.cfi_compiled.specs.Steps.{Rise, free_from, frame_by_steps}
 use Rattle.cfi_compiled.proofs.Grown.{Extends, Results}
@@ -26,18 +26,18 @@ more_named few many more (Ok row) within = omega (arith, more, within)
 more_named few many more (Err e) within = tt
 
 module _ (old new : RestLists) (grown : IsGrown old new) where
-  same_row : (row : Result KeptRow Error) → Names (length old.rests) row → map_ok (frame_in new) row ≡ map_ok (frame_in old) row
+  same_row : (row : Result KeptRow Error) → Names (length old.rests) row → map_ok (frame_of_kept new) row ≡ map_ok (frame_of_kept old) row
   same_row (Ok row) within =
-      ap (λ (r : Rules ℕ). Ok (frame_of (rest_facts new row.rest) (record { cfa = row.cfa; rules = r; args_size = rest_args new row.rest }))) (grown.rules row.rest within)
-      ∙ ap (λ n. Ok (frame_of (rest_facts new row.rest) (record { cfa = row.cfa; rules = rest_rules old row.rest; args_size = n }))) (grown.args row.rest within)
-      ∙ ap (λ (facts : CieFacts). Ok (frame_of facts (parts_in old row))) (grown.facts row.rest within)
+      ap (λ (r : Rules ℕ). Ok (frame_parts (rest_facts new row.rest) (record { cfa = row.cfa; rules = r; args_size = rest_args new row.rest }))) (grown.rules row.rest within)
+      ∙ ap (λ n. Ok (frame_parts (rest_facts new row.rest) (record { cfa = row.cfa; rules = rest_rules old row.rest; args_size = n }))) (grown.args row.rest within)
+      ∙ ap (λ (facts : CieFacts). Ok (frame_parts facts (parts_of_kept old row))) (grown.facts row.rest within)
   same_row (Err e) within = refl
 
   pub same_results : (rows : List (Result KeptRow Error)) → AreNamed old rows → results_in new rows ≡ results_in old rows
   same_results [] named = refl
   same_results (row ∷ rows) named =
       ap (λ r. r ∷ results_in new rows) (same_row row (named 0 row (omega arith)))
-      ∙ ap (λ (l : Results). map_ok (frame_in old) row ∷ l) (same_results rows (λ i d within. named (suc i) d (omega (arith, within))))
+      ∙ ap (λ (l : Results). map_ok (frame_of_kept old) row ∷ l) (same_results rows (λ i d within. named (suc i) d (omega (arith, within))))
 
   still_named : (rows : List (Result KeptRow Error)) → AreNamed old rows → AreNamed new rows
   still_named rows named i d within = more_named _ _ grown.more (get_or rows i d) (named i d within)
@@ -64,7 +64,7 @@ module _ (lists : RestLists) (answer : Result KeptRow Error) (old new : List (Re
   added_extends =
       ⊎_elim
       (λ is. ([], ap (results_in lists) is ∙ sym (append-nil (results_in lists old))))
-      (λ is. (map_ok (frame_in lists) answer ∷ [], ap (results_in lists) is ∙ map_push (map_ok (frame_in lists)) old answer))
+      (λ is. (map_ok (frame_of_kept lists) answer ∷ [], ap (results_in lists) is ∙ map_push (map_ok (frame_of_kept lists)) old answer))
       added
 
   pub added_named : AreNamed lists old → IfOk answer (λ row. row.rest < length lists.rests) → AreNamed lists new
@@ -75,20 +75,20 @@ module _ (lists : RestLists) (answer : Result KeptRow Error) (old new : List (Re
       added
 
 pub result_at : (lists : RestLists) (rows : List (Result KeptRow Error)) (answer : Result KeptRow Error) (number : ℕ) → number < length rows → get_or rows number answer ≡ answer
-    → (number < length (results_in lists rows)) × (frame_numbered (results_in lists rows) number ≡ map_ok (frame_in lists) answer)
+    → (number < length (results_in lists rows)) × (frame_numbered (results_in lists rows) number ≡ map_ok (frame_of_kept lists) answer)
 result_at lists rows answer number within is = (
   simp length-map within,
-  get_or-map (map_ok (frame_in lists)) rows number answer (Err NoUnwindInfoForAddress) within ∙ ap (map_ok (frame_in lists)) is,
+  get_or-map (map_ok (frame_of_kept lists)) rows number answer (Err NoUnwindInfoForAddress) within ∙ ap (map_ok (frame_of_kept lists)) is,
 )
 
 -- the rest of a row, with its CFA, is what the row says
-pub frame_of_rest : (lists : RestLists) (row : KeptRow) (facts : CieFacts) (parts : Parts ℕ) → row.cfa ≡ parts.cfa → IsRestOf lists facts parts row.rest → frame_in lists row ≡ frame_of facts parts
+pub frame_of_rest : (lists : RestLists) (row : KeptRow) (facts : CieFacts) (parts : Parts ℕ) → row.cfa ≡ parts.cfa → IsRestOf lists facts parts row.rest → frame_of_kept lists row ≡ frame_parts facts parts
 frame_of_rest lists row facts parts cfa is = rw (cfa, is.rules, is.args, is.said) refl
 
 pub result_named : {E : Type 0} → (lists shown : RestLists) → lists ≡ shown → (rows : List (Result KeptRow Error)) (answer : Result KeptRow Error) (found : Result ℕ E)
     → IfOk found (λ n. n < length rows) → IfOk found (λ n. (d : Result KeptRow Error) → get_or rows n d ≡ answer)
-    → IfOk found (λ n. (n < length (results_in lists rows)) × (frame_numbered (results_in lists rows) n ≡ map_ok (frame_in shown) answer))
+    → IfOk found (λ n. (n < length (results_in lists rows)) × (frame_numbered (results_in lists rows) n ≡ map_ok (frame_of_kept shown) answer))
 result_named lists shown is_shown rows answer (Ok n) within is =
     let here = result_at lists rows answer n within (is answer) in
-    (here.0, here.1 ∙ ap (λ l. map_ok (frame_in l) answer) is_shown)
+    (here.0, here.1 ∙ ap (λ l. map_ok (frame_of_kept l) answer) is_shown)
 result_named lists shown is_shown rows answer (Err e) within is = tt

@@ -4,7 +4,7 @@ use Rattle.std.specs.Prelude.{if◌then◌else◌}
 use Rattle.std.proofs.lemmas.Bool.{le-leb, lt-leb, cases_lt}
 use Rattle.cfi_compiled.specs.declared.step_list.NumberedStep.{NumberedStep}
 use Rattle.cfi_compiled.specs.declared.paged_steps.PagedStep.{PagedStep}
-use Rattle.cfi_compiled.specs.PagedSteps.{number_of, offset_of, pages_passed, paged_from}
+use Rattle.cfi_compiled.specs.PagedSteps.{step_number, step_offset, pages_passed, paged_from}
 use Rattle.cfi_compiled.proofs.SplitSteps.{ArePassed}
 
 -- ---- pages that are passed
@@ -50,7 +50,7 @@ paged_length [] k first ends = refl
 paged_length (step ∷ steps) k first ends = ap suc (paged_length steps (k + 1) first ends)
 
 abbrev pub unpaged : ℕ → List ℕ → ℕ → PagedStep → NumberedStep
-unpaged first ends k step = record { start = (first + pages_passed ends k) * 512 + offset_of step; number = number_of step }
+unpaged first ends k step = record { start = (first + pages_passed ends k) * 512 + step_offset step; number = step_number step }
 
 pub paged_at : (steps : List PagedStep) (k first : ℕ) (ends : List ℕ) (j : ℕ) (d : NumberedStep) (e : PagedStep) → j < length steps
     → get_or (paged_from k first ends steps) j d ≡ unpaged first ends (k + j) (get_or steps j e)
@@ -67,7 +67,7 @@ pub paged_ends_more : (steps : List PagedStep) (k first : ℕ) (ends : List ℕ)
     → paged_from k first (ends ++ end ∷ []) steps ≡ paged_from k first ends steps
 paged_ends_more [] k first ends end above = refl
 paged_ends_more (step ∷ steps) k first ends end above =
-    ap (λ n. record { start = (first + n) * 512 + offset_of step; number = number_of step } ∷ paged_from (k + 1) first (ends ++ end ∷ []) steps) (passed_more ends k end (omega arith))
+    ap (λ n. record { start = (first + n) * 512 + step_offset step; number = step_number step } ∷ paged_from (k + 1) first (ends ++ end ∷ []) steps) (passed_more ends k end (omega arith))
     ∙ ap (λ (l : List NumberedStep). unpaged first ends k step ∷ l) (paged_ends_more steps (k + 1) first ends end (omega (arith, above)))
 
 -- one more step

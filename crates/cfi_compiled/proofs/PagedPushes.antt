@@ -6,7 +6,7 @@ use Rattle.std.proofs.lemmas.List.Elements.{All-push}
 use Rattle.std.proofs.lemmas.Nat.{div-add-mod'}
 use Rattle.cfi_compiled.specs.declared.step_list.NumberedStep.{NumberedStep}
 use Rattle.cfi_compiled.specs.declared.paged_steps.PagedStep.{PagedStep}
-use Rattle.cfi_compiled.specs.PagedSteps.{IsPaged, number_of, offset_of, pages_passed, paged_from, view_of}
+use Rattle.cfi_compiled.specs.PagedSteps.{IsPaged, step_number, step_offset, pages_passed, paged_from, view_of}
 use Rattle.cfi_compiled.proofs.PagedLists.{paged_push, paged_ends_more, passed_all}
 
 in_front : (xs : List ℕ) (y n : ℕ) → n < length xs → get_or (xs ++ y ∷ []) n 0 ≡ get_or xs n 0
@@ -55,12 +55,12 @@ module _ (first : ℕ) (ends : List ℕ) (steps : List PagedStep) (paged : IsPag
   pub same_steps : paged_from 0 first (ends ++ length steps ∷ []) steps ≡ paged_from 0 first ends steps
   same_steps = paged_ends_more steps 0 first ends (length steps) (omega arith)
 
-  module _ (start number : ℕ) (page : first + length ends ≡ start / 512) (last : PagedStep) (at : offset_of last ≡ start % 512) (named : number_of last ≡ number) where
+  module _ (start number : ℕ) (page : first + length ends ≡ start / 512) (last : PagedStep) (at : step_offset last ≡ start % 512) (named : step_number last ≡ number) where
     pub step_more : IsPaged first ends (steps ++ last ∷ [])
     step_more = record {
       rising = paged.rising;
       within = λ p inside. let long = longer steps last in let up = paged.within p inside in omega (arith, long, up);
-      offsets = All-push (λ (s : PagedStep). offset_of s < 512) steps last paged.offsets (omega (arith, at));
+      offsets = All-push (λ (s : PagedStep). step_offset s < 512) steps last paged.offsets (omega (arith, at));
       below = paged.below;
     }
 
@@ -68,9 +68,9 @@ module _ (first : ℕ) (ends : List ℕ) (steps : List PagedStep) (paged : IsPag
     pushed =
         let all : pages_passed ends (0 + length steps) ≡ length ends = passed_all ends (0 + length steps) (λ p inside. let up = paged.within p inside in omega (arith, up)) in
         let whole = div-add-mod' start 512 in
-        let is : (first + pages_passed ends (0 + length steps)) * 512 + offset_of last ≡ start = omega (arith, all, page, whole, at) in
+        let is : (first + pages_passed ends (0 + length steps)) * 512 + step_offset last ≡ start = omega (arith, all, page, whole, at) in
         paged_push steps 0 first ends last
-        ∙ ap (λ n. paged_from 0 first ends steps ++ record { start = n; number = number_of last } ∷ []) is
+        ∙ ap (λ n. paged_from 0 first ends steps ++ record { start = n; number = step_number last } ∷ []) is
         ∙ ap (λ n. paged_from 0 first ends steps ++ record { start = start; number = n } ∷ []) named
 
 -- while pages are added to those there were
@@ -84,7 +84,7 @@ pub record IsPushing (lead first : ℕ) (ends : List ℕ) (steps : List PagedSte
 
 pub all_pushed : (lead first : ℕ) (ends : List ℕ) (steps : List PagedStep) (lead-now first-now : ℕ) (ends-now : List ℕ) (steps-now : List PagedStep) (pages : ℕ)
     → IsPushing lead first ends steps lead-now first-now ends-now steps-now pages → pages ≤ length ends-now
-    → (start number : ℕ) → first + pages ≡ start / 512 → (last : PagedStep) → offset_of last ≡ start % 512 → number_of last ≡ number → (items : List PagedStep) → items ≡ steps-now ++ last ∷ []
+    → (start number : ℕ) → first + pages ≡ start / 512 → (last : PagedStep) → step_offset last ≡ start % 512 → step_number last ≡ number → (items : List PagedStep) → items ≡ steps-now ++ last ∷ []
     → (view_of lead-now first-now ends-now items).steps ≡ (view_of lead first ends steps).steps ++ record { start = start; number = number } ∷ []
 all_pushed lead first ends steps lead-now first-now ends-now steps-now pages p all start number page last there named items are =
     let at : first + length ends-now ≡ start / 512 = omega (arith, p.few, all, page) in

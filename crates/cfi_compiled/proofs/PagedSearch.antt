@@ -6,7 +6,7 @@ use Rattle.std.proofs.Math.ListN.{get_or-eq_default}
 use Rattle.cfi_compiled.specs.declared.step_list.NumberedStep.{NumberedStep}
 use Rattle.cfi_compiled.specs.declared.paged_steps.PagedStep.{PagedStep}
 use Rattle.cfi_compiled.specs.CompiledTables.{EndsWith}
-use Rattle.cfi_compiled.specs.PagedSteps.{IsPaged, IsSplitIn, begin_of, number_of, offset_of, pages_passed, view_of}
+use Rattle.cfi_compiled.specs.PagedSteps.{IsPaged, IsSplitIn, begin_of, step_number, step_offset, pages_passed, view_of}
 use Rattle.cfi_compiled.specs.SearchedSteps.{IsSplit}
 use Rattle.cfi_compiled.proofs.PagedLists.{passed_up_to, passed_few, passed_at_least, paged_at, paged_length, unpaged}
 
@@ -93,15 +93,15 @@ module _ (lead first : ℕ) (ends : List ℕ) (steps : List PagedStep) (paged : 
       let same : 0 + j ≡ j = omega arith in
       paged_at steps 0 first ends j d e inside ∙ ap (λ n. unpaged first ends n (get_or steps j e)) same
 
-  pub number_after_first : (j : ℕ) (d : NumberedStep) (e : PagedStep) → j < length steps → (get_or all_steps (suc j) d).number ≡ number_of (get_or steps j e)
+  pub number_after_first : (j : ℕ) (d : NumberedStep) (e : PagedStep) → j < length steps → (get_or all_steps (suc j) d).number ≡ step_number (get_or steps j e)
   number_after_first j d e inside = ap (λ (s : NumberedStep). s.number) (step_after_first j d e inside)
 
   -- the last step is that with the last index
-  pub last_ends : (i : ℕ) → i + 1 ≡ length steps → (e : PagedStep) (number : ℕ) → number_of (get_or steps i e) ≡ number → EndsWith number all_steps
+  pub last_ends : (i : ℕ) → i + 1 ≡ length steps → (e : PagedStep) (number : ℕ) → step_number (get_or steps i e) ≡ number → EndsWith number all_steps
   last_ends i last e number is =
       (unpaged first ends i (get_or steps i e), suc i, omega (arith, how_many, last), step_after_first i (unpaged first ends i (get_or steps i e)) e (omega (arith, last)), is)
 
-  start_after_first : (j : ℕ) (d : NumberedStep) (e : PagedStep) → j < length steps → (get_or all_steps (suc j) d).start ≡ (first + pages_passed ends j) * 512 + offset_of (get_or steps j e)
+  start_after_first : (j : ℕ) (d : NumberedStep) (e : PagedStep) → j < length steps → (get_or all_steps (suc j) d).start ≡ (first + pages_passed ends j) * 512 + step_offset (get_or steps j e)
   start_after_first j d e inside = ap (λ (s : NumberedStep). s.start) (step_after_first j d e inside)
 
   -- ---- before the first page

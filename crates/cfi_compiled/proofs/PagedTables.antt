@@ -3,22 +3,22 @@ use Rattle.std.proofs.Common.{◌≡◌, ℕ, zero, suc, ◌+◌, ◌/◌, ◌<�
 use Rattle.std.proofs.lemmas.List.{take_all, take_more}
 use Rattle.cfi_compiled.specs.declared.step_list.NumberedStep.{NumberedStep}
 use Rattle.cfi_compiled.specs.PagedSteps.{PagedView}
-use Rattle.cfi_compiled.specs.SearchedSteps.{Ascend}
+use Rattle.cfi_compiled.specs.SearchedSteps.{StartsAscend}
 use Rattle.cfi_compiled.proofs.PagedPushes.{longer}
 
-at_least : (steps : List NumberedStep) (low : ℕ) → Ascend low steps → (j : ℕ) (d : NumberedStep) → j < length steps → low ≤ (get_or steps j d).start
+at_least : (steps : List NumberedStep) (low : ℕ) → StartsAscend low steps → (j : ℕ) (d : NumberedStep) → j < length steps → low ≤ (get_or steps j d).start
 at_least [] low ascend j d inside = absurd (omega arith)
 at_least (first ∷ steps) low ascend zero d inside = ascend.0
 at_least (first ∷ steps) low ascend (suc j) d inside = let rest = at_least steps (first.start + 1) ascend.1 j d (omega arith) in omega (arith, rest, ascend.0)
 
-pub in_order : (steps : List NumberedStep) (low : ℕ) → Ascend low steps → (i j : ℕ) (d : NumberedStep) → i ≤ j → j < length steps → (get_or steps i d).start ≤ (get_or steps j d).start
+pub in_order : (steps : List NumberedStep) (low : ℕ) → StartsAscend low steps → (i j : ℕ) (d : NumberedStep) → i ≤ j → j < length steps → (get_or steps i d).start ≤ (get_or steps j d).start
 in_order [] low ascend i j d order inside = absurd (omega arith)
 in_order (first ∷ steps) low ascend zero zero d order inside = omega arith
 in_order (first ∷ steps) low ascend zero (suc j) d order inside = let rest = at_least steps (first.start + 1) ascend.1 j d (omega arith) in omega (arith, rest)
 in_order (first ∷ steps) low ascend (suc i) zero d order inside = absurd (omega arith)
 in_order (first ∷ steps) low ascend (suc i) (suc j) d order inside = in_order steps (first.start + 1) ascend.1 i j d (omega arith) (omega arith)
 
-pub pages_in_order : (steps : List NumberedStep) → Ascend 0 steps → (i j : ℕ) (d : NumberedStep) → i ≤ j → j < length steps → (get_or steps i d).start / 512 ≤ (get_or steps j d).start / 512
+pub pages_in_order : (steps : List NumberedStep) → StartsAscend 0 steps → (i j : ℕ) (d : NumberedStep) → i ≤ j → j < length steps → (get_or steps i d).start / 512 ≤ (get_or steps j d).start / 512
 pages_in_order steps ascend i j d order inside = let up = in_order steps 0 ascend i j d order inside in omega (arith, up)
 
 -- while steps are added

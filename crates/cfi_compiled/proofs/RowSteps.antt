@@ -17,7 +17,7 @@ use Rattle.cfi_state.specs.UnwindTableStates.{TableState, run_answers_to_come, I
 use Rattle.cfi_state.specs.MappedStates.{map_row}
 use Rattle.cfi_state.proofs.MappedEquality.{as_it_is, same_row}
 use Rattle.cfi_unwind.specs.UnwindTableCalls.{LendsNextRow}
-use Rattle.cfi_compiled.specs.FrameParts.{FrameParts, frame_of, frame_of_row}
+use Rattle.cfi_compiled.specs.FrameParts.{FrameParts, frame_parts, frame_of_row}
 use Rattle.cfi_compiled.specs.declared.facts.CieFacts.{CieFacts}
 
 abbrev pub Answers : Type 0
@@ -167,7 +167,7 @@ module _ (facts : CieFacts) (all : Answers) (first end last : ℕ) (old : ℕ �
       after_row a low high = walked.rest a low ∙ ap (answer_at a) is ∙ passes_row row later a high
 
       -- the step of the row was taken, or the row is empty or ends before
-      module _ (newer : ℕ → Result FrameParts Error) (same : (a : ℕ) → a < from → newer a ≡ now a) (taken : (a : ℕ) → from ≤ a → a < row.end_address → newer a ≡ Ok (frame_of facts row.parts)) where
+      module _ (newer : ℕ → Result FrameParts Error) (same : (a : ℕ) → a < from → newer a ≡ now a) (taken : (a : ℕ) → from ≤ a → a < row.end_address → newer a ≡ Ok (frame_parts facts row.parts)) where
         up_to_row : (a : ℕ) → first ≤ a → a < row.end_address → newer a ≡ frame_of_row facts (answer_at a all)
         up_to_row a low high =
             ⊎_elim (λ below. kept_within newer same a low below) (λ here. taken a here high ∙ ap (frame_of_row facts) (sym (due a here high))) (cases_lt a from)

@@ -7,7 +7,7 @@ use Rattle.cfi_read_core.specs.declared.error.Error.TheVariants.{NoUnwindInfoFor
 use Rattle.cfi_compiled.specs.declared.step_list.NumberedStep.{NumberedStep}
 use Rattle.cfi_compiled.specs.FrameParts.{FrameParts}
 use Rattle.cfi_compiled.specs.CompiledTables.{frame_numbered, step_named}
-use Rattle.cfi_compiled.specs.SearchedSteps.{Ascend}
+use Rattle.cfi_compiled.specs.SearchedSteps.{StartsAscend}
 use Rattle.cfi_compiled.specs.Steps.{Step, Rise, frame_by_steps}
 use Rattle.cfi_compiled.proofs.StepFunctions.{answered_at, answered_before}
 
@@ -33,6 +33,6 @@ pub found_before : (results : List (Result FrameParts Error)) (numbers : List Nu
 found_before results [] a above = refl
 found_before results (first ∷ numbers) a above = sym (answered_before (map (step_named results) (first ∷ numbers)) (Err NoUnwindInfoForAddress) a (λ d some. above first (omega arith)))
 
-pub ascends : (results : List (Result FrameParts Error)) (numbers : List NumberedStep) (low : ℕ) → Rise low (map (step_named results) numbers) → Ascend low numbers
+pub ascends : (results : List (Result FrameParts Error)) (numbers : List NumberedStep) (low : ℕ) → Rise low (map (step_named results) numbers) → StartsAscend low numbers
 ascends results [] low rise = tt
 ascends results (step ∷ numbers) low rise = (rise.0, ascends results numbers (step.start + 1) rise.1)

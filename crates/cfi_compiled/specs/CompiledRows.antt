@@ -13,7 +13,7 @@ use Rattle.cfi_state.specs.declared.table.rules.RegisterRule.{RegisterRule}
 use Rattle.gimli_cfi.specs.Words.{Error, Section, Row, Parts}
 use Rattle.gimli_cfi.specs.Words.{IsDistinctRegisters, map_ok, row_by_scan, rules_of}
 use Rattle.cfi_compiled.specs.declared.row.CompiledRow.{CompiledRow}
-use Rattle.cfi_compiled.specs.FrameParts.{FrameParts, frame_of}
+use Rattle.cfi_compiled.specs.FrameParts.{FrameParts, frame_parts}
 
 abbrev pub registers_of : CompiledRow → List (Register × RegisterRule ℕ)
 registers_of row = row.rules.now
@@ -26,7 +26,7 @@ parts_kept row = record {
 }
 
 abbrev pub frame_kept : CompiledRow → FrameParts
-frame_kept row = frame_of row.facts (parts_kept row)
+frame_kept row = frame_parts row.facts (parts_kept row)
 
 abbrev pub HasDistinctRegisters : CompiledRow → Type 0
 HasDistinctRegisters row = IsDistinctRegisters (registers_of row)

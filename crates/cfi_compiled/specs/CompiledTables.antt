@@ -71,10 +71,10 @@ IsCompiled rule_limit stack_limit section table =
     → frame_at table address ≡ frame_by_scan rule_limit stack_limit section address
 
 -- the start and the result of the step with the index k; none behind the last one
-abbrev pub IsStepOf :
+abbrev pub IsStepAtIndex :
     TableContents → ℕ → Option (ℕ × Result CompiledRow Error) → Type 0
-IsStepOf table k None = length table.numbers ≤ k
-IsStepOf table k (Some step) =
+IsStepAtIndex table k None = length table.numbers ≤ k
+IsStepAtIndex table k (Some step) =
     (k < length table.numbers)
     × ((d : NumberedStep)
     → step_named (results_of table) (get_or table.numbers k d)

@@ -2,7 +2,7 @@
 -- the return.
 --     FrameParts      both
 --     facts_of fde      what the CIE of an FDE says
---     frame_of facts parts      both, in one record
+--     frame_parts facts parts      both, in one record
 --     frame_of_row facts result      the same of the result for an address; an error is kept as it
 --         is
 --     parts_of_frame result      the row alone
@@ -26,15 +26,15 @@ facts_of fde = record {
   is_signal_trampoline = is_trampoline fde.cie.augmentation;
 }
 
-abbrev pub frame_of : CieFacts → Parts ℕ → FrameParts
-frame_of facts parts = record {
+abbrev pub frame_parts : CieFacts → Parts ℕ → FrameParts
+frame_parts facts parts = record {
   parts = parts;
   return_address = facts.return_address;
   is_signal_trampoline = facts.is_signal_trampoline;
 }
 
 abbrev pub frame_of_row : CieFacts → Result (Row ℕ) Error → Result FrameParts Error
-frame_of_row facts result = map_ok (λ row. frame_of facts row.parts) result
+frame_of_row facts result = map_ok (λ row. frame_parts facts row.parts) result
 
 abbrev pub parts_of_frame : Result FrameParts Error → Result (Parts ℕ) Error
 parts_of_frame result = map_ok (λ frame. frame.parts) result

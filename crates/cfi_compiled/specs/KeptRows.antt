@@ -4,7 +4,8 @@
 --     rules_at rules rest      the registers with their rules of a rest
 --     IsKeptIn rules rest      its rules are in the list, and no register has two
 --     rest_rules, rest_args, rest_facts lists number      what the rest with a number says
---     frame_in lists row, results_in lists rows      what kept rows say; an error is kept as it is
+--     frame_of_kept lists row, results_in lists rows      what kept rows say; an error is kept as
+--         it is
 --     IsRestOf lists facts parts number      the rest with this number is what the CIE says, and
 --         the parts but for the CFA
 --     IsGrown old new      what a number meant it means still
@@ -17,7 +18,7 @@ use Rattle.cfi_read_core.specs.declared.common.Register.{Register}
 use Rattle.cfi_state.specs.Machine.{Rules}
 use Rattle.cfi_state.specs.declared.table.rules.RegisterRule.{RegisterRule}
 use Rattle.gimli_cfi.specs.Words.{Error, IsDistinctRegisters, Parts, map_ok, rules_of}
-use Rattle.cfi_compiled.specs.FrameParts.{FrameParts, frame_of}
+use Rattle.cfi_compiled.specs.FrameParts.{FrameParts, frame_parts}
 use Rattle.cfi_compiled.specs.declared.facts.CieFacts.{CieFacts}
 use Rattle.cfi_compiled.specs.declared.rests.KeptRest.{KeptRest}
 use Rattle.cfi_compiled.specs.declared.rests.KeptRow.{KeptRow}
@@ -50,19 +51,19 @@ rest_args lists number = (get_or lists.rests number no_rest).saved_args_size
 abbrev pub rest_facts : RestLists → ℕ → CieFacts
 rest_facts lists number = (get_or lists.rests number no_rest).facts
 
-abbrev pub parts_in : RestLists → KeptRow → Parts ℕ
-parts_in lists row = record {
+abbrev pub parts_of_kept : RestLists → KeptRow → Parts ℕ
+parts_of_kept lists row = record {
   cfa = row.cfa;
   rules = rest_rules lists row.rest;
   args_size = rest_args lists row.rest;
 }
 
-abbrev pub frame_in : RestLists → KeptRow → FrameParts
-frame_in lists row = frame_of (rest_facts lists row.rest) (parts_in lists row)
+abbrev pub frame_of_kept : RestLists → KeptRow → FrameParts
+frame_of_kept lists row = frame_parts (rest_facts lists row.rest) (parts_of_kept lists row)
 
 abbrev pub results_in :
     RestLists → List (Result KeptRow Error) → List (Result FrameParts Error)
-results_in lists rows = map (map_ok (frame_in lists)) rows
+results_in lists rows = map (map_ok (frame_of_kept lists)) rows
 
 pub record IsRestOf (lists : RestLists) (facts : CieFacts) (parts : Parts ℕ) (number : ℕ) : Type 0
   where

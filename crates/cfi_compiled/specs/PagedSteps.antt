@@ -1,5 +1,5 @@
 -- Steps in pages of 512 addresses.
---     offset_of, number_of step      the lower 9 bits of its three bytes, and the upper 15
+--     step_offset, step_number step      the lower 9 bits of its three bytes, and the upper 15
 --     pages_passed ends k      how many pages end at or before the step with the index k
 --     paged_from k first ends steps      the steps from the index k on, of which the first page is
 --         `first`
@@ -22,16 +22,19 @@ abbrev pub pages_passed : List ℕ → ℕ → ℕ
 pages_passed [] k = 0
 pages_passed (end ∷ ends) k = if nat_le end k then pages_passed ends k + 1 else 0
 
-abbrev pub offset_of : PagedStep → ℕ
-offset_of step = step.low + 256 * (step.middle % 2)
+abbrev pub step_offset : PagedStep → ℕ
+step_offset step = step.low + 256 * (step.middle % 2)
 
-abbrev pub number_of : PagedStep → ℕ
-number_of step = step.middle / 2 + 128 * step.high
+abbrev pub step_number : PagedStep → ℕ
+step_number step = step.middle / 2 + 128 * step.high
 
 abbrev pub paged_from : ℕ → ℕ → List ℕ → List PagedStep → List NumberedStep
 paged_from k first ends [] = []
 paged_from k first ends (step ∷ steps) =
-    record { start = (first + pages_passed ends k) * 512 + offset_of step; number = number_of step }
+    record {
+      start = (first + pages_passed ends k) * 512 + step_offset step;
+      number = step_number step;
+    }
     ∷ paged_from (k + 1) first ends steps
 
 abbrev pub begin_of : List ℕ → ℕ → ℕ → ℕ
@@ -41,8 +44,9 @@ begin_of ends count (suc page) = get_or ends page count
 pub record IsSplitIn (steps : List PagedStep) (begin end offset k : ℕ) : Type 0 where
   pub low : begin ≤ k
   pub high : k ≤ end
-  pub from : (j : ℕ) (d : PagedStep) → j + 1 ≡ k → begin < k → offset_of (get_or steps j d) ≤ offset
-  pub up_to : (d : PagedStep) → k < end → offset < offset_of (get_or steps k d)
+  pub from :
+      (j : ℕ) (d : PagedStep) → j + 1 ≡ k → begin < k → step_offset (get_or steps j d) ≤ offset
+  pub up_to : (d : PagedStep) → k < end → offset < step_offset (get_or steps k d)
 
 abbrev pub Rising : List ℕ → Type 0
 Rising ends = (p q : ℕ) → p ≤ q → q < length ends → get_or ends p 0 ≤ get_or ends q 0
@@ -62,5 +66,5 @@ view_of lead first ends steps = record {
 pub record IsPaged (first : ℕ) (ends : List ℕ) (steps : List PagedStep) : Type 0 where
   pub rising : Rising ends
   pub within : (p : ℕ) → p < length ends → get_or ends p 0 ≤ length steps
-  pub offsets : All (λ step. offset_of step < 512) steps
+  pub offsets : All (λ step. step_offset step < 512) steps
   pub below : first + length ends < 2 ^ 55

@@ -1,5 +1,5 @@
 -- What a search among numbered steps finds.
---     Ascend low steps      each step is above the one before it, the first at or above `low`
+--     StartsAscend low steps      each step is above the one before it, the first at or above `low`
 --     IsSplit steps a k      the step before the index k is at or below the address, and the one at
 --         k above it
 --     IsNumberAt steps a number      the number of a last step at or below the address; none where
@@ -9,9 +9,9 @@ use Rattle.std.specs.Prelude.{◌≡◌, ℕ, ◌+◌, ◌<◌, ◌≤◌, List,
 use Rattle.std.specs.Prelude.{None, ⊤}
 use Rattle.cfi_compiled.specs.declared.step_list.NumberedStep.{NumberedStep}
 
-abbrev pub Ascend : ℕ → List NumberedStep → Type 0
-Ascend low [] = ⊤
-Ascend low (step ∷ steps) = (low ≤ step.start) × Ascend (step.start + 1) steps
+abbrev pub StartsAscend : ℕ → List NumberedStep → Type 0
+StartsAscend low [] = ⊤
+StartsAscend low (step ∷ steps) = (low ≤ step.start) × StartsAscend (step.start + 1) steps
 
 pub record IsSplit (steps : List NumberedStep) (a k : ℕ) : Type 0 where
   pub inside : k ≤ length steps

@@ -5,8 +5,8 @@ ghost use Rattle.gimli_cfi.specs.Words.{Error as TheError, map_ok};
 ghost use Rattle.cfi_compiled.specs.declared.rests.KeptRow.{KeptRow as Kept};
 ghost use Rattle.cfi_compiled.specs.CompiledTables.{IsAdded, IsResultAt, frame_at};
 ghost use Rattle.cfi_compiled.specs.CompiledTables.{frame_numbered, results_of, steps_of};
-ghost use Rattle.cfi_compiled.specs.KeptRows.{IsRestOf, frame_in};
-ghost use Rattle.cfi_compiled.specs.FrameParts.{frame_of};
+ghost use Rattle.cfi_compiled.specs.KeptRows.{IsRestOf, frame_of_kept};
+ghost use Rattle.cfi_compiled.specs.FrameParts.{frame_parts};
 ghost use Rattle.cfi_compiled.specs.Steps.{IsFrom, SameBelow, free_from};
 
 use crate::facts::CieFacts;
@@ -97,7 +97,7 @@ impl TableBuilder {
         facts: CieFacts,
     ) -> bool
         ensures { IsTrue result → IsResultAt self.now
-            (Ok (frame_of facts row.now.parts)) number }
+            (Ok (frame_parts facts row.now.parts)) number }
     {
         if number >= self.rows.len() {
             return false;
@@ -119,7 +119,7 @@ impl TableBuilder {
         ensures free { OnOk result
             (free_from 0 (steps_of self.new) ≡ free_from 0 (steps_of self.old)) }
         ensures number { IfOk result
-            (IsResultAt self.new (Ok (frame_of facts row.now.parts))) }
+            (IsResultAt self.new (Ok (frame_parts facts row.now.parts))) }
     {
         let guess = self.guesses.next();
         if self.is_of(guess, row, facts) {
@@ -152,7 +152,7 @@ impl TableBuilder {
         ensures free { OnOk result
             (free_from 0 (steps_of self.new) ≡ free_from 0 (steps_of self.old)) }
         ensures number { IfOk result
-            (IsResultAt self.new (map_ok (frame_in self.old.lists) answer)) }
+            (IsResultAt self.new (map_ok (frame_of_kept self.old.lists) answer)) }
     {
         number_of(&mut self.rows, &mut self.slots, answer)
     }

@@ -2,9 +2,9 @@
 ghost use Rattle.std.specs.Prelude.{◌≡◌, ◌≤◌, ◌<◌, ◌+◌, ◌/◌, ◌^◌, ◌∷◌, ◌++◌, [], length};
 ghost use Rattle.std.specs.Prelude.{IfErr, IfOk, IfSome, IsTrue, OnOk};
 ghost use Rattle.cfi_compiled.specs.CompiledTables.{EndsWith};
-ghost use Rattle.cfi_compiled.specs.PagedSteps.{IsSplitIn, Rising, begin_of, number_of};
-ghost use Rattle.cfi_compiled.specs.PagedSteps.{offset_of, pages_passed};
-ghost use Rattle.cfi_compiled.specs.SearchedSteps.{Ascend, IsNumberAt, IsSplit, IsStepAt};
+ghost use Rattle.cfi_compiled.specs.PagedSteps.{IsSplitIn, Rising, begin_of, step_number};
+ghost use Rattle.cfi_compiled.specs.PagedSteps.{step_offset, pages_passed};
+ghost use Rattle.cfi_compiled.specs.SearchedSteps.{IsNumberAt, IsSplit, IsStepAt, StartsAscend};
 
 use crate::step_list::NumberedStep;
 use crate::steps::NoMemory;
@@ -35,8 +35,8 @@ impl PagedStep {
     fn of(offset: u64, number: usize) -> PagedStep
         requires offset { offset < 512 }
         requires number { number < 32768 }
-        ensures offset { offset_of result ≡ offset }
-        ensures number { number_of result ≡ number }
+        ensures offset { step_offset result ≡ offset }
+        ensures number { step_number result ≡ number }
     {
         PagedStep {
             low: (offset % 256) as u8,
@@ -48,7 +48,7 @@ impl PagedStep {
     /// The distance from the beginning of the page.
     #[inline(always)]
     fn offset(self) -> u16
-        ensures { result ≡ offset_of self }
+        ensures { result ≡ step_offset self }
     {
         u16::from(self.low) + 256 * u16::from(self.middle % 2)
     }
@@ -56,7 +56,7 @@ impl PagedStep {
     /// The number.
     #[inline(always)]
     fn number(self) -> usize
-        ensures { result ≡ number_of self }
+        ensures { result ≡ step_number self }
     {
         usize::from(self.middle / 2) + 128 * usize::from(self.high)
     }
@@ -88,7 +88,7 @@ impl PagedSteps {
     /// These steps in pages; `None` if they don't begin at 0, if a number has more than 15 bits, or
     /// if there are three times as many pages as steps.
     pub(crate) fn of(alloc: Global, steps: &[NumberedStep]) -> Result<Option<Self>, NoMemory>
-        requires { Ascend 0 steps.now }
+        requires { StartsAscend 0 steps.now }
         ensures { IfOk result (λ paged. IfSome paged (λ paged. paged.steps ≡ steps.now)) }
     {
         if steps.len() < 2 || steps.len() > u32::MAX as usize || steps[0].start != 0 {

@@ -2,7 +2,7 @@
 ghost use Rattle.std.specs.Prelude.{◌≡◌, ◌<◌, [], length, IfOk, IsTrue};
 ghost use Rattle.gimli_cfi.specs.Words.{IsDistinctRegisters, rules_of};
 ghost use Rattle.cfi_compiled.specs.CompiledRows.{HasDistinctRegisters, frame_kept};
-ghost use Rattle.cfi_compiled.specs.KeptRows.{IsGrown, IsRestOf, frame_in};
+ghost use Rattle.cfi_compiled.specs.KeptRows.{IsGrown, IsRestOf, frame_of_kept};
 
 use crate::facts::CieFacts;
 use crate::hash::hash_of_rest;
@@ -64,7 +64,7 @@ impl Rests {
     #[inline(always)]
     pub(crate) fn row<'a>(&'a self, kept: &'a KeptRow) -> CompiledRow<'a>
         requires { kept.now.rest < length self.now.rests }
-        ensures frame { frame_kept result ≡ frame_in self.now kept.now }
+        ensures frame { frame_kept result ≡ frame_of_kept self.now kept.now }
         ensures distinct { HasDistinctRegisters result }
     {
         let rest = self.rests[kept.rest];

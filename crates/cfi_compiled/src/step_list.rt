@@ -1,7 +1,7 @@
 //! The steps of a table: in pages where they fit in these, else one by one.
 ghost use Rattle.std.specs.Prelude.{◌≡◌, ◌<◌, ◌+◌, ◌^◌, length, IfOk, IfSome, IsTrue};
 ghost use Rattle.cfi_compiled.specs.CompiledTables.{EndsWith};
-ghost use Rattle.cfi_compiled.specs.SearchedSteps.{Ascend, IsNumberAt, IsSplit, IsStepAt};
+ghost use Rattle.cfi_compiled.specs.SearchedSteps.{IsNumberAt, IsSplit, IsStepAt, StartsAscend};
 
 use crate::paged_steps::PagedSteps;
 use crate::steps::NoMemory;
@@ -25,7 +25,7 @@ impl StepList {
     ghost use Rattle.std.specs.Prelude.{◌≡◌, ◌<◌, ◌+◌, ◌^◌, ◌∷◌, ◌++◌, [], length};
     ghost use Rattle.std.specs.Prelude.{IfOk, IfSome, IsTrue, OnOk};
     ghost use Rattle.cfi_compiled.specs.CompiledTables.{EndsWith, IsAdded};
-    ghost use Rattle.cfi_compiled.specs.SearchedSteps.{Ascend, IsNumberAt, IsStepAt};
+    ghost use Rattle.cfi_compiled.specs.SearchedSteps.{IsNumberAt, IsStepAt, StartsAscend};
     ghost use Rattle.cfi_compiled.specs.StepLists.{numbered};
 
     /// No step yet.
@@ -50,7 +50,7 @@ impl StepList {
     /// one from the first on that doesn't fit in these.
     #[inline(always)]
     pub(crate) fn push(&mut self, alloc: Global, step: NumberedStep) -> Result<(), NoMemory>
-        requires { Ascend 0 (numbered self.old ++ step ∷ []) }
+        requires { StartsAscend 0 (numbered self.old ++ step ∷ []) }
         ensures pushed { OnOk result (numbered self.new ≡ numbered self.old ++ step ∷ []) }
         ensures added { IsAdded step (numbered self.old) (numbered self.new) }
     {
@@ -64,7 +64,7 @@ impl StepList {
 
     /// One more step, which doesn't fit in the pages, or where there are none yet.
     fn push_apart(&mut self, alloc: Global, step: NumberedStep) -> Result<(), NoMemory>
-        requires { Ascend 0 (numbered self.old ++ step ∷ []) }
+        requires { StartsAscend 0 (numbered self.old ++ step ∷ []) }
         ensures pushed { OnOk result (numbered self.new ≡ numbered self.old ++ step ∷ []) }
         ensures added { IsAdded step (numbered self.old) (numbered self.new) }
     {
@@ -88,7 +88,7 @@ impl StepList {
 
     /// The steps in as little memory as they need: in pages if all fit.
     pub(crate) fn finish(self, alloc: Global) -> Result<StepList, NoMemory>
-        requires { Ascend 0 (numbered self) }
+        requires { StartsAscend 0 (numbered self) }
         ensures { IfOk result (λ list. numbered list ≡ numbered self) }
     {
         match self {
@@ -102,7 +102,7 @@ impl StepList {
 
     /// These steps, in pages if they fit.
     fn of(alloc: Global, steps: Vec<NumberedStep>) -> Result<StepList, NoMemory>
-        requires { Ascend 0 steps.items }
+        requires { StartsAscend 0 steps.items }
         ensures { IfOk result (λ list. numbered list ≡ steps.items) }
     {
         match PagedSteps::of(alloc, steps.as_slice())? {

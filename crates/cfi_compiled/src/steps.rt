@@ -1,7 +1,7 @@
 //! What takes the results of addresses step by step.
 ghost use Rattle.std.specs.Prelude.{◌≤◌, ◌+◌, ℕ, Result, Ok, Err, OnOk};
 ghost use Rattle.gimli_cfi.specs.Words.{Error as TheError};
-ghost use Rattle.cfi_compiled.specs.FrameParts.{FrameParts, frame_of};
+ghost use Rattle.cfi_compiled.specs.FrameParts.{FrameParts, frame_parts};
 ghost use Rattle.cfi_compiled.specs.Steps.{IsFrom, SameBelow};
 
 use crate::facts::CieFacts;
@@ -42,7 +42,7 @@ pub(crate) trait StepSink {
         requires { free self.old ≤ from }
         ensures before { OnOk result (SameBelow from (answer self.new) (answer self.old)) }
         ensures after { OnOk result (IsFrom from (answer self.new)
-            (Ok (frame_of facts row.now.parts))) }
+            (Ok (frame_parts facts row.now.parts))) }
         ensures free { OnOk result (free self.new ≤ from + 1) };
 
     /// From this address on the result is this error.

@@ -1,8 +1,8 @@
 //! Compiled tables.
 ghost use Rattle.std.specs.Prelude.{◌≡◌, ◌<◌, ◌+◌, ◌^◌, length, IfOk, IfSome};
 ghost use Rattle.cfi_compiled.specs.CompiledRows.{HasDistinctRegisters, frame_lent, parts_lent};
-ghost use Rattle.cfi_compiled.specs.CompiledTables.{IsSound, IsStepOf, frame_at, frame_numbered};
-ghost use Rattle.cfi_compiled.specs.CompiledTables.{parts_at};
+ghost use Rattle.cfi_compiled.specs.CompiledTables.{IsSound, IsStepAtIndex, frame_at};
+ghost use Rattle.cfi_compiled.specs.CompiledTables.{frame_numbered, parts_at};
 ghost use Rattle.cfi_compiled.specs.CompiledTables.{results_of, steps_of};
 ghost use Rattle.cfi_compiled.specs.KeptRows.{AreNamed, results_in};
 ghost use Rattle.cfi_compiled.specs.StepLists.{numbered};
@@ -65,7 +65,7 @@ impl Model for CompiledTable {
 
 impl CompiledTable {
     ghost use Rattle.std.specs.Prelude.{◌≡◌, ◌<◌, ◌+◌, ◌^◌, length, IfOk, IfSome};
-    ghost use Rattle.cfi_compiled.specs.CompiledTables.{IsSound, IsStepOf, frame_at, parts_at};
+    ghost use Rattle.cfi_compiled.specs.CompiledTables.{IsSound, IsStepAtIndex, frame_at, parts_at};
     ghost use Rattle.cfi_compiled.specs.CompiledTables.{steps_of};
     ghost use Rattle.cfi_compiled.specs.StepLists.{numbered};
 
@@ -114,7 +114,7 @@ impl CompiledTable {
     /// The first address of the step with an index, and its result.
     #[inline(always)]
     pub(crate) fn step(&self, index: usize) -> Option<(u64, Result<CompiledRow<'_>>)>
-        ensures step { IsStepOf self.now index result }
+        ensures step { IsStepAtIndex self.now index result }
         ensures room { IfSome result (λ _. index + 1 < 2 ^ 64) }
     {
         let step = self.steps.get(index)?;

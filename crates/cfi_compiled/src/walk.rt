@@ -11,7 +11,7 @@ ghost use Rattle.cfi_unwind.specs.FdeViews.{HasCieOf, IsFdeOf, fde_view};
 ghost use Rattle.cfi_unwind.specs.Scan.{answer_by};
 ghost use Rattle.cfi_unwind.specs.UnwindTableViews.{table_state};
 ghost use Rattle.cfi_compiled.specs.CoveringFdes.{first_of};
-ghost use Rattle.cfi_compiled.specs.FrameParts.{frame_of, frame_of_fde, frame_of_row};
+ghost use Rattle.cfi_compiled.specs.FrameParts.{frame_parts, frame_of_fde, frame_of_row};
 ghost use Rattle.cfi_compiled.specs.Pieces.{Ascend, owner, spans_from};
 ghost use Rattle.cfi_compiled.specs.Steps.{IsFrom, IsWithin, SameBelow};
 
@@ -180,7 +180,7 @@ fn take_row<K: StepSink, A: ArrayLike<Item = (Register, RegisterRule<usize>)>>(
     ensures before { OnOk result (SameBelow from (K.answer sink.new) (K.answer sink.old)) }
     ensures within { OnOk result
         (IsWithin from row.now.end_address (K.answer sink.new)
-        (λ _. Ok (frame_of facts row.now.parts))) }
+        (λ _. Ok (frame_parts facts row.now.parts))) }
     ensures free { OnOk result (K.free sink.new ≤ from + 1) }
     ensures free_at { OnOk result (row.now.end_address ≤ from → K.free sink.new ≤ from) }
 {

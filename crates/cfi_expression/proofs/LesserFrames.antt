@@ -1,21 +1,20 @@
 -- What an expression gives in a frame of which less is known: the same, unless something is lacking.
-use Rattle.std.proofs.Common.{◌≡◌, ◌∙◌, ℕ, zero, suc, ◌-◌, ◌&&◌, ◌==◌, Bool, true, false, List, [], ◌∷◌, Option, Some, None, Result, Ok, Err, refl, sym, ap, slice_index_or, true≢false}
+use Rattle.std.proofs.Common.{◌≡◌, ◌∙◌, ℕ, zero, suc, ◌&&◌, Bool, true, false, List, [], Option, Some, None, Result, Ok, Err, refl, sym, ap, true≢false}
 use Rattle.std.specs.Prelude.{nat_le, ok_or, if◌then◌else◌}
 use Rattle.cfi_read_core.specs.declared.common.Register.{Register}
 use Rattle.cfi_read_core.specs.declared.error.Error.{Error}
 use Rattle.cfi_read_core.specs.Addresses.{is_sized}
 use Rattle.cfi_read_core.specs.ReadFunctions.{Position}
 use Rattle.cfi_expression.specs.declared.error.FrameError.{FrameError}
-use Rattle.cfi_expression.specs.declared.error.FrameError.TheVariants.{UnknownRegister, UnreadableMemory, UnsupportedSize, TooManyIterations}
+use Rattle.cfi_expression.specs.declared.error.FrameError.TheVariants.{UnknownRegister, UnreadableMemory, UnsupportedSize}
 use Rattle.cfi_expression.specs.declared.operation.Operation.{Operation}
 use Rattle.cfi_expression.specs.declared.operation.Operation.TheVariants.{Stack, Skip, Bra}
 use Rattle.cfi_expression.specs.declared.operation.StackOperation.{StackOperation}
 use Rattle.cfi_expression.specs.declared.operation.StackOperation.TheVariants.{RegisterOffset, Dereference}
-use Rattle.cfi_expression.specs.Arithmetic.{displaced}
 use Rattle.cfi_expression.specs.Frames.{Frame, known, number_at, register_in}
 use Rattle.cfi_expression.specs.Operations.{operation}
-use Rattle.cfi_expression.specs.Stacks.{Act, Acted, go_on, of_result, pop, push}
-use Rattle.cfi_expression.specs.Evaluation.{effect, is_end, obey, obey_read, push_low, run, step, value_of, initial_stack}
+use Rattle.cfi_expression.specs.Stacks.{Act, Acted, go_on, of_result, pop}
+use Rattle.cfi_expression.specs.Evaluation.{effect, is_end, obey, obey_read, run, step, value_of, initial_stack}
 
 -- ---- what is lacking
 

@@ -6,10 +6,11 @@ use Rattle.cfi_read_core.specs.ReaderCalls.{remaining}
 use Rattle.cfi_expression.specs.declared.error.FrameError.{FrameError}
 use Rattle.cfi_expression.specs.declared.error.FrameError.TheVariants.{TooManyIterations}
 use Rattle.cfi_expression.specs.Frames.{Frame}
-use Rattle.cfi_expression.specs.Stacks.{Acted, go_on, map_value, of_result, pop}
+use Rattle.cfi_expression.specs.Stacks.{Acted, go_on, of_result, pop}
+use Rattle.cfi_read_core.specs.ReaderCalls.{map_ok}
 use Rattle.cfi_expression.specs.Evaluation.{is_end, run, step}
 
-seen_as_it_is : {A : Type 0} (r : Result A FrameError) → map_value (λ x. x) r ≡ r
+seen_as_it_is : {A : Type 0} (r : Result A FrameError) → map_ok (λ x. x) r ≡ r
 seen_as_it_is (Ok x) = refl
 seen_as_it_is (Err e) = refl
 
@@ -37,7 +38,7 @@ module _ (frame : Frame) (expression input : Position) (same : input.source ≡ 
       rw less (ap (λ (b : Bool). (if b then pop else (λ s. go_on (run frame expression count) (step frame expression input.place s).value (step frame expression input.place s).stack)) stack) (ends false h))
 
   module _ (count : ℕ) (stack : List ℕ) (whole : Acted ℕ) (all : run frame expression count input.place stack ≡ whole) where
-    pub all_done : (result : Result ℕ FrameError) (after : List ℕ) → (remaining input == 0) ≡ true → pop stack ≡ record { value = map_value (λ x. x) result; stack = after } → result ≡ whole.value
+    pub all_done : (result : Result ℕ FrameError) (after : List ℕ) → (remaining input == 0) ≡ true → pop stack ≡ record { value = map_ok (λ x. x) result; stack = after } → result ≡ whole.value
     all_done result after h popped = sym (seen_as_it_is result) ∙ ap (λ (a : Acted ℕ). a.value) (sym popped ∙ (sym (pops count stack h) ∙ all))
 
     pub none_left : (remaining input == 0) ≡ false → count ≡ 0 → Err TooManyIterations ≡ whole.value

@@ -46,14 +46,15 @@ module _ (expression : Position) where
   -- ---- jumps (section 2.5.1.5): forward or backward from the end of the operation, within the
   --     expression or to its end
 
-  abbrev pub moved : ℕ → Bool → ℕ → Option ℕ
-  moved place true distance =
+  abbrev pub place_moved : ℕ → Bool → ℕ → Option ℕ
+  place_moved place true distance =
       some_if (nat_le (expression.place + distance) place) (place - distance)
-  moved place false distance =
+  place_moved place false distance =
       some_if (nat_le distance (expression.source.last - place)) (place + distance)
 
-  abbrev pub target : ℕ → ℤ → Result ℕ FrameError
-  target place d = ok_or (moved place (is_negative d) (unsigned_abs d)) (BadBranchTarget d)
+  abbrev pub jump_target : ℕ → ℤ → Result ℕ FrameError
+  jump_target place d =
+      ok_or (place_moved place (is_negative d) (unsigned_abs d)) (BadBranchTarget d)
 
 module _ (frame : Frame) where
   -- ---- operations on the stack (sections 2.5.1.1 to 2.5.1.4)
@@ -82,9 +83,9 @@ module _ (frame : Frame) where
 
     abbrev pub obey : ℕ → Operation → Act ℕ
     obey place (Stack o) = effect o >> of_result (Ok place)
-    obey place (Skip d) = of_result (target expression place d)
+    obey place (Skip d) = of_result (jump_target expression place d)
     obey place (Bra d) =
-        pop >>= λ top. of_result (if top == 0 then Ok place else target expression place d)
+        pop >>= λ top. of_result (if top == 0 then Ok place else jump_target expression place d)
 
     abbrev pub obey_read : ℕ → Result Operation Error → Act ℕ
     obey_read place (Ok o) = obey place o

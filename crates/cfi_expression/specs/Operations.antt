@@ -47,8 +47,8 @@ by_comparison opcode = choose opcode comparisons (Unsupported opcode)
 
 -- ---- arithmetic and logical operations (section 2.5.1.4): of two entries, and of one
 
-abbrev pub logic : List (ℕ × StackOperation)
-logic =
+abbrev pub logical_operations : List (ℕ × StackOperation)
+logical_operations =
     (0x1a, Binary And)
     ∷ (0x1b, Binary Div)
     ∷ (0x1c, Binary Minus)
@@ -63,10 +63,10 @@ logic =
     ∷ []
 
 unfoldable pub by_logic : ℕ → StackOperation
-by_logic opcode = choose opcode logic (by_comparison opcode)
+by_logic opcode = choose opcode logical_operations (by_comparison opcode)
 
-abbrev pub arithmetic : List (ℕ × Read StackOperation)
-arithmetic =
+abbrev pub arithmetic_operations : List (ℕ × Read StackOperation)
+arithmetic_operations =
     (0x19, give (Unary Abs))
     ∷ (0x1f, give (Unary Neg))
     ∷ (0x20, give (Unary Not))
@@ -74,7 +74,7 @@ arithmetic =
     ∷ []
 
 unfoldable pub by_arithmetic : ℕ → Read StackOperation
-by_arithmetic opcode = chosen_from opcode arithmetic (give (by_logic opcode))
+by_arithmetic opcode = chosen_from opcode arithmetic_operations (give (by_logic opcode))
 
 -- ---- stack operations (section 2.5.1.3), and the operation that does nothing (section 2.5.1.7)
 
@@ -123,8 +123,8 @@ unfoldable pub by_long_constant : ℕ → ℕ → Read StackOperation
 by_long_constant size opcode = chosen_from opcode (long_constants size) (by_stack size opcode)
 
 -- DW_OP_const1u, const2u, const4u, const1s, const2s, const4s
-abbrev pub constants : List (ℕ × Read StackOperation)
-constants =
+abbrev pub short_constants : List (ℕ × Read StackOperation)
+short_constants =
     (0x08, constant (unsigned w8))
     ∷ (0x0a, constant (unsigned w16))
     ∷ (0x0c, constant (unsigned w32))
@@ -134,7 +134,7 @@ constants =
     ∷ []
 
 unfoldable pub by_constant : ℕ → ℕ → Read StackOperation
-by_constant size opcode = chosen_from opcode constants (by_long_constant size opcode)
+by_constant size opcode = chosen_from opcode short_constants (by_long_constant size opcode)
 
 -- 0x30 to 0x4f are DW_OP_lit0 to lit31, 0x50 to 0x6f DW_OP_reg0 to reg31, which push nothing, and
 -- 0x70 to 0x8f DW_OP_breg0 to breg31
@@ -146,20 +146,20 @@ stack_operation size opcode =
     else if nat_lt opcode 0x90 then register_offset (record { 0 = opcode - 0x70 })
     else by_constant size opcode
 
--- ---- control flow: jumps (section 2.5.1.5)
+-- ---- control flow operations (section 2.5.1.5)
 
 -- DW_OP_bra, skip
-abbrev pub jumps : List (ℕ × Read Operation)
-jumps =
+abbrev pub control_flow_operations : List (ℕ × Read Operation)
+control_flow_operations =
     (0x28, signed w16 >>= λ d. give (Bra d))
     ∷ (0x2f, signed w16 >>= λ d. give (Skip d))
     ∷ []
 
-abbrev pub by_opcode : ℕ → ℕ → Read Operation
-by_opcode size opcode =
-    chosen_from opcode jumps (stack_operation size opcode >>= λ o. give (Stack o))
+abbrev pub operation_of : ℕ → ℕ → Read Operation
+operation_of size opcode =
+    chosen_from opcode control_flow_operations (stack_operation size opcode >>= λ o. give (Stack o))
 
 unfoldable pub operation : ℕ → Read Operation
 operation size = do
   opcode ← unsigned w8
-  by_opcode size opcode
+  operation_of size opcode

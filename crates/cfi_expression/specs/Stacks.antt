@@ -6,6 +6,7 @@
 use Rattle.std.specs.Prelude.{◌≡◌, ℕ, List, [], ◌∷◌, length, nat_lt, Result, Ok, Err, ok_or}
 use Rattle.std.specs.Prelude.{if◌then◌else◌}
 use Rattle.std.specs.List.{slice_get}
+use Rattle.cfi_read_core.specs.ReaderCalls.{map_ok}
 use Rattle.cfi_expression.specs.declared.error.FrameError.{FrameError}
 use Rattle.cfi_expression.specs.declared.error.FrameError.TheVariants.{NotEnoughStackItems}
 use Rattle.cfi_expression.specs.declared.error.FrameError.TheVariants.{StackFull}
@@ -54,10 +55,6 @@ pick stack index = ok_or (slice_get stack index) NotEnoughStackItems
 
 -- ---- calls
 
-abbrev pub map_value : {A B E : Type 0} → (A → B) → Result A E → Result B E
-map_value f (Ok x) = Ok (f x)
-map_value f (Err e) = Err e
-
 -- What a call returned, seen by view, and what it left of the stack, are those of the action.
 abbrev pub Acts : {X A : Type 0} → (X → A) → Act A → List ℕ → Result X FrameError → List ℕ → Type 0
-Acts view act old answer new = act old ≡ record { value = map_value view answer; stack = new }
+Acts view act old answer new = act old ≡ record { value = map_ok view answer; stack = new }

@@ -2,7 +2,7 @@
 ghost use Rattle.std.specs.Prelude.{◌≡◌, ℕ, Option};
 ghost use Rattle.cfi_read_core.specs.Addresses.{IsAddressSize};
 ghost use Rattle.cfi_read_core.specs.ReaderCalls.{ReadsValue};
-ghost use Rattle.cfi_expression.specs.Windows.{behind, number_in};
+ghost use Rattle.cfi_expression.specs.Windows.{at_distance, number_in};
 
 use cfi_read_core::{Reader, ReaderOffset};
 
@@ -37,7 +37,7 @@ impl<R: Reader> Memory for Window<R> {
             return None;
         }
         let mut input = self.bytes;
-        match number_behind(&mut input, address - self.base, size) {
+        match number_at_distance(&mut input, address - self.base, size) {
             Ok(number) => Some(number),
             Err(_error) => None,
         }
@@ -47,8 +47,12 @@ impl<R: Reader> Memory for Window<R> {
 /// Skips so many bytes, and reads a number.
 #[tactic(auto, unfolding(cfi_read_core::specs::Addresses::address))]
 #[inline(always)]
-fn number_behind<R: Reader>(input: &mut R, distance: u64, size: u8) -> cfi_read_core::Result<u64>
-    ensures { ReadsValue R.position (behind distance size) input.old result input.new }
+fn number_at_distance<R: Reader>(
+    input: &mut R,
+    distance: u64,
+    size: u8,
+) -> cfi_read_core::Result<u64>
+    ensures { ReadsValue R.position (at_distance distance size) input.old result input.new }
 {
     input.skip(R::Offset::from_u64(distance)?)?;
     // Most programs have addresses of eight bytes.

@@ -3,9 +3,10 @@ ghost use Rattle.std.specs.Prelude.{◌≡◌, ◌+◌, ◌-◌, nat_le, IfSome}
 ghost use Rattle.std.specs.Option.{option_map};
 ghost use Rattle.cfi_read_core.specs.ReaderCalls.{remaining};
 ghost use Rattle.cfi_expression.specs.Frames.{frame_view};
-ghost use Rattle.cfi_expression.specs.Evaluation.{effect, obey, rotate, some_if, step};
-ghost use Rattle.cfi_expression.specs.Evaluation.{swap, target};
-ghost use Rattle.cfi_expression.specs.Stacks.{Acts, map_value};
+ghost use Rattle.cfi_expression.specs.Evaluation.{effect, jump_target, obey, rotate};
+ghost use Rattle.cfi_expression.specs.Evaluation.{some_if, step, swap};
+ghost use Rattle.cfi_expression.specs.Stacks.{Acts};
+ghost use Rattle.cfi_read_core.specs.ReaderCalls.{map_ok};
 
 use crate::arithmetic::{low, one_of, two_of};
 use crate::error::FrameError;
@@ -130,8 +131,8 @@ fn rotate(stack: &mut Stack) -> Result<(), FrameError>
 /// Returns `FrameError::BadBranchTarget` if the jump leads out of the expression.
 fn jump<R: Reader>(expression: &R, input: &mut R, displacement: i16) -> Result<(), FrameError>
     requires { (R.position input.old).source ≡ (R.position expression.now).source }
-    ensures target { map_value (λ _. (R.position input.new).place) result
-        ≡ target (R.position expression.now) (R.position input.old).place displacement }
+    ensures target { map_ok (λ _. (R.position input.new).place) result
+        ≡ jump_target (R.position expression.now) (R.position input.old).place displacement }
     ensures source { (R.position input.new).source ≡ (R.position expression.now).source }
 {
     let distance = u64::from(displacement.unsigned_abs());

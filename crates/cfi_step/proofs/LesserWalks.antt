@@ -19,19 +19,16 @@ use Rattle.cfi_state.specs.declared.table.rules.RegisterRule.{RegisterRule}
 use Rattle.cfi_state.specs.declared.table.rules.RegisterRule.TheVariants as rule
 use Rattle.cfi_state.specs.Machine.{Parts}
 use Rattle.cfi_state.specs.Row.{Row}
-use Rattle.cfi_state.specs.MappedStates.{map_row}
 use Rattle.cfi_entry.specs.Augmentations.{is_trampoline}
 use Rattle.cfi_entry.specs.Fdes.{Fde}
 use Rattle.cfi_entry.specs.Sections.{Section}
 use Rattle.cfi_entry.specs.SectionViews.{debug_frame_view, eh_frame_view}
-use Rattle.cfi_unwind.specs.AddressRow.{IsRowOfFde}
 use Rattle.cfi_compiled.specs.CompiledTables.{TableContents, frame_at}
 use Rattle.cfi_compiled.specs.FrameParts.{FrameParts}
 use Rattle.std.specs.Borrow.{Bor}
 use Rattle.cfi_expression.specs.declared.error.FrameError.{FrameError}
 use Rattle.cfi_expression.specs.declared.error.FrameError.TheVariants.{NoRow}
 use Rattle.cfi_expression.specs.Frames.{Frame, known}
-use Rattle.cfi_expression.specs.Stacks.{map_value}
 use Rattle.cfi_expression.proofs.LesserFrames.{AreKnown, Extends, Same, is_lacking, lacks, same_number, same_register, same_self, same_value}
 use Rattle.cfi_step.specs.declared.abi.Abi.{Abi}
 use Rattle.cfi_step.specs.declared.step.Caller.{Caller}
@@ -41,11 +38,11 @@ use Rattle.cfi_step.specs.declared.walk.End.{End}
 use Rattle.cfi_step.specs.declared.walk.End.TheVariants.{Failed, NoModule}
 use Rattle.cfi_step.specs.declared.walk.StackFrame.{StackFrame}
 use Rattle.cfi_step.specs.declared.walk.Start.{Start}
-use Rattle.cfi_step.specs.Callers.{AreRecovered, by_rule, cfa_of, expression_value, given, is_signed, on_ok, pc_of, read_part, recovered, recovered_by, return_address, return_by, saved_at, value_at}
-use Rattle.cfi_step.specs.Modules.{IsStepByDebug, IsStepByFde, IsStepIn, IsStepOr, IsStepVia, address_in_file, first_module, module_section, no_fde}
-use Rattle.cfi_step.specs.Steps.{IsCallerBy, IsStepBy, caller_by}
+use Rattle.cfi_step.specs.Callers.{AreRecovered, by_rule, cfa_of, expression_value, given, is_signed, on_ok, pc_of, read_part, recovered, recovered_by, return_by, saved_at, value_at}
+use Rattle.cfi_step.specs.Modules.{IsStepByDebug, IsStepIn, IsStepOr, IsStepVia, address_in_file, first_module, module_section}
+use Rattle.cfi_step.specs.Steps.{IsStepByRow, IsStepBy, caller_by}
 use Rattle.cfi_step.specs.StepsByTable.{IsStepByFrame}
-use Rattle.cfi_step.specs.Walks.{IsStepAmong, IsStepOf, IsStepOver, IsWalkAmong, IsWalkBy, State, checked, resumed, resumed_at, written, address_of}
+use Rattle.cfi_step.specs.Walks.{IsStepAmong, IsStepOf, IsStepOver, IsWalkAmong, IsWalkBy, State, checked, resumed, written, address_of}
 
 -- ---- one result after the other
 
@@ -53,9 +50,9 @@ same_then : {A B : Type 0} (r r' : Result A FrameError) (next next' : A → Resu
 same_then (Ok x) r' next next' first others = record { same = λ whole. (others x).same whole ∙ ap (on_ok next') (first.same refl) }
 same_then (Err e) r' next next' first others = record { same = λ whole. ap (on_ok next') (first.same whole) }
 
-same_map : {A B : Type 0} (f : A → B) (r r' : Result A FrameError) → Same r r' → Same (map_value f r) (map_value f r')
-same_map f (Ok x) r' first = record { same = λ whole. ap (map_value f) (first.same refl) }
-same_map f (Err e) r' first = record { same = λ whole. ap (map_value f) (first.same whole) }
+same_map : {A B : Type 0} (f : A → B) (r r' : Result A FrameError) → Same r r' → Same (map_ok f r) (map_ok f r')
+same_map f (Ok x) r' first = record { same = λ whole. ap (map_ok f) (first.same refl) }
+same_map f (Err e) r' first = record { same = λ whole. ap (map_ok f) (first.same whole) }
 
 -- ---- the value of a register, which may be known only where more is
 
@@ -207,7 +204,7 @@ module _ {m m' : ℕ → ℕ → Option ℕ} {rs rs' : List (Option ℕ)} (size 
   no_row e (Err f) room caller is = refl
 
   module _ (section : Position) (abi : Abi) {T : Type 0} (number : T → ℕ) (result : Result Caller FrameError) (room caller : List (Option ℕ)) (long : length caller ≡ length room) (whole : lacks result ≡ false) where
-    by_row : (ra : Register) (trampoline : Bool) (row : Result (Row T) Error) → IsCallerBy less section abi number ra trampoline row result caller → More (IsCallerBy all section abi number ra trampoline row result) result room caller
+    by_row : (ra : Register) (trampoline : Bool) (row : Result (Row T) Error) → IsStepByRow less section abi number ra trampoline row result caller → More (IsStepByRow all section abi number ra trampoline row result) result room caller
     by_row ra trampoline (Ok row) is = caller_more section abi number ra trampoline row.parts result room caller long whole is
     by_row ra trampoline (Err e) is = record { written = room; is_step = is; follows = no_row e result room caller is }
 

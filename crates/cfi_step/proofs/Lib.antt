@@ -1,6 +1,7 @@
 pub mod Recovering
 pub mod Signatures
 pub mod FirstRules
+pub mod FoundFdes
 pub mod AsScanned
 pub mod SortedCode
 pub mod WorkedModules

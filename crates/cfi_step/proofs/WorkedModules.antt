@@ -4,7 +4,8 @@ use Rattle.cfi_parts.specs.declared.pointer.BaseAddresses.{BaseAddresses}
 use Rattle.cfi_entry.specs.declared.eh_frame.EhFrame.{EhFrame}
 use Rattle.cfi_step.specs.declared.module.LoadedModule.{LoadedModule}
 use Rattle.cfi_step.specs.CachedRows.{AreAlike}
-use Rattle.cfi_step.specs.Modules.{IsOutOfOrder, address_in_file, are_sorted, first_module}
+use Rattle.cfi_step.specs.CodeRanges.{IsOutOfOrder}
+use Rattle.cfi_step.specs.Modules.{address_in_file, are_sorted, code_end, code_start, first_module}
 
 -- 0x40001001, of a file that is loaded at 0x40000000
 in_file : address_in_file 1073741824 1073745921 ≡ 4097
@@ -35,16 +36,16 @@ module _ {R : Type 0} (frame : EhFrame R) (bases : BaseAddresses) where
   between : first_module in_order 9 ≡ None
   between = refl
 
-  overlapping : IsOutOfOrder (code 1 5 ∷ code 4 9 ∷ []) 1
+  overlapping : IsOutOfOrder code_start code_end (code 1 5 ∷ code 4 9 ∷ []) 1
   overlapping = (refl, refl)
 
-  one_in_another : IsOutOfOrder (code 1 9 ∷ code 2 3 ∷ []) 1
+  one_in_another : IsOutOfOrder code_start code_end (code 1 9 ∷ code 2 3 ∷ []) 1
   one_in_another = (refl, refl)
 
-  backwards : IsOutOfOrder (code 1 5 ∷ code 9 8 ∷ code 9 12 ∷ []) 1
+  backwards : IsOutOfOrder code_start code_end (code 1 5 ∷ code 9 8 ∷ code 9 12 ∷ []) 1
   backwards = (refl, refl)
 
-  swapped : IsOutOfOrder (code 5 9 ∷ code 1 5 ∷ []) 1
+  swapped : IsOutOfOrder code_start code_end (code 5 9 ∷ code 1 5 ∷ []) 1
   swapped = (refl, refl)
 
   -- ---- numbers of files

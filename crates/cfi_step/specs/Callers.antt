@@ -28,7 +28,7 @@ use Rattle.cfi_expression.specs.declared.error.FrameError.TheVariants.{Architect
 use Rattle.cfi_expression.specs.Arithmetic.{displaced}
 use Rattle.cfi_expression.specs.Frames.{Frame, known, register_in, number_at}
 use Rattle.cfi_expression.specs.Evaluation.{value_of}
-use Rattle.cfi_expression.specs.Stacks.{map_value}
+use Rattle.cfi_read_core.specs.ReaderCalls.{map_ok}
 use Rattle.cfi_step.specs.declared.abi.Abi.{Abi}
 
 abbrev pub on_ok :
@@ -47,7 +47,7 @@ read_part section extent =
 
 -- what is saved at an address
 abbrev pub saved_at : Frame → ℕ → Result (Option ℕ) FrameError
-saved_at frame a = map_value Some (number_at frame a frame.size)
+saved_at frame a = map_ok Some (number_at frame a frame.size)
 
 -- AArch64's pseudo-register 34, RA_SIGN_STATE, is 1 where the return address is signed
 abbrev pub is_signed : {T : Type 0} → Option (RegisterRule T) → Bool
@@ -91,7 +91,7 @@ module _ (frame : Frame) (section : Position) (abi : Abi) where
     by_rule the_cfa k (rule.Expression e) =
         on_ok (saved_at frame) (expression_value (map_expression number e) (Some the_cfa))
     by_rule the_cfa k (rule.ValExpression e) =
-        map_value Some (expression_value (map_expression number e) (Some the_cfa))
+        map_ok Some (expression_value (map_expression number e) (Some the_cfa))
     by_rule the_cfa k rule.Architectural = Err ArchitecturalRule
     by_rule the_cfa k (rule.Constant n) = Ok (Some n)
 

@@ -8,6 +8,7 @@ pub mod ModuleLists
 pub mod Marks
 pub mod PackedRules
 pub mod PackedRows
+pub mod KeptSlots
 pub mod Slots
 pub mod CachedRows
 pub mod Walks

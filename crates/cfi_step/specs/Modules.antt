@@ -17,8 +17,6 @@
 --     has_code loaded a, first_module modules a      the module whose code the address is in
 --     are_sorted low modules      whether modules are in the order of their addresses, with no
 --         overlap
---     IsOutOfOrder modules k      the first module that isn't, by its index
---     IsInOneAtMost modules a      no two modules have the address in their code
 use Rattle.std.specs.Prelude.{◌≡◌, ◌≢◌, ◌⊎◌, ℕ, ◌+◌, ◌-◌, ◌%◌, ◌^◌, Bool, List, Option, Some}
 use Rattle.std.specs.Prelude.{None, Result, Err, IfOk}
 use Rattle.std.specs.Borrow.{Bor}
@@ -122,26 +120,17 @@ module _ {R T : Type 0} (position : R → Position) (number : T → ℕ) (frame 
 -- ---- several modules
 
 module _ {R : Type 0} where
-  abbrev pub start_of : LoadedModule R → ℕ
-  start_of loaded = loaded.start
+  abbrev pub code_start : LoadedModule R → ℕ
+  code_start loaded = loaded.start
 
-  abbrev pub end_of : LoadedModule R → ℕ
-  end_of loaded = loaded.end
+  abbrev pub code_end : LoadedModule R → ℕ
+  code_end loaded = loaded.end
 
   abbrev pub has_code : LoadedModule R → ℕ → Bool
-  has_code = ranges.has_code start_of end_of
+  has_code = ranges.has_code code_start code_end
 
   abbrev pub first_module : List (LoadedModule R) → ℕ → Option (LoadedModule R)
-  first_module = ranges.first_with_code start_of end_of
-
-  abbrev pub begins_from : ℕ → LoadedModule R → Bool
-  begins_from = ranges.begins_from start_of end_of
+  first_module = ranges.first_with_code code_start code_end
 
   abbrev pub are_sorted : ℕ → List (LoadedModule R) → Bool
-  are_sorted = ranges.are_sorted start_of end_of
-
-  abbrev pub IsOutOfOrder : List (LoadedModule R) → ℕ → Type 0
-  IsOutOfOrder = ranges.IsOutOfOrder start_of end_of
-
-  abbrev pub IsInOneAtMost : List (LoadedModule R) → ℕ → Type 0
-  IsInOneAtMost = ranges.IsInOneAtMost start_of end_of
+  are_sorted = ranges.are_sorted code_start code_end

@@ -2,19 +2,17 @@
 -- in the file (DWARF 5 section 6.4.1; LSB Core, "The Frame Description Entry Format").
 --     parts_packed row, function_packed row      what a packed row says of the caller, and of the
 --         function
---     without_pointers row      the function, but for its pointers
 --     plain_packed row      the function, if it has no pointers
 --     HoldsRow file a row      it is the row of an address of a file
---     HoldsAtMost file a parts function row      it is the row that says this, or none
---     KeepsRow file a parts function old new      a row that says this may have been kept
---     SaysRowOf .. section a fde row      the row says what the FDE has for the address
+--     IsPackedOf parts function row      the row says this
+--     IsPackedFor .. section a fde row      the row says what the FDE has for the address
 --     KeepsFound .. section a found file old new      what the FDE that is found has for the
 --         address may have been kept
 --     IsKept .. loaded a file old new      what the FDE that the module has for an address of the
 --         file has may have been kept
 --     AreEmpty rows      none is a row
-use Rattle.std.specs.Prelude.{◌≡◌, ◌⊎◌, ℕ, ℤ, Bool, false, true, List, map, Option, Some, None}
-use Rattle.std.specs.Prelude.{Result, Ok, Err, IfOk, slice_set, take, if◌then◌else◌}
+use Rattle.std.specs.Prelude.{◌≡◌, ℕ, ℤ, Bool, false, true, List, map, Option, Some, None}
+use Rattle.std.specs.Prelude.{Result, Ok, Err, IfOk, take, if◌then◌else◌}
 use Rattle.std.specs.List.{All}
 use Rattle.cfi_read_core.specs.declared.error.Error.{Error}
 use Rattle.cfi_read_core.specs.ReadFunctions.{Position}
@@ -38,6 +36,7 @@ use Rattle.cfi_step.specs.declared.marks.PointerKind.TheVariants as pointer
 use Rattle.cfi_step.specs.declared.packed_rows.SmallNumbers.{SmallNumbers}
 use Rattle.cfi_step.specs.declared.row_cache.RowCache.{RowCache}
 use Rattle.cfi_step.specs.Functions.{function_of}
+use Rattle.cfi_step.specs.KeptSlots.{Keeps}
 use Rattle.cfi_step.specs.Modules.{IsFoundIn, module_section}
 use Rattle.cfi_step.specs.Marks.{args_size, has_row, is_trampoline, lsda_kind, personality_kind}
 use Rattle.cfi_step.specs.Marks.{is_plain, rule_count}
@@ -72,28 +71,22 @@ AreNumbersOf parts function n =
 abbrev pub near : PackedRow → ℤ → ℕ
 near row distance = displaced 8 row.address distance
 
-abbrev pub function_packed : PackedRow → Function
-function_packed row = record {
+-- the function, with these pointers
+abbrev pub function_with : PackedRow → Option Pointer → Option Pointer → Function
+function_with row lsda personality = record {
   start = near row row.distances.start;
   end = near row row.distances.end;
-  lsda = pointer_of (lsda_kind row.numbers.marks) (near row row.distances.lsda);
-  personality =
-      pointer_of (personality_kind row.numbers.marks) (near row row.distances.personality);
+  lsda = lsda;
+  personality = personality;
   return_address = numbered row.numbers.return_address;
   is_signal_trampoline = is_trampoline row.numbers.marks;
   offset = row.numbers.fde;
 }
 
-abbrev pub without_pointers : PackedRow → Function
-without_pointers row = record {
-  start = near row row.distances.start;
-  end = near row row.distances.end;
-  lsda = None;
-  personality = None;
-  return_address = numbered row.numbers.return_address;
-  is_signal_trampoline = is_trampoline row.numbers.marks;
-  offset = row.numbers.fde;
-}
+abbrev pub function_packed : PackedRow → Function
+function_packed row =
+    function_with row (pointer_of (lsda_kind row.numbers.marks) (near row row.distances.lsda))
+    (pointer_of (personality_kind row.numbers.marks) (near row row.distances.personality))
 
 abbrev pub plain_packed : PackedRow → Option Function
 plain_packed row = if is_plain row.numbers.marks then Some (function_packed row) else None
@@ -107,40 +100,22 @@ HoldsRow file a row = (is_kept row ≡ true) × (row.file ≡ file) × (row.addr
 
 -- ---- a row is kept
 
-abbrev pub Says : Parts ℕ → Function → PackedRow → Type 0
-Says parts function row = (parts_packed row ≡ parts) × (function_packed row ≡ function)
-
--- this row of the address, or none
-abbrev pub HoldsAtMost : ℕ → ℕ → Parts ℕ → Function → PackedRow → Type 0
-HoldsAtMost file a parts function row =
-    (other b : ℕ) → HoldsRow other b row → (other ≡ file) × (b ≡ a) × Says parts function row
-
--- one row at most is written
-abbrev pub KeepsRow :
-    ℕ → ℕ → Parts ℕ → Function → List PackedRow → List PackedRow → Type 0
-KeepsRow file a parts function old new =
-    (new ≡ old) ⊎ ((k : ℕ) × (row : PackedRow) × (new ≡ slice_set old k row)
-    × HoldsAtMost file a parts function row)
+abbrev pub IsPackedOf : Parts ℕ → Function → PackedRow → Type 0
+IsPackedOf parts function row = (parts_packed row ≡ parts) × (function_packed row ≡ function)
 
 -- ---- rows of an FDE
 
 module _ (rule_limit stack_limit : Option ℕ) (copies_free : Bool) (section : Section) (a : ℕ) where
   -- the row says what the FDE has for the address
-  abbrev pub SaysRowOf : Fde → PackedRow → Type 0
-  SaysRowOf fde row =
+  abbrev pub IsPackedFor : Fde → PackedRow → Type 0
+  IsPackedFor fde row =
       (found : Row ℕ)
       × IsRowOfFde rule_limit stack_limit copies_free section a fde
       (Ok (map_row (λ (n : ℕ). n) found))
-      × Says found.parts (function_of fde) row
-
-  -- one row at most is written, and then is that of this address of the file, or none
-  abbrev pub KeepsRowOf : Fde → ℕ → List PackedRow → List PackedRow → Type 0
-  KeepsRowOf fde file old new =
-      (new ≡ old) ⊎ ((k : ℕ) × (row : PackedRow) × (new ≡ slice_set old k row)
-      × ((other b : ℕ) → HoldsRow other b row → (other ≡ file) × (b ≡ a) × SaysRowOf fde row))
+      × IsPackedOf found.parts (function_of fde) row
 
   abbrev pub KeepsFound : Result Fde Error → ℕ → List PackedRow → List PackedRow → Type 0
-  KeepsFound (Ok fde) file old new = KeepsRowOf fde file old new
+  KeepsFound (Ok fde) file old new = Keeps HoldsRow file a (IsPackedFor fde) old new
   KeepsFound (Err e) file old new = new ≡ old
 
 -- ---- a cache

@@ -2,11 +2,11 @@
 -- the return (DWARF 5 section 6.4.1).
 --     HoldsRowOf file a slot      it holds the row of an address of a file
 --     Says parts ra trampoline slot      what its row says, and what the CIE says of the return
---     HoldsAtMost file a parts ra trampoline slot      it holds a row that says this, or none
+--     HoldsRowAtMost file a parts ra trampoline slot      it holds a row that says this, or none
 --     KeepsRow file a parts ra trampoline old new      a row that says this may have been kept
 --     SaysRowOf .. a fde slot      the slot says what the FDE has for the address
 --     KeepsRowOf .. a fde file old new      what the FDE has for the address may have been kept
-use Rattle.std.specs.Prelude.{◌≡◌, ◌⊎◌, ℕ, Bool, true, List, Option, Ok, slice_set}
+use Rattle.std.specs.Prelude.{◌≡◌, ℕ, Bool, true, List, Option, Ok}
 use Rattle.cfi_read_core.specs.declared.common.Register.{Register}
 use Rattle.cfi_state.specs.Machine.{Parts}
 use Rattle.cfi_state.specs.MappedStates.{map_row}
@@ -15,6 +15,7 @@ use Rattle.cfi_entry.specs.Augmentations.{is_trampoline}
 use Rattle.cfi_entry.specs.Fdes.{Fde}
 use Rattle.cfi_entry.specs.Sections.{Section}
 use Rattle.cfi_unwind.specs.AddressRow.{IsRowOfFde}
+use Rattle.cfi_step.specs.KeptSlots.{HoldsAtMost, Keeps}
 
 pub record Slot (T : Type 0) : Type 0 where
   pub is_kept : Bool
@@ -33,18 +34,18 @@ module _ {T : Type 0} where
   Says parts ra trampoline slot =
       (slot.parts ≡ parts) × (slot.return_address ≡ ra) × (slot.is_signal_trampoline ≡ trampoline)
 
-  -- this row of the address, or none
-  abbrev pub HoldsAtMost : ℕ → ℕ → Parts T → Register → Bool → Slot T → Type 0
-  HoldsAtMost file a parts ra trampoline slot =
-      (other b : ℕ) → HoldsRowOf other b slot →
-      (other ≡ file) × (b ≡ a) × Says parts ra trampoline slot
+  -- a row that says this, or none
+  abbrev pub HoldsRowAtMost : ℕ → ℕ → Parts T → Register → Bool → Slot T → Type 0
+  HoldsRowAtMost file a parts ra trampoline =
+      HoldsAtMost HoldsRowOf file a (Says parts ra trampoline)
 
--- one slot at most is written
-abbrev pub KeepsRow :
-    {K T : Type 0} → (K → Slot T) → ℕ → ℕ → Parts T → Register → Bool → List K → List K → Type 0
-KeepsRow {K} slot_of file a parts ra trampoline old new =
-    (new ≡ old) ⊎ ((k : ℕ) × (slot : K) × (new ≡ slice_set old k slot)
-    × HoldsAtMost file a parts ra trampoline (slot_of slot))
+module _ {K T : Type 0} (slot_of : K → Slot T) where
+  abbrev pub HoldsIn : ℕ → ℕ → K → Type 0
+  HoldsIn file a slot = HoldsRowOf file a (slot_of slot)
+
+  abbrev pub KeepsRow : ℕ → ℕ → Parts T → Register → Bool → List K → List K → Type 0
+  KeepsRow file a parts ra trampoline =
+      Keeps HoldsIn file a (λ slot. Says parts ra trampoline (slot_of slot))
 
 -- ---- rows of an FDE
 
@@ -57,9 +58,6 @@ module _ {T : Type 0} (number : T → ℕ) (rule_limit stack_limit : Option ℕ)
       × IsRowOfFde rule_limit stack_limit copies_free section a fde (Ok (map_row number row))
       × Says row.parts fde.cie.return_address_register (is_trampoline fde.cie.augmentation) slot
 
-  -- one slot at most is written, and then holds the row of this address of the file, or none
   abbrev pub KeepsRowOf : {K : Type 0} → (K → Slot T) → ℕ → List K → List K → Type 0
-  KeepsRowOf {K} slot_of file old new =
-      (new ≡ old) ⊎ ((k : ℕ) × (slot : K) × (new ≡ slice_set old k slot)
-      × ((other b : ℕ) → HoldsRowOf other b (slot_of slot) →
-      (other ≡ file) × (b ≡ a) × SaysRowOf (slot_of slot)))
+  KeepsRowOf slot_of file =
+      Keeps (HoldsIn slot_of) file a (λ slot. SaysRowOf (slot_of slot))

@@ -2,8 +2,8 @@
 --     row_address pc is_interrupted      the address by which the row of a frame is found
 --     caller_by ra trampoline parts      the CFA, the caller's pc, whether the frame is a signal
 --         trampoline's, and the size of the arguments that it has pushed
---     IsCallerBy ra trampoline row result caller      what a step returns and writes by a row, or
---         by the error in its place
+--     IsStepByParts ra trampoline parts result caller      what a step returns and writes by what a
+--         row says; IsStepByRow by the row, or the error in its place
 --     IsStepBy .. section a found result caller      the same by the FDE that is found for the
 --         address, or the error in its place
 use Rattle.std.specs.Prelude.{◌≡◌, ℕ, ◌+◌, ◌-◌, ◌%◌, ◌^◌, Bool, true, false, List, length, Option}
@@ -22,7 +22,6 @@ use Rattle.cfi_unwind.specs.AddressRow.{IsRowOfFde}
 use Rattle.cfi_expression.specs.declared.error.FrameError.{FrameError}
 use Rattle.cfi_expression.specs.declared.error.FrameError.TheVariants.{NoRow}
 use Rattle.cfi_expression.specs.Frames.{Frame}
-use Rattle.cfi_expression.specs.Stacks.{map_value}
 use Rattle.cfi_step.specs.declared.abi.Abi.{Abi}
 use Rattle.cfi_step.specs.declared.step.Caller.{Caller}
 use Rattle.cfi_step.specs.Callers.{AreRecovered, cfa_of, on_ok, return_address}
@@ -39,7 +38,7 @@ module _ (frame : Frame) (bytes : Position) (abi : Abi) {T : Type 0} (number : T
   caller_by ra trampoline parts =
       on_ok
       (λ the_cfa.
-      map_value
+      map_ok
       (λ pc. record {
         cfa = the_cfa;
         pc = pc;
@@ -49,13 +48,17 @@ module _ (frame : Frame) (bytes : Position) (abi : Abi) {T : Type 0} (number : T
       (return_address frame bytes abi number parts the_cfa ra))
       (cfa_of frame bytes abi number parts.cfa)
 
-  abbrev pub IsCallerBy :
+  abbrev pub IsStepByParts :
+      Register → Bool → Parts T → Result Caller FrameError → List (Option ℕ) → Type 0
+  IsStepByParts ra trampoline parts result caller =
+      (result ≡ caller_by ra trampoline parts)
+      × IfOk result (λ c. AreRecovered frame bytes abi number parts c.cfa (length caller) caller)
+
+  abbrev pub IsStepByRow :
       Register → Bool → Result (Row T) Error → Result Caller FrameError → List (Option ℕ) → Type 0
-  IsCallerBy ra trampoline (Ok row) result caller =
-      (result ≡ caller_by ra trampoline row.parts)
-      × IfOk result
-      (λ c. AreRecovered frame bytes abi number row.parts c.cfa (length caller) caller)
-  IsCallerBy ra trampoline (Err e) result caller = result ≡ Err (NoRow e)
+  IsStepByRow ra trampoline (Ok row) result caller =
+      IsStepByParts ra trampoline row.parts result caller
+  IsStepByRow ra trampoline (Err e) result caller = result ≡ Err (NoRow e)
 
   -- over a storage with these limits
   abbrev pub IsStepBy :
@@ -64,7 +67,7 @@ module _ (frame : Frame) (bytes : Position) (abi : Abi) {T : Type 0} (number : T
   IsStepBy rule_limit stack_limit copies_free section a (Ok fde) result caller =
       (row : Result (Row T) Error)
       × IsRowOfFde rule_limit stack_limit copies_free section a fde (map_ok (map_row number) row)
-      × IsCallerBy fde.cie.return_address_register (is_trampoline fde.cie.augmentation) row result
+      × IsStepByRow fde.cie.return_address_register (is_trampoline fde.cie.augmentation) row result
       caller
   IsStepBy rule_limit stack_limit copies_free section a (Err e) result caller =
       result ≡ Err (NoRow e)

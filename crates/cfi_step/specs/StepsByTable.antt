@@ -3,7 +3,7 @@
 --         row and the CIE, or by the error in their place
 --     IsStepAsScanned frame bytes abi table a result caller      for whatever section the table is
 --         compiled: the step by a scan of it
-use Rattle.std.specs.Prelude.{◌≡◌, ℕ, Bool, List, length, Option, Result, Ok, Err, IfOk}
+use Rattle.std.specs.Prelude.{◌≡◌, ℕ, Bool, List, Option, Result, Ok, Err}
 use Rattle.cfi_read_core.specs.declared.error.Error.{Error}
 use Rattle.cfi_read_core.specs.ReadFunctions.{Position}
 use Rattle.cfi_entry.specs.Sections.{Section}
@@ -15,18 +15,14 @@ use Rattle.cfi_expression.specs.declared.error.FrameError.TheVariants.{NoRow}
 use Rattle.cfi_expression.specs.Frames.{Frame}
 use Rattle.cfi_step.specs.declared.abi.Abi.{Abi}
 use Rattle.cfi_step.specs.declared.step.Caller.{Caller}
-use Rattle.cfi_step.specs.Callers.{AreRecovered}
-use Rattle.cfi_step.specs.Steps.{IsStepBy, caller_by}
+use Rattle.cfi_step.specs.Steps.{IsStepBy, IsStepByParts}
 
 module _ (frame : Frame) (bytes : Position) (abi : Abi) where
   abbrev pub IsStepByFrame :
       Result FrameParts Error → Result Caller FrameError → List (Option ℕ) → Type 0
   IsStepByFrame (Ok found) result caller =
-      (result
-      ≡ caller_by frame bytes abi (λ n. n) found.return_address found.is_signal_trampoline
-      found.parts)
-      × IfOk result
-      (λ c. AreRecovered frame bytes abi (λ n. n) found.parts c.cfa (length caller) caller)
+      IsStepByParts frame bytes abi (λ n. n) found.return_address found.is_signal_trampoline
+      found.parts result caller
   IsStepByFrame (Err e) result caller = result ≡ Err (NoRow e)
 
   -- over a storage with the limits of the table

@@ -13,12 +13,11 @@ use Rattle.std.specs.Prelude.{is_none, nat_lt, Option, Some, None, Result, Ok, E
 use Rattle.std.specs.Prelude.{if◌then◌else◌}
 use Rattle.cfi_read_core.specs.ReadFunctions.{Position}
 use Rattle.cfi_expression.specs.declared.error.FrameError.{FrameError}
-use Rattle.cfi_expression.specs.Frames.{Frame}
 use Rattle.cfi_read_core.specs.AddressSizes.{size_in_bytes}
 use Rattle.cfi_step.specs.declared.abi.Abi.{Abi}
 use Rattle.cfi_step.specs.declared.step.Caller.{Caller}
 use Rattle.cfi_step.specs.declared.module.LoadedModule.{LoadedModule}
-use Rattle.cfi_step.specs.declared.walk.Process.{Process}
+use Rattle.cfi_step.specs.declared.process.Process.{Process}
 use Rattle.cfi_step.specs.declared.walk.StackFrame.{StackFrame}
 use Rattle.cfi_step.specs.declared.walk.Start.{Start}
 use Rattle.cfi_step.specs.declared.walk.Walk.{Walk}
@@ -140,19 +139,6 @@ module _ {R T : Type 0} (position : R → Position) (number : T → ℕ) (memory
 module _ {R M T : Type 0} (position : R → Position) (number : T → ℕ)
     (number_at : M → ℕ → ℕ → Option ℕ) (rule_limit stack_limit : Option ℕ) (copies_free : Bool)
     (process : Process R M) where
-  abbrev pub frame_in : State → Frame
-  frame_in s = record {
-    registers = s.registers;
-    memory = number_at process.memory.now;
-    size = size_in_bytes process.address_size;
-  }
-
-  abbrev pub IsStepInModule :
-      LoadedModule R → State → Result Caller FrameError → List (Option ℕ) → Type 0
-  IsStepInModule =
-      IsStepOver position number (number_at process.memory.now) (size_in_bytes process.address_size)
-      process.abi rule_limit stack_limit copies_free
-
   abbrev pub IsStepFrom : State → Result Caller End → List (Option ℕ) → Type 0
   IsStepFrom =
       IsStepAmong position number (number_at process.memory.now)

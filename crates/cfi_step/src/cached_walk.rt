@@ -6,7 +6,8 @@ ghost use Rattle.cfi_step.specs.ModuleLists.{module_list};
 ghost use Rattle.cfi_step.specs.Walks.{IsWalk};
 
 use crate::cached_rows::CachedRow;
-use crate::walk::{End, Process, StackFrame, Walk, write_frames};
+use crate::process::Process;
+use crate::walk::{End, StackFrame, Walk, write_frames};
 use cfi_expression::Memory;
 use gimli_cfi::{Reader, UnwindContext, UnwindContextStorage};
 

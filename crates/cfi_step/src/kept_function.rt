@@ -1,15 +1,19 @@
 //! The row of an address with what its FDE says, both of which are kept in a cache.
+ghost use Rattle.std.specs.Prelude.{IfOk};
 ghost use Rattle.cfi_read_core.specs.Addresses.{IsAddressSize};
+ghost use Rattle.cfi_read_core.specs.ReaderCalls.{map_ok};
 ghost use Rattle.cfi_entry.specs.Sections.{section_of};
-ghost use Rattle.cfi_entry.specs.SectionViews.{eh_frame_view};
 ghost use Rattle.cfi_unwind.specs.FdeViews.{HasCieOf, IsFdeOf, fde_view};
 ghost use Rattle.cfi_step.specs.Modules.{address_in_file};
-ghost use Rattle.cfi_step.specs.PackedRows.{IsKept, KeepsRowOf, rows_in};
+ghost use Rattle.cfi_step.specs.PackedRows.{IsKept, KeepsFound, rows_in};
 
 use crate::function::function_of;
 use crate::module::{LoadedModule, fde_in_module};
 use crate::row_cache::RowCache;
-use gimli_cfi::{FrameDescriptionEntry, Reader, UnwindContext, UnwindContextStorage};
+use gimli_cfi::{
+    BaseAddresses, FrameDescriptionEntry, Reader, UnwindContext, UnwindContextStorage,
+    UnwindSection,
+};
 
 /// Keeps in the cache, under the number of the file, the row that a module has for an address
 /// (`row_address`), with what the FDE says of the function: by the FDE that `fde_in_module` finds,
@@ -30,32 +34,46 @@ pub fn keep_row<R: Reader<Offset = usize>, S: UnwindContextStorage<usize>>(
         loaded.now (address_in_file loaded.now.bias address) file
         (rows_in cache.old) (rows_in cache.new) }
 {
-    let address_in_file = loaded.address_in_file(address);
-    match fde_in_module(loaded, address_size, address_in_file) {
-        Ok(fde) => keep_row_of(&fde, loaded, cache, file, ctx, address_in_file),
-        Err(_error) => {}
-    }
+    let address = loaded.address_in_file(address);
+    let found = fde_in_module(loaded, address_size, address);
+    keep_found(
+        found,
+        &loaded.frame,
+        &loaded.bases,
+        cache,
+        file,
+        ctx,
+        address,
+    );
 }
 
-/// Keeps the row that the FDE has for the address.
-fn keep_row_of<R: Reader<Offset = usize>, S: UnwindContextStorage<usize>>(
-    fde: &FrameDescriptionEntry<R>,
-    loaded: &LoadedModule<'_, R>,
+/// Keeps the row that the FDE has for the address, if one was found. The FDE and its CIE are of the
+/// section.
+pub fn keep_found<
+    R: Reader<Offset = usize>,
+    Section: UnwindSection<R>,
+    S: UnwindContextStorage<usize>,
+>(
+    found: gimli_cfi::Result<FrameDescriptionEntry<R>>,
+    section: &Section,
+    bases: &BaseAddresses,
     cache: &mut RowCache,
     file: u64,
     ctx: &mut UnwindContext<usize, S>,
     address: u64,
 )
-    requires own { IsFdeOf R.position (eh_frame_view R.position loaded.now.frame).position fde.now }
-    requires cie { HasCieOf R.position
-        (eh_frame_view R.position loaded.now.frame).position fde.now }
-    ensures { KeepsRowOf S.Rules.limit S.Stack.limit S.Rules.copies_free
-        (section_of (eh_frame_view R.position loaded.now.frame) loaded.now.bases) address
-        (fde_view R.position (λ n. n) fde.now) file
+    requires own { IfOk found (IsFdeOf R.position (Section.view section.now).position) }
+    requires cie { IfOk found (HasCieOf R.position (Section.view section.now).position) }
+    ensures { KeepsFound S.Rules.limit S.Stack.limit S.Rules.copies_free
+        (section_of (Section.view section.now) bases.now) address
+        (map_ok (fde_view R.position (λ n. n)) found) file
         (rows_in cache.old) (rows_in cache.new) }
 {
-    match fde.unwind_info_for_address(&loaded.frame, &loaded.bases, ctx, address) {
-        Ok(row) => cache.keep(file, address, row, &function_of(fde)),
+    let Ok(fde) = found else {
+        return;
+    };
+    match fde.unwind_info_for_address(section, bases, ctx, address) {
+        Ok(row) => cache.keep(file, address, row, &function_of(&fde)),
         Err(_error) => {}
     }
 }

@@ -70,11 +70,11 @@ impl<R> LoadedModule<'_, R> {
 }
 
 impl<R> HasCode for LoadedModule<'_, R> {
-    ghost use Rattle.cfi_step.specs.Modules.{end_of, start_of};
+    ghost use Rattle.cfi_step.specs.Modules.{code_end, code_start};
 
-    ghost start = { start_of };
+    ghost start = { code_start };
 
-    ghost end = { end_of };
+    ghost end = { code_end };
 
     #[inline(always)]
     fn start(&self) -> u64 {

@@ -37,8 +37,8 @@ impl<'a, R> Modules<'a, R> {
     ghost use Rattle.std.specs.Prelude.{◌≡◌, true, IfErr, OkIff};
     ghost use Rattle.std.specs.Option.{option_map};
     ghost use Rattle.cfi_read_core.specs.ReaderCalls.{map_ok};
-    ghost use Rattle.cfi_step.specs.Modules.{IsInOneAtMost, IsOutOfOrder};
-    ghost use Rattle.cfi_step.specs.Modules.{are_sorted, first_module};
+    ghost use Rattle.cfi_step.specs.CodeRanges.{IsInOneAtMost, IsOutOfOrder};
+    ghost use Rattle.cfi_step.specs.Modules.{are_sorted, code_end, code_start, first_module};
     ghost use Rattle.cfi_step.specs.ModuleLists.{module_list};
 
     /// The modules, if the code of each begins at or after the end of the one before it.
@@ -48,7 +48,8 @@ impl<'a, R> Modules<'a, R> {
     pub fn new(list: &'a [LoadedModule<'a, R>]) -> Result<Self, OutOfOrder>
         ensures sorted { OkIff (map_ok module_list result)
             (are_sorted 0 list.now ≡ true) list.now }
-        ensures out_of_order { IfErr result (λ first. IsOutOfOrder list.now first.index) }
+        ensures out_of_order { IfErr result (λ first.
+            IsOutOfOrder code_start code_end list.now first.index) }
     {
         match out_of_order(list) {
             None => Ok(Modules { list }),
@@ -61,7 +62,7 @@ impl<'a, R> Modules<'a, R> {
     pub fn module_of(&self, address: u64) -> Option<&'a LoadedModule<'a, R>>
         ensures module { option_map (λ loaded. loaded.now) result
             ≡ first_module (module_list self.now) address }
-        ensures only { IsInOneAtMost (module_list self.now) address }
+        ensures only { IsInOneAtMost code_start code_end (module_list self.now) address }
     {
         code_at(self.list, address)
     }

@@ -58,9 +58,10 @@ pub struct PackedRow {
 impl PackedRow {
     ghost use Rattle.std.specs.Prelude.{◌≡◌, ◌↔◌, IfSome, IsTrue, None, false};
     ghost use Rattle.cfi_step.specs.Marks.{has_row, is_trampoline};
-    ghost use Rattle.cfi_step.specs.PackedRows.{HoldsAtMost, HoldsRow, function_packed};
+    ghost use Rattle.cfi_step.specs.KeptSlots.{HoldsAtMost};
+    ghost use Rattle.cfi_step.specs.PackedRows.{HoldsRow, IsPackedOf, function_packed};
+    ghost use Rattle.cfi_step.specs.PackedRows.{function_with};
     ghost use Rattle.cfi_step.specs.PackedRows.{is_kept, listed, parts_packed, plain_packed};
-    ghost use Rattle.cfi_step.specs.PackedRows.{without_pointers};
     ghost use Rattle.cfi_step.specs.PackedRules.{eightfold};
 
     /// No row. Does not allocate.
@@ -175,21 +176,15 @@ impl PackedRow {
     pub fn function(&self) -> Function
         ensures { result ≡ function_packed self.now }
     {
-        let address = self.address;
-        let distances = self.distances;
         let marks = self.numbers.marks;
-        Function {
-            start: displaced(address, distances.start),
-            end: displaced(address, distances.end),
-            lsda: pointer_of(marks.lsda_kind(), displaced(address, distances.lsda)),
-            personality: pointer_of(
+        let distances = self.distances;
+        self.function_with(
+            pointer_of(marks.lsda_kind(), displaced(self.address, distances.lsda)),
+            pointer_of(
                 marks.personality_kind(),
-                displaced(address, distances.personality),
+                displaced(self.address, distances.personality),
             ),
-            return_address: Register(u16::from(self.numbers.return_address)),
-            is_signal_trampoline: marks.is_signal_trampoline(),
-            offset: u64::from(self.numbers.fde),
-        }
+        )
     }
 
     /// The same, if the FDE has neither a language-specific data area nor a personality routine.
@@ -200,23 +195,21 @@ impl PackedRow {
             × (plain.lsda ≡ None) × (plain.personality ≡ None)) }
     {
         if self.numbers.marks.is_plain() {
-            return Some(self.without_pointers());
+            return Some(self.function_with(None, None));
         }
         None
     }
 
-    /// What the FDE says of the function but for its pointers.
+    /// What the FDE says of the function, with these pointers.
     #[inline(always)]
-    fn without_pointers(&self) -> Function
-        ensures { result ≡ without_pointers self.now }
+    fn function_with(&self, lsda: Option<Pointer>, personality: Option<Pointer>) -> Function
+        ensures { result ≡ function_with self.now lsda personality }
     {
-        let address = self.address;
-        let distances = self.distances;
         Function {
-            start: displaced(address, distances.start),
-            end: displaced(address, distances.end),
-            lsda: None,
-            personality: None,
+            start: displaced(self.address, self.distances.start),
+            end: displaced(self.address, self.distances.end),
+            lsda,
+            personality,
             return_address: Register(u16::from(self.numbers.return_address)),
             is_signal_trampoline: self.numbers.marks.is_signal_trampoline(),
             offset: u64::from(self.numbers.fde),
@@ -232,7 +225,8 @@ impl PackedRow {
         row: &UnwindTableRow<usize, A>,
         function: &Function,
     )
-        ensures { HoldsAtMost file address row.now.parts function.now self.new }
+        ensures { HoldsAtMost HoldsRow file address
+            (IsPackedOf row.now.parts function.now) self.new }
     {
         self.numbers.marks = Marks::none();
         let Ok(number) = u32::try_from(file) else {

@@ -9,7 +9,7 @@ ghost use Rattle.cfi_step.specs.Callers.{is_signed, recovered, recovered_by, ret
 ghost use Rattle.cfi_step.specs.Callers.{saved_at, unsigned};
 
 use crate::abi::Abi;
-use crate::places::bytes_of;
+use crate::expression_bytes::bytes_of;
 use crate::rows::RowRules;
 use cfi_expression::frame::{Frame, displaced, known_register, number_at, register_value};
 use cfi_expression::memory::Memory;

@@ -1,15 +1,14 @@
 //! A cache of packed rows.
 ghost use Rattle.std.specs.Prelude.{◌≡◌, ◌*◌, IfOk, IfSome, length};
 ghost use Rattle.std.specs.List.{Contains};
-ghost use Rattle.cfi_step.specs.PackedRows.{AreEmpty, HoldsRow, KeepsRow, rows_in};
+ghost use Rattle.cfi_step.specs.KeptSlots.{Keeps};
+ghost use Rattle.cfi_step.specs.PackedRows.{AreEmpty, HoldsRow, IsPackedOf, rows_in};
 
 use crate::function::Function;
 use crate::packed_rows::PackedRow;
+use crate::slots::SPREAD;
 use gimli_cfi::{ArrayLike, Error, Register, RegisterRule, UnwindTableRow};
 use std::alloc::Global;
-
-/// 2 ^ 64 divided by the golden ratio: what addresses are multiplied with to be spread.
-const SPREAD: u64 = 0x9e37_79b9_7f4a_7c15;
 
 /// How many rows a set has. An address of a file has its place in one of two sets.
 const WAYS: usize = 4;
@@ -25,7 +24,8 @@ pub struct RowCache {
 impl RowCache {
     ghost use Rattle.std.specs.Prelude.{◌≡◌, ◌*◌, IfOk, IfSome, length};
     ghost use Rattle.std.specs.List.{Contains};
-    ghost use Rattle.cfi_step.specs.PackedRows.{AreEmpty, HoldsRow, KeepsRow, rows_in};
+    ghost use Rattle.cfi_step.specs.KeptSlots.{Keeps};
+    ghost use Rattle.cfi_step.specs.PackedRows.{AreEmpty, HoldsRow, IsPackedOf, rows_in};
 
     /// A cache for four rows in each of so many sets, without one. Fails with `OutOfMemory` if they
     /// cannot be allocated.
@@ -78,7 +78,7 @@ impl RowCache {
         row: &UnwindTableRow<usize, A>,
         function: &Function,
     )
-        ensures { KeepsRow file address row.now.parts function.now
+        ensures { Keeps HoldsRow file address (IsPackedOf row.now.parts function.now)
             (rows_in self.old) (rows_in self.new) }
     {
         let turn = self.next;
@@ -150,7 +150,8 @@ fn keep_in<A: ArrayLike<Item = (Register, RegisterRule<usize>)>>(
     row: &UnwindTableRow<usize, A>,
     function: &Function,
 )
-    ensures { KeepsRow file address row.now.parts function.now rows.old rows.new }
+    ensures { Keeps HoldsRow file address (IsPackedOf row.now.parts function.now)
+        rows.old rows.new }
 {
     let index = place_of(rows, spread_of(file, address), turn);
     if index < rows.len() {

@@ -1,13 +1,13 @@
 //! The slots of a cache of rows, and a cache that has none.
 ghost use Rattle.std.specs.Prelude.{◌≡◌, true, IfSome};
 ghost use Rattle.std.specs.List.{Contains};
-ghost use Rattle.cfi_step.specs.Slots.{HoldsAtMost, HoldsRowOf, KeepsRow, Slot};
+ghost use Rattle.cfi_step.specs.Slots.{HoldsRowAtMost, HoldsRowOf, KeepsRow, Slot};
 
 use crate::rows::RowRules;
 use gimli_cfi::{ArrayLike, CfaRule, ReaderOffset, Register, RegisterRule, UnwindTableRow};
 
 /// 2 ^ 64 divided by the golden ratio: what addresses are multiplied with to be spread.
-const SPREAD: u64 = 0x9e37_79b9_7f4a_7c15;
+pub(crate) const SPREAD: u64 = 0x9e37_79b9_7f4a_7c15;
 
 /// A slot of a cache of rows. It is empty, or holds the row of an address of a file (DWARF 5
 /// section 6.4.1) with what its CIE says of the return.
@@ -36,7 +36,7 @@ pub trait RowSlot: RowRules {
         return_address: Register,
         is_signal_trampoline: bool,
     )
-        ensures { HoldsAtMost file address row.now.parts return_address is_signal_trampoline
+        ensures { HoldsRowAtMost file address row.now.parts return_address is_signal_trampoline
             (slot self.new) };
 
     /// Its row says what its rules say.

@@ -1,7 +1,7 @@
 use Rattle.std.proofs.Common.{◌≡◌, ◌∙◌, ℕ, false, true, ap, rules, subst, sym}
 use Rattle.std.specs.Option.{option_map}
 use Rattle.cfi_step.specs.Steps.{row_address}
-use Rattle.cfi_c.specs.CachedSteps.{IsCachedFor, held_rows, rows_of}
+use Rattle.cfi_c.specs.CachedSteps.{IsCachedFor, held_rows, cache_rows}
 use Rattle.cfi_c.specs.SteppedFrames.{IsStepped}
 use Rattle.cfi_c.proofs.CachedSteps.{kept_as, stepped_as_left}
 use Rattle.cfi_c.proofs.cached_step.cfi_step_cached.Goals as goal
@@ -11,7 +11,7 @@ returns-then-is_stepped-clause-stepped c = λ cached.
     let memory = c.args.memory.now in
     let step = c.step_by_held-is_stepped in
     let made : step.result ≡ true = search rules in
-    let same : rows_of c.args.cache.now ≡ held_rows (option_map (λ cache. cache.value) c.into_box-held.result) =
+    let same : cache_rows c.args.cache.now ≡ held_rows (option_map (λ cache. cache.value) c.into_box-held.result) =
     sym (ap held_rows (c.into_box-held.ensures ∙ ap (λ cache. cache.held.cache) c.replace.ensures.value)) in
     subst (λ (a : ℕ). IsStepped c.args.context.now.live c.args.module.now memory a c.args.registers.now c.args.caller_registers.now step.new.caller_registers step.new.function c.args.caller.now step.new.caller step.new.end)
     c.row_address-address.ensures
@@ -20,8 +20,8 @@ returns-then-is_stepped-clause-stepped c = λ cached.
 pub returns-then-is_stepped-clause-kept : goal.returns-then-is_stepped-clause-kept
 returns-then-is_stepped-clause-kept c =
     let step = c.step_by_held-is_stepped in
-    kept_as c.args.memory.now.address_size c.args.file c.args.module.now (held_rows (option_map (λ cache. cache.value) c.into_box-held.result)) (rows_of c.args.cache.now)
-    (held_rows (option_map (λ cache. cache.value) step.new.held)) (rows_of c.of-2.result)
+    kept_as c.args.memory.now.address_size c.args.file c.args.module.now (held_rows (option_map (λ cache. cache.value) c.into_box-held.result)) (cache_rows c.args.cache.now)
+    (held_rows (option_map (λ cache. cache.value) step.new.held)) (cache_rows c.of-2.result)
     (ap held_rows (c.into_box-held.ensures ∙ ap (λ cache. cache.held.cache) c.replace.ensures.value)) (sym (ap held_rows c.of-2.ensures)) step.ensures.kept
 
 pub returns-clause-stepped : goal.returns-clause-stepped
@@ -36,6 +36,6 @@ returns-clause-stepped c = λ cached.
 pub returns-clause-kept : goal.returns-clause-kept
 returns-clause-kept c =
     let step = c.step_by_held-is_stepped in
-    kept_as c.args.memory.now.address_size c.args.file c.args.module.now (held_rows (option_map (λ cache. cache.value) c.into_box-held.result)) (rows_of c.args.cache.now)
-    (held_rows (option_map (λ cache. cache.value) step.new.held)) (rows_of c.of-2.result)
+    kept_as c.args.memory.now.address_size c.args.file c.args.module.now (held_rows (option_map (λ cache. cache.value) c.into_box-held.result)) (cache_rows c.args.cache.now)
+    (held_rows (option_map (λ cache. cache.value) step.new.held)) (cache_rows c.of-2.result)
     (ap held_rows (c.into_box-held.ensures ∙ ap (λ cache. cache.held.cache) c.replace.ensures.value)) (sym (ap held_rows c.of-2.ensures)) step.ensures.kept

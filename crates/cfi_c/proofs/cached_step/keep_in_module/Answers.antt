@@ -4,7 +4,8 @@ use Rattle.cfi_read_core.specs.SliceReaders.{slice_position}
 use Rattle.cfi_step.specs.Modules.{address_in_file}
 use Rattle.cfi_step.specs.PackedRows.{rows_in}
 use Rattle.cfi_c.specs.PassedSections.{header_in}
-use Rattle.cfi_c.specs.PassedStacks.{is_debug_frame, sized}
+use Rattle.cfi_c.specs.PassedModules.{sized}
+use Rattle.cfi_c.specs.PassedModules.{is_debug_frame}
 use Rattle.cfi_c.proofs.CachedSteps.{keeps}
 use Rattle.cfi_c.proofs.StepsInModules.{of_eh_frame}
 use Rattle.cfi_c.proofs.cached_step.keep_in_module.Goals as goal

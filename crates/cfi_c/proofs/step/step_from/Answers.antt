@@ -7,8 +7,9 @@ use Rattle.cfi_step.specs.declared.abi.Abi.{Abi}
 use Rattle.cfi_step.specs.Modules.{address_in_file}
 use Rattle.cfi_step.specs.Functions.{IsStepInFunction}
 use Rattle.cfi_c.specs.PassedSections.{header_in}
-use Rattle.cfi_c.specs.PassedStacks.{is_debug_frame, sized}
-use Rattle.cfi_c.specs.StackFrames.{IsFunctionStep}
+use Rattle.cfi_c.specs.PassedModules.{sized}
+use Rattle.cfi_c.specs.PassedModules.{is_debug_frame}
+use Rattle.cfi_c.specs.ModuleSteps.{IsFunctionStep}
 use Rattle.cfi_c.specs.SteppedFrames.{frame_in}
 use Rattle.cfi_c.specs.PassedMemories.{abi_in, number_in_memory}
 use Rattle.cfi_c.proofs.StepsInModules.{in_function, of_eh_frame}

@@ -7,7 +7,7 @@ use Rattle.cfi_c.proofs.unwind.walk.Goals as goal
 pub write_frames-requires-clause-can : goal.write_frames-requires-clause-can
 write_frames-requires-clause-can c = λ rows same keeps. (
   c.requires.size,
-  (λ i. number_in (c.memory_of.ensures.bytes i) (c.memory_of.ensures.base i)),
+  (λ i. number_in (c.window_over.ensures.bytes i) (c.window_over.ensures.base i)),
   c.abi_of.ensures,
   λ in_order.
       let none : is_none c.out_of_order.result ≡ true = search rules in

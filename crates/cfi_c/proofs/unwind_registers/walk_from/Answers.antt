@@ -7,7 +7,7 @@ use Rattle.cfi_c.proofs.unwind_registers.walk_from.Goals as goal
 pub write_all-requires-clause-can : goal.write_all-requires-clause-can
 write_all-requires-clause-can c = λ rows. (
   c.requires.size,
-  (λ i. number_in (c.memory_of.ensures.bytes i) (c.memory_of.ensures.base i)),
+  (λ i. number_in (c.window_over.ensures.bytes i) (c.window_over.ensures.base i)),
   c.abi_of.ensures,
   λ in_order.
       let none : is_none c.out_of_order.result ≡ true = search rules in

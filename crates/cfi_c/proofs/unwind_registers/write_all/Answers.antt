@@ -3,10 +3,10 @@ use Rattle.std.specs.Prelude.{slice_set}
 use Rattle.std.proofs.lemmas.List.{append-nil, length-append, length-map}
 use Rattle.cfi_step.specs.Walks.{State}
 use Rattle.cfi_step.proofs.Walking.{has_room}
-use Rattle.cfi_c.specs.declared.stack.CfiFrame.{CfiFrame}
-use Rattle.cfi_c.specs.declared.stack.CfiValue.{CfiValue}
-use Rattle.cfi_c.specs.RegisterFrames.{AreFirst, Framed, IsWalkWith, framed, frames_of, innermost, registers_of}
-use Rattle.cfi_c.specs.SteppedFrames.{written_value}
+use Rattle.cfi_c.specs.declared.frame.CfiFrame.{CfiFrame}
+use Rattle.cfi_c.specs.declared.register.CfiValue.{CfiValue}
+use Rattle.cfi_c.specs.RegisterFrames.{AreFirst, Framed, IsWalkWith, framed, frames_of, innermost, registers_written}
+use Rattle.cfi_c.specs.PassedRegisters.{written_value}
 use Rattle.cfi_c.proofs.RegisterWalks.{frames_after, next_first, one_frame, one_last, one_more, one_row, registers_after, too_short}
 use Rattle.cfi_c.proofs.unwind_registers.write_all.Goals as goal
 
@@ -59,7 +59,7 @@ returns-in-Err g c =
           (subst (λ (y : CfiFrame). AreFirst (frames_of done ++ (f.frame ∷ [])) c.args.frames.now (slice_set c.loop-index.frames c.loop-index.index y)) (sym c.of.ensures)
           (one_frame (frames_of done) c.args.frames.now c.loop-index.frames c.loop-index.index f.frame (length-map done (λ (x : Framed). x.frame) ∙ sym counted) inside frames)),
       subst (λ (w : List CfiValue). AreFirst w c.args.values.now c.write_registers.new.values) (sym (registers_after done f))
-          (one_row (registers_of done) f.registers c.args.values.now c.loop-index.values c.write_registers.new.values c.loop-index.first (length c.loop-index.registers) (sym placed)
+          (one_row (registers_written done) f.registers c.args.values.now c.loop-index.values c.write_registers.new.values c.loop-index.first (length c.loop-index.registers) (sym placed)
           (length-map c.loop-index.registers written_value) values c.write_registers.ensures.written c.write_registers.ensures.behind (search rules)),
       λ no_room. absurd (has_room c.step-step.result c.step-step.ensures.room c.in-Err.end c.in-Err.ensures no_room),
     )
@@ -84,13 +84,13 @@ loop-index-preserved g c =
         done ++ (f ∷ []),
         ap (λ (k : ℕ). k + 1) counted ∙ sym (length-append done (f ∷ [])),
         ap (λ (k : ℕ). k + length c.loop-index.registers) placed
-            ∙ (ap (λ (k : ℕ). length (registers_of done) + k) (sym (length-map c.loop-index.registers written_value))
-            ∙ (sym (length-append (registers_of done) f.registers) ∙ sym (ap length (registers_after done f)))),
+            ∙ (ap (λ (k : ℕ). length (registers_written done) + k) (sym (length-map c.loop-index.registers written_value))
+            ∙ (sym (length-append (registers_written done) f.registers) ∙ sym (ap length (registers_after done f)))),
         subst (λ (w : List CfiFrame). AreFirst w c.args.frames.now (slice_set c.loop-index.frames c.loop-index.index c.of.result)) (sym (frames_after done f))
             (subst (λ (y : CfiFrame). AreFirst (frames_of done ++ (f.frame ∷ [])) c.args.frames.now (slice_set c.loop-index.frames c.loop-index.index y)) (sym c.of.ensures)
             (one_frame (frames_of done) c.args.frames.now c.loop-index.frames c.loop-index.index f.frame (length-map done (λ (x : Framed). x.frame) ∙ sym counted) inside frames)),
         subst (λ (w : List CfiValue). AreFirst w c.args.values.now c.write_registers.new.values) (sym (registers_after done f))
-            (one_row (registers_of done) f.registers c.args.values.now c.loop-index.values c.write_registers.new.values c.loop-index.first (length c.loop-index.registers) (sym placed)
+            (one_row (registers_written done) f.registers c.args.values.now c.loop-index.values c.write_registers.new.values c.loop-index.first (length c.loop-index.registers) (sym placed)
             (length-map c.loop-index.registers written_value) values c.write_registers.ensures.written c.write_registers.ensures.behind same_length),
         one_more (g.P.Steps.is_step c.args.steps.now) (innermost c.args.pc c.args.registers.now) s done follows c.step-step.result c.step-step.new.caller c.step-step.ensures.step c.in-Ok.next
             c.copy_from_slice.new.self c.in-Ok.ensures c.copy_from_slice.ensures.after,

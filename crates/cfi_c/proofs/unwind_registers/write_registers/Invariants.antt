@@ -1,5 +1,5 @@
 use Rattle.std.proofs.Common.{◌≡◌, ◌+◌, ◌++◌, drop, length, map, take}
-use Rattle.cfi_c.specs.SteppedFrames.{written_value}
+use Rattle.cfi_c.specs.PassedRegisters.{written_value}
 use Rattle.cfi_c.proofs.unwind_registers.write_registers.Given as goal
 
 -- the registers before this one are written, and nothing behind all of them

@@ -1,6 +1,6 @@
 use Rattle.std.proofs.Common.{◌+◌, ◌-◌, ◌/◌, ◌<◌, length, subst, arith}
 use Rattle.cfi_compiled.specs.declared.paged_steps.PagedStep.{PagedStep}
-use Rattle.cfi_compiled.specs.PagedSteps.{offset_of}
+use Rattle.cfi_compiled.specs.PagedSteps.{step_offset}
 use Rattle.std.proofs.lemmas.List.{get_or_default}
 use Rattle.cfi_compiled.proofs.paged_steps.count_up_to.Goals as goal
 
@@ -15,5 +15,5 @@ loop-low-preserved c =
       last = omega arith;
       from = c.loop-low.invariant.from;
       up_to = λ d some.
-          subst (λ (step : PagedStep). c.args.offset < offset_of step) (get_or_default steps middle _ d inside) (rw c.offset.ensures at c.if-offset.false);
+          subst (λ (step : PagedStep). c.args.offset < step_offset step) (get_or_default steps middle _ d inside) (rw c.offset.ensures at c.if-offset.false);
     }

@@ -22,10 +22,10 @@ use denote.Struct.Owning.{shape}
 use denote.Triple.Walked.{Goes-dropped, Stays, stay_dropped, walk_of, ends_at}
 use Rattle.std.proofs.raw_atomic.Walks.{proved_at}
 use Rattle.std_alloc.specs.Box.Ownership.{box_owns}
-use Rattle.cfi_c.specs.ContextRow.{context_row}
+use Rattle.cfi_c.specs.ContextRow.{heap_context_row}
 use Rattle.cfi_c.specs.contracts.unboxed.Unboxed as unboxed
 use Rattle.cfi_c.specs.contracts.held.HeldContext as held_context
-use Rattle.cfi_c.specs.HeldContexts.{owned}
+use Rattle.cfi_c.specs.HeldContexts.{owned_context}
 use Rattle.cfi_c.proofs.PointerPairs.{heap, pair, pair_typed, pair_out, pair_in}
 use Rattle.cfi_c.specs.contracts.held.HeldContext.unseal as f
 use Rattle.cfi_c.proofs.held.HeldContext.unseal.Statement.{statement}
@@ -39,9 +39,9 @@ unseal_spec 𝓤 𝓛 𝓜 𝓡 wired =
     let entered = y.0.3.0 in let a = entered.alloc in
     qed 𝓛 ((‵ ftrue ⊛ ‵ (owns (types_at En.signature.params y.0.0) y.0.3 y.0.4)) ∷ raw (fact 𝓤 (entered.live ≡ true)) ∷ []) ∵
     split ! $ drop ! $ move ! (1 ∷ []) $ heard ! (entered.live ≡ true) (λ live. fsplit ! $ fsplit ! $ pair_out (shape held_context.the_type) ! entered.at a y.0.4.0 (λ h ws fits. move ! (1 ∷ []) $
-    rewrite ! 0 (λ (l : Bool). ‵ (owned l a entered.at)) live refl $ fpick ! (λ x.
+    rewrite ! 0 (λ (l : Bool). ‵ (owned_context l a entered.at)) live refl $ fpick ! (λ x.
     -- [the context and the right to free it; the handle; nothing]
-    in_a_block ! entered.at (λ p. box_owns (heap.g.dealloc_token a) context_row p x) (fst∗ 𝓤 (never 𝓤) (sem 𝓛 (heap.g.dealloc_token a (bare (lone context_row.mir)) null_ptr))) (λ b o place.
+    in_a_block ! entered.at (λ p. box_owns (heap.g.dealloc_token a) heap_context_row p x) (fst∗ 𝓤 (never 𝓤) (sem 𝓛 (heap.g.dealloc_token a (bare (lone heap_context_row.mir)) null_ptr))) (λ b o place.
     let word : y.0.4.0 ≡ pair (vptr b o) h ∷ [] = ws ∙ λ i. pair (ptr_val (place i)) h ∷ [] in
     regoal ! (λ (us : List Val). prop (WpFn 𝓤 𝓛.H 𝓣.C 𝓣.Λ code.function us (W.post y))) (λ i. word i ++ []) refl $
     enter ! _ _ _ _ _ $ alloc_all ! (λ l. pass_all ! refl (pair_typed b o h fits, tt) $
@@ -50,7 +50,7 @@ unseal_spec 𝓤 𝓛 𝓜 𝓡 wired =
     sets ! (of_opd ! (get ! refl)) refl (tt, tt) $
     sets ! (agg ! (and_then ! (get ! refl) (and_then ! (get ! refl) (no_more !)))) refl (pair_typed b o h fits) $
     returns ! (look_at ! 0 refl) $ free_all ! refl $
-    move ! (1 ∷ []) $ pair_in (shape (unboxed.the_type context_row heap.row heap.g)) ! (block_ptr b o) a h $ fjoin ! $ move ! (1 ∷ []) $ drop ! $
+    move ! (1 ∷ []) $ pair_in (shape (unboxed.the_type heap_context_row heap.row heap.g)) ! (block_ptr b o) a h $ fjoin ! $ move ! (1 ∷ []) $ drop ! $
     suffices ! _ (ends_at 𝓛 En stays c y (pair (vptr b o) h) (record { at = block_ptr b o; alloc = a; value = x }) (tt, tt) (tt, tt)) $
     use0 𝓛 (raw (emp 𝓤)) (id⊢ 𝓤 (emp 𝓤)) $ move ! (1 ∷ []) $
     nothing ! $ nothing ! $ fjoin ! $ join ! $ nothing ! $ join ! $ done !))))))

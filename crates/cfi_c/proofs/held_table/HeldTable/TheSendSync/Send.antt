@@ -13,10 +13,10 @@ use Rattle.std.proofs.alloc.Global.TheSendSync as handle
 use Rattle.cfi_compiled.specs.CompiledTables.{TableContents}
 use Rattle.cfi_compiled.specs.contracts.table.CompiledTable.{the_row as T}
 use Rattle.cfi_compiled.proofs.table.CompiledTable.TheSendSync.{the_send as table_send}
-use Rattle.cfi_c.specs.HeldTables.{owned}
+use Rattle.cfi_c.specs.HeldTables.{owned_table}
 use Rattle.cfi_c.specs.contracts.held_table.HeldTable.{the_row, the_type}
 
-crosses : (table : Option TableContents) (alloc : Heap.the_row.Denot) (p : Ptr) → Keyless (owned table alloc p)
+crosses : (table : Option TableContents) (alloc : Heap.the_row.Denot) (p : Ptr) → Keyless (owned_table table alloc p)
 crosses (Some table) alloc p = (lies T table_send p table, heap.frees.frees alloc (raw (lone T.mir)) p)
 crosses None alloc p = tt
 

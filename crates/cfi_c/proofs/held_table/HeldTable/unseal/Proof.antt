@@ -28,7 +28,7 @@ use Rattle.cfi_c.specs.contracts.held_table.HeldTable as held_table
 use Rattle.cfi_compiled.specs.CompiledTables.{TableContents}
 use Rattle.cfi_c.specs.AddressRows.{is_live}
 use Rattle.cfi_c.proofs.HeldThere.{held_there}
-use Rattle.cfi_c.specs.HeldTables.{owned}
+use Rattle.cfi_c.specs.HeldTables.{owned_table}
 use Rattle.cfi_c.proofs.PointerPairs.{heap, pair, pair_typed, pair_out, pair_in}
 use Rattle.cfi_c.specs.contracts.held_table.HeldTable.unseal as f
 use Rattle.cfi_c.proofs.held_table.HeldTable.unseal.Statement.{statement}
@@ -42,7 +42,7 @@ unseal_spec 𝓤 𝓛 𝓜 𝓡 wired =
     let entered = y.0.3.0 in let a = entered.alloc in
     qed 𝓛 ((‵ ftrue ⊛ ‵ (owns (types_at En.signature.params y.0.0) y.0.3 y.0.4)) ∷ raw (fact 𝓤 (is_live entered.table ≡ true)) ∷ []) ∵
     split ! $ drop ! $ move ! (1 ∷ []) $ heard ! (is_live entered.table ≡ true) (λ live. let there = held_there entered.table live in let x = there.0 in fsplit ! $ fsplit ! $ pair_out (shape held_table.the_type) ! entered.at a y.0.4.0 (λ h ws fits. move ! (1 ∷ []) $
-    rewrite ! 0 (λ (t : Option TableContents). ‵ (owned t a entered.at)) there.1 refl $
+    rewrite ! 0 (λ (t : Option TableContents). ‵ (owned_table t a entered.at)) there.1 refl $
     -- [the table and the right to free it; the handle; nothing]
     in_a_block ! entered.at (λ p. box_owns (heap.g.dealloc_token a) table_row p x) (fst∗ 𝓤 (never 𝓤) (sem 𝓛 (heap.g.dealloc_token a (bare (lone table_row.mir)) null_ptr))) (λ b o place.
     let word : y.0.4.0 ≡ pair (vptr b o) h ∷ [] = ws ∙ λ i. pair (ptr_val (place i)) h ∷ [] in

@@ -2,7 +2,7 @@ use Rattle.std.proofs.Common.{◌≡◌, ◌+◌, ◌-◌, length, sym, ap, subs
 use Rattle.std.proofs.lemmas.Bool.{eqb-true}
 use Rattle.cfi_compiled.specs.declared.paged_steps.PagedStep.{PagedStep}
 use Rattle.cfi_compiled.specs.CompiledTables.{EndsWith}
-use Rattle.cfi_compiled.specs.PagedSteps.{PagedView, number_of}
+use Rattle.cfi_compiled.specs.PagedSteps.{PagedView, step_number}
 use Rattle.cfi_compiled.proofs.PagedSearch.{last_ends, lead_ends}
 use Rattle.cfi_compiled.proofs.paged_steps.PagedSteps.ends_with.Goals as goal
 
@@ -19,4 +19,4 @@ returns c same =
     let named : c.number.result ≡ c.args.number = eqb-true _ _ same in
     subst (λ (v : PagedView). EndsWith c.args.number v.steps) c.self.view_is
     (last_ends c.self.inside.lead c.self.inside.first c.self.inside.ends.items c.self.inside.steps.items c.self.invariant i last c.index-last.result.now c.args.number
-    (ap (λ (s : PagedStep). number_of s) (sym c.index-last.ensures) ∙ sym c.number.ensures ∙ named))
+    (ap (λ (s : PagedStep). step_number s) (sym c.index-last.ensures) ∙ sym c.number.ensures ∙ named))

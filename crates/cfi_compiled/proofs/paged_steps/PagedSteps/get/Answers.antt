@@ -1,6 +1,6 @@
 use Rattle.std.proofs.Common.{◌≡◌, ◌+◌, ◌-◌, ◌*◌, ◌<◌, ◌≤◌, suc, length, get_or, sym, ap, ◌∙◌, arith}
 use Rattle.cfi_compiled.specs.declared.paged_steps.PagedStep.{PagedStep}
-use Rattle.cfi_compiled.specs.PagedSteps.{PagedView, number_of, offset_of, view_of}
+use Rattle.cfi_compiled.specs.PagedSteps.{PagedView, step_number, step_offset, view_of}
 use Rattle.cfi_compiled.proofs.PagedLists.{passed_few, unpaged}
 use Rattle.cfi_compiled.proofs.PagedSearch.{how_many, step_after_first}
 use Rattle.cfi_compiled.proofs.paged_steps.PagedSteps.get.Goals as goal
@@ -26,7 +26,7 @@ overflow_add-result c =
     let few : c.pages_passed.result ≤ length c.as_slice.result.now = rw c.pages_passed.ensures (passed_few _ _) in
     let inside : c.args.index - 1 < length c.self.inside.steps.items = omega (arith, c.if-index-eq0.false, c.if-index-len.false, c.len.ensures, c.self.inside.steps.ok.0) in
     let less = c.self.invariant.offsets (c.args.index - 1) c.index-step.result.now inside in
-    let offset = ap (λ (s : PagedStep). offset_of s) c.index-step.ensures in
+    let offset = ap (λ (s : PagedStep). step_offset s) c.index-step.ensures in
     omega (arith, few, c.as_slice.ensures.len, c.self.inside.ends.ok.0, c.self.invariant.below, less, offset, c.from.ensures, c.offset.ensures)
 
 pub returns-clause-step : goal.returns-clause-step
@@ -46,7 +46,7 @@ returns-clause-step c =
           ∙ ap (λ n. get_or (view_of c.self.inside.lead first ends steps).steps n d) at
           ∙ step_after_first c.self.inside.lead first ends steps c.self.invariant i d c.index-step.result.now inside
           ∙ ap (unpaged first ends i) (sym c.index-step.ensures)
-          ∙ ap (λ n. record { start = (first + n) * 512 + offset_of c.index-step.result.now; number = number_of c.index-step.result.now }) (sym passed)
-          ∙ ap (λ n. record { start = (first + c.pages_passed.result) * 512 + n; number = number_of c.index-step.result.now }) (sym (c.from.ensures ∙ c.offset.ensures))
+          ∙ ap (λ n. record { start = (first + n) * 512 + step_offset c.index-step.result.now; number = step_number c.index-step.result.now }) (sym passed)
+          ∙ ap (λ n. record { start = (first + c.pages_passed.result) * 512 + n; number = step_number c.index-step.result.now }) (sym (c.from.ensures ∙ c.offset.ensures))
           ∙ ap (λ n. record { start = (first + c.pages_passed.result) * 512 + c.from.result; number = n }) (sym c.number.ensures),
     )

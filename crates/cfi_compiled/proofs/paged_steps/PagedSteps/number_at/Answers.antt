@@ -1,6 +1,6 @@
 use Rattle.std.proofs.Common.{◌≡◌, ◌-◌, ◌<◌, suc, length, get_or, sym, ap, ◌∙◌, arith}
 use Rattle.cfi_compiled.specs.declared.paged_steps.PagedStep.{PagedStep}
-use Rattle.cfi_compiled.specs.PagedSteps.{PagedView, number_of, view_of}
+use Rattle.cfi_compiled.specs.PagedSteps.{PagedView, step_number, view_of}
 use Rattle.cfi_compiled.proofs.PagedSearch.{how_many, number_after_first}
 use Rattle.cfi_compiled.proofs.paged_steps.PagedSteps.number_at.Goals as goal
 
@@ -24,6 +24,6 @@ returns c =
           ap (λ (v : PagedView). (get_or v.steps c.count_to-count.result d).number) (sym c.self.view_is)
           ∙ ap (λ n. (get_or (view_of c.self.inside.lead c.self.inside.first c.self.inside.ends.items steps).steps n d).number) at
           ∙ number_after_first c.self.inside.lead c.self.inside.first c.self.inside.ends.items steps c.self.invariant i d c.index.result.now inside
-          ∙ ap (λ (s : PagedStep). number_of s) (sym c.index.ensures)
+          ∙ ap (λ (s : PagedStep). step_number s) (sym c.index.ensures)
           ∙ sym c.number.ensures,
     )

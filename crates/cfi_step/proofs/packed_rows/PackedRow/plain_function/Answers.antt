@@ -5,11 +5,11 @@ use Rattle.cfi_step.proofs.packed_rows.PackedRow.plain_function.Goals as goal
 
 pub returns-then-is_plain-clause-function : goal.returns-then-is_plain-clause-function
 returns-then-is_plain-clause-function c =
-    ap (λ (f : Function). Some f) c.without_pointers.ensures ∙ plain_is c.args.self.now (sym c.is_plain.ensures ∙ c.if-is_plain.true)
+    ap (λ (f : Function). Some f) c.function_with.ensures ∙ plain_is c.args.self.now (sym c.is_plain.ensures ∙ c.if-is_plain.true)
 
 pub returns-then-is_plain-clause-plain : goal.returns-then-is_plain-clause-plain
 returns-then-is_plain-clause-plain c = (
-  c.without_pointers.ensures ∙ plain_same c.args.self.now (sym c.is_plain.ensures ∙ c.if-is_plain.true),
-  ap (λ (f : Function). f.lsda) c.without_pointers.ensures,
-  ap (λ (f : Function). f.personality) c.without_pointers.ensures,
+  c.function_with.ensures ∙ plain_same c.args.self.now (sym c.is_plain.ensures ∙ c.if-is_plain.true),
+  ap (λ (f : Function). f.lsda) c.function_with.ensures,
+  ap (λ (f : Function). f.personality) c.function_with.ensures,
 )

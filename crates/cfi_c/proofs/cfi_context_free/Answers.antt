@@ -1,4 +1,0 @@
-use Rattle.cfi_c.proofs.cfi_context_free.Goals as goal
-
-pub returns : goal.returns
-returns c = c.of.ensures
