@@ -2,7 +2,7 @@
 use Rattle.std.proofs.Common.{inr, refl, ℕ, List, Result, Ok, Err}
 use Rattle.cfi_elf.specs.declared.error.ElfError.{ElfError}
 use Rattle.cfi_programs.specs.Lines.{Line}
-use Rattle.cfi_programs.specs.DumpProgramOutput.{format_of}
+use Rattle.cfi_programs.specs.DumpProgramOutput.{printed_format}
 use Rattle.cfi_programs.specs.declared.style.Format.TheVariants.{Text}
 use Rattle.cfi_object.specs.declared.register_names.RegisterNames.{RegisterNames}
 use Rattle.gimli_cfi.specs.SectionSources.{GivenSection}
@@ -14,7 +14,7 @@ use Rattle.cfi_files.specs.FileOutputs.{IsPart, section_format}
 -- ---- some output is right for each section
 
 pub some_part : (names : RegisterNames) (what : SectionPrinted) (part : Result GivenSection ElfError) → (printed : Line) × IsPart names what part printed
-some_part names (Listed printed) (Ok frames) = (out_of_memory (format_of printed), inr refl)
+some_part names (Listed printed) (Ok frames) = (out_of_memory (printed_format printed), inr refl)
 some_part names Compiled (Ok frames) = (out_of_memory Text, inr refl)
 some_part names what (Err e) = (elf_refusal (section_format what) e, refl)
 

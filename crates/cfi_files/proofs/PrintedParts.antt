@@ -6,10 +6,10 @@ use Rattle.cfi_elf.specs.ElfFiles.{File, elf_file, elf_file_of}
 use Rattle.cfi_elf.specs.Images.{Image, IsImageOf, IsRead}
 use Rattle.cfi_elf.proofs.FileImages.{file_found, file_refused}
 use Rattle.cfi_programs.specs.WriterOutput.{Prints, PrintsSome}
-use Rattle.cfi_object.specs.FileParts.{IsEnoughOf}
+use Rattle.cfi_object.specs.NeededParts.{IsEnoughOf}
 use Rattle.cfi_files.specs.declared.request.Request.{Request}
 use Rattle.cfi_files.specs.FileLines.{elf_refusal}
-use Rattle.cfi_files.specs.FileOutputs.{IsOfFile, IsOfParsed, PrintsOwed, format_for, needed_for}
+use Rattle.cfi_files.specs.FileOutputs.{IsOfElfFile, IsOfParsed, PrintsOwed, format_for, needed_for}
 use Rattle.cfi_files.proofs.WholeOutputs.{output_by}
 
 -- ---- a file that is not relocatable
@@ -32,13 +32,13 @@ printed_parts request known image old new r ((bytes, left, of), (read, enough)) 
     (bytes, left, (line, prints, inl (inl (other_whole image bytes of read (elf_file_of image) refl differs, output_by request image bytes of read (elf_file_of image) refl enough line is))))
 
 module _ {E : Type 0} (request : Request) (old new : Option (List ℕ)) (r : Result ℕ E) where
-  file_parsed : (file : File) (parsed : Result File ElfError) → Ok file ≡ parsed → PrintsSome (λ line. IsOfFile request file line) old new r → PrintsSome (λ line. IsOfParsed request parsed line) old new r
+  file_parsed : (file : File) (parsed : Result File ElfError) → Ok file ≡ parsed → PrintsSome (λ line. IsOfElfFile request file line) old new r → PrintsSome (λ line. IsOfParsed request parsed line) old new r
   file_parsed file parsed is printed = subst (λ (p : Result File ElfError). PrintsSome (λ line. IsOfParsed request p line) old new r) is printed
 
   refusal_parsed : (e : ElfError) (parsed : Result File ElfError) → Err e ≡ parsed → Prints (elf_refusal (format_for request.printed) e) old new r → PrintsSome (λ line. IsOfParsed request parsed line) old new r
   refusal_parsed e parsed is prints = subst (λ (p : Result File ElfError). PrintsSome (λ line. IsOfParsed request p line) old new r) is (elf_refusal (format_for request.printed) e, prints, refl)
 
-  pub parts_found : (known : Option (List ℕ)) (image : Image) (file : File) → IsEnoughOf known (needed_for request.printed) image → Ok file ≡ elf_file_of image → PrintsSome (λ line. IsOfFile request file line) old new r → PrintsOwed request known old new r
+  pub parts_found : (known : Option (List ℕ)) (image : Image) (file : File) → IsEnoughOf known (needed_for request.printed) image → Ok file ≡ elf_file_of image → PrintsSome (λ line. IsOfElfFile request file line) old new r → PrintsOwed request known old new r
   parts_found known image file enough is printed = printed_parts request known image old new r enough (found_is_other (elf_file_of image) file is) (file_parsed file (elf_file_of image) is printed)
 
   pub parts_refused : (known : Option (List ℕ)) (image : Image) (e : ElfError) → IsEnoughOf known (needed_for request.printed) image → Err e ≡ elf_file_of image → e ≢ Relocatable → Prints (elf_refusal (format_for request.printed) e) old new r → PrintsOwed request known old new r

@@ -1,15 +1,18 @@
 -- What is right for a file is right for one of which as much is the same.
 use Rattle.std.proofs.Common.{◌≡◌, ◌∙◌, ◌||◌, inl, inr, ℕ, Bool, List, [], ◌∷◌, true, false, Option, Some, None, Result, Ok, Err, refl, ap, subst, length, ◌==◌, if◌then◌else◌}
-use Rattle.std.specs.List.{after_first, before_first, list_any, position_or_len}
+use Rattle.std.specs.List.{after_first, before_first, cons_option, list_any, position_or_len}
+use Rattle.std.specs.Option.{is_some}
 use Rattle.std.specs.Borrow.{Bor}
 use Rattle.std.specs.Result.{result_transpose}
 use Rattle.cfi_elf.specs.declared.error.ElfError.{ElfError}
 use Rattle.cfi_elf.specs.ElfFiles.{File}
-use Rattle.cfi_elf.specs.FunctionNames.{functions_in, best_name, named_functions}
+use Rattle.cfi_elf.specs.Functions.{functions_in, named_functions}
+use Rattle.cfi_elf.specs.FunctionNames.{best_name}
 use Rattle.cfi_elf.specs.Images.{Image}
-use Rattle.cfi_elf.specs.PltAddresses.{PltParts, entries_of, plt_addresses, plt_parts}
+use Rattle.cfi_elf.specs.PltSections.{PltParts, plt_parts}
+use Rattle.cfi_elf.specs.PltAddresses.{entries_to, plt_addresses}
 use Rattle.cfi_elf.specs.Results.{and_then}
-use Rattle.cfi_elf.specs.SymbolAddresses.{addresses_of, symbol_addresses}
+use Rattle.cfi_elf.specs.SymbolAddresses.{addresses_with_name, symbol_addresses}
 use Rattle.cfi_elf.specs.declared.error.ElfError.TheVariants as elf
 use Rattle.cfi_elf.specs.Sections.{section_address}
 use Rattle.cfi_elf.specs.SymbolTables.{SymbolTable, symbol_table, symbols}
@@ -20,17 +23,17 @@ use Rattle.cfi_object.specs.declared.register_names.RegisterNames.{RegisterNames
 use Rattle.cfi_programs.specs.declared.style.Style.{Style}
 use Rattle.gimli_cfi.specs.SectionSources.{GivenSection}
 use Rattle.cfi_object.specs.CallFrames.{debug_frame_of, eh_frame_of}
-use Rattle.cfi_object.specs.Targets.{addresses_named, before_plt, behind_name, by_ending, ends_with_plt, entries_named, is_at, is_plus, is_there, listed, moved_by, names_entry, number_or_name, or_others, section_addresses, symbols_named, symbols_or_section, target_addresses, with_version_or_not, without_version}
+use Rattle.cfi_object.specs.Targets.{addresses_named, before_plt, offset_from_name, by_ending, ends_with_plt, entries_named, is_at_sign, is_plus, offset_if_number, names_entry, number_or_name, or_if_none, section_addresses, symbols_named, symbols_or_section, target_addresses, with_version_or_not, without_version}
 use Rattle.cfi_files.specs.declared.request.Printed.{Printed}
 use Rattle.cfi_files.specs.declared.request.Printed.TheVariants.{Row, Rows, Dump, Table}
 use Rattle.cfi_files.specs.declared.sections.SectionPrinted.{SectionPrinted}
 use Rattle.cfi_files.specs.declared.sections.SectionPrinted.TheVariants.{Compiled, Listed}
 use Rattle.cfi_programs.specs.declared.dump.printed.Printed.TheVariants.{Entries, Rows as AllRows}
 use Rattle.cfi_files.specs.FileLines.{AreEach}
-use Rattle.cfi_files.specs.FileOutputs.{AreEntries, AreFdeRows, AreParts, AreRows, AreRowsAt, AreSections, IsNamed, needs_plt, needs_symbols, styled}
+use Rattle.cfi_files.specs.FileOutputs.{AreEntries, AreFdeRows, AreParts, AreRows, AreRowsAt, AreSections, IsOfNames, needs_plt, needs_symbols, styled}
 use Rattle.cfi_files.specs.Asked.{has_several}
 use Rattle.cfi_files.specs.Found.{debug_frame_in, eh_frame_in}
-use Rattle.cfi_files.specs.RowOutputs.{AreAnswersIn, AreAnswersTo, IsAnswer, IsAnswerAt, IsAnswerTo, IsWordLine, several_lines}
+use Rattle.cfi_files.specs.RowOutputs.{AreAnswersIn, IsWordLine}
 
 first_true : (a b : Bool) → a ≡ true → (a || b) ≡ true
 first_true true b is = refl
@@ -65,7 +68,7 @@ module _ (file : File) (image : Image) where
 
   -- the addresses of the symbols of a name among those of a table
   abbrev addresses_in : List ℕ → SymbolTable → Result (List ℕ) ElfError
-  addresses_in name table = Ok (addresses_of table.names name (symbols file table))
+  addresses_in name table = Ok (addresses_with_name table.names name (symbols file table))
 
   same_addresses : HasSameSymbols → (name : List ℕ) → symbol_addresses file name ≡ symbol_addresses other name
   unfolding symbol_addresses
@@ -73,17 +76,17 @@ module _ (file : File) (image : Image) where
 
   same_section : HasSameSymbols → (name : List ℕ) → section_addresses file name ≡ section_addresses other name
   unfolding section_addresses
-  same_section (e, sections) name = ap (λ (found : Result (Option ℕ) ElfError). and_then found (λ address. Ok (listed address))) (sections name)
+  same_section (e, sections) name = ap (λ (found : Result (Option ℕ) ElfError). and_then found (λ address. Ok (cons_option address []))) (sections name)
 
   same_or_section : HasSameSymbols → (name : List ℕ) → symbols_or_section file name ≡ symbols_or_section other name
   unfolding symbols_or_section
-  same_or_section e name = λ i. and_then (same_addresses e name i) (λ found. or_others found (same_section e name i))
+  same_or_section e name = λ i. and_then (same_addresses e name i) (λ found. or_if_none found (same_section e name i))
 
   same_symbol : HasSameSymbols → (name : List ℕ) → symbols_named file name ≡ symbols_named other name
   same_symbol e name = ap (λ found. if length name == 0 then Ok [] else found) (same_addresses e name)
 
   same_unversioned : HasSameSymbols → (name : List ℕ) → without_version file name ≡ without_version other name
-  same_unversioned e name = ap (λ found. if position_or_len is_at name == length name then Ok [] else found) (same_symbol e (before_first is_at name))
+  same_unversioned e name = ap (λ found. if position_or_len is_at_sign name == length name then Ok [] else found) (same_symbol e (before_first is_at_sign name))
 
   -- ---- entries of the procedure linkage table, where a word names them
 
@@ -94,7 +97,7 @@ module _ (file : File) (image : Image) where
   IfNamed name = ends_with_plt name ≡ true → HasSameEntries
 
   abbrev entries_by : List ℕ → PltParts → Result (List ℕ) ElfError
-  entries_by name parts = Ok (entries_of file name parts)
+  entries_by name parts = Ok (entries_to file name parts)
 
   same_plt : HasSameEntries → (name : List ℕ) → plt_addresses file name ≡ plt_addresses other name
   unfolding plt_addresses
@@ -103,26 +106,26 @@ module _ (file : File) (image : Image) where
   same_entries_named : HasSameEntries → (name : List ℕ) → entries_named file name ≡ entries_named other name
   same_entries_named e name = ap (λ found. if length name == 0 then Ok [] else found) (same_plt e name)
 
-  same_ending : HasSameSymbols → (name : List ℕ) (before : Option (List ℕ)) → (is_there before ≡ true → HasSameEntries) → by_ending file name before ≡ by_ending other name before
+  same_ending : HasSameSymbols → (name : List ℕ) (before : Option (List ℕ)) → (is_some before ≡ true → HasSameEntries) → by_ending file name before ≡ by_ending other name before
   same_ending e name (Some symbol) plt = same_entries_named (plt refl) symbol
   same_ending e name None plt = same_unversioned e name
 
   same_versioned : HasSameSymbols → (name : List ℕ) → IfNamed name → with_version_or_not file name ≡ with_version_or_not other name
   unfolding with_version_or_not
-  same_versioned e name plt = λ i. and_then (same_or_section e name i) (λ found. or_others found (same_ending e name (before_plt name) plt i))
+  same_versioned e name plt = λ i. and_then (same_or_section e name i) (λ found. or_if_none found (same_ending e name (before_plt name) plt i))
 
   same_named : HasSameSymbols → (name : List ℕ) → IfNamed name → addresses_named file name ≡ addresses_named other name
   same_named e name plt = ap (λ found. if length name == 0 then Ok [] else found) (same_versioned e name plt)
 
-  same_behind : HasSameSymbols → (name : List ℕ) (count : Option ℕ) → IfNamed name → behind_name file name count ≡ behind_name other name count
-  unfolding behind_name
-  same_behind e name count plt = ap (λ found. and_then found (λ addresses. Ok (moved_by count addresses))) (same_named e name plt)
+  same_behind : HasSameSymbols → (name : List ℕ) (offset : Option ℕ) → IfNamed name → offset_from_name file name offset ≡ offset_from_name other name offset
+  unfolding offset_from_name
+  same_behind e name offset plt = ap (λ found. and_then found (λ addresses. Ok (offset_if_number offset addresses))) (same_named e name plt)
 
   -- by whether a plus sign ends the name
-  same_by_plus : HasSameSymbols → (word name : List ℕ) (count : Option ℕ) (b : Bool) → ((if b then ends_with_plt word else ends_with_plt name) ≡ true → HasSameEntries) →
-      (if b then addresses_named file word else behind_name file name count) ≡ (if b then addresses_named other word else behind_name other name count)
-  same_by_plus e word name count true plt = same_named e word plt
-  same_by_plus e word name count false plt = same_behind e name count plt
+  same_by_plus : HasSameSymbols → (word name : List ℕ) (offset : Option ℕ) (b : Bool) → ((if b then ends_with_plt word else ends_with_plt name) ≡ true → HasSameEntries) →
+      (if b then addresses_named file word else offset_from_name file name offset) ≡ (if b then addresses_named other word else offset_from_name other name offset)
+  same_by_plus e word name offset true plt = same_named e word plt
+  same_by_plus e word name offset false plt = same_behind e name offset plt
 
   same_number : HasSameSymbols → (word : List ℕ) → (names_entry word ≡ true → HasSameEntries) → (found : Option ℕ) → number_or_name file word found ≡ number_or_name other word found
   same_number e word plt (Some address) = refl
@@ -156,28 +159,15 @@ module _ (file : File) (image : Image) where
 
   -- ---- rows of words
 
-  same_answer : HasSameFrames → (style : Style) (target : Result (Option ℕ) ElfError) (line : Line) → IsAnswer style (eh_frame_in file) (debug_frame_in file) target line → IsAnswer style (eh_frame_in other) (debug_frame_in other) target line
-  same_answer (eh, debug) style target line is =
-      subst (λ (d : Result (Option GivenSection) ElfError). IsAnswer style (result_transpose (eh_frame_of other)) (result_transpose d) target line) debug
-      (subst (λ (e : Result (Option GivenSection) ElfError). IsAnswer style (result_transpose e) (result_transpose (debug_frame_of file)) target line) eh is)
-
-  same_word : HasSameFrames → (style : Style) (several : Bool) (word : List ℕ) (target : Result (Option ℕ) ElfError) (line : Line) → IsAnswerTo style file several word target line → IsAnswerTo style other several word target line
-  same_word frames style several word target line (body, is, whole) = (body, same_answer frames style target body is, whole)
-
-  same_each : HasSameFrames → (style : Style) (several : Bool) (word addresses : List ℕ) (line : Line) → AreEach (IsAnswerAt style file several word) addresses line → AreEach (IsAnswerAt style other several word) addresses line
-  same_each frames style several word [] line are = are
-  same_each frames style several word (a ∷ others) line (first, second, is, are, whole) =
-      (first, second, same_word frames style several word (Ok (Some a)) first is, same_each frames style several word others second are, whole)
-
-  same_answers : HasSameFrames → (style : Style) (several : Bool) (word : List ℕ) (named : Result (List ℕ) ElfError) (line : Line) → AreAnswersTo style file several word named line → AreAnswersTo style other several word named line
-  same_answers frames style several word (Ok []) line is = same_word frames style several word (Ok None) line is
-  same_answers frames style several word (Ok (a ∷ others)) line are = same_each frames style several word (a ∷ others) line are
-  same_answers frames style several word (Err error) line is = same_word frames style several word (Err error) line is
+  same_answers : HasSameFrames → (style : Style) (several : Bool) (word : List ℕ) (named : Result (List ℕ) ElfError) (line : Line) → AreAnswersIn style (eh_frame_in file) (debug_frame_in file) several word named line → AreAnswersIn style (eh_frame_in other) (debug_frame_in other) several word named line
+  same_answers (eh, debug) style several word named line are =
+      subst (λ (d : Result (Option GivenSection) ElfError). AreAnswersIn style (result_transpose (eh_frame_of other)) (result_transpose d) several word named line) debug
+      (subst (λ (e : Result (Option GivenSection) ElfError). AreAnswersIn style (result_transpose e) (result_transpose (debug_frame_of file)) several word named line) eh are)
 
   same_word_line : HasSameFrames → HasSameSymbols → (style : Style) (several : Bool) (word : List ℕ) → (names_entry word ≡ true → HasSameEntries) → (line : Line) → IsWordLine style file several word line → IsWordLine style other several word line
   same_word_line frames e style several word plt line (inl are) =
-      inl (subst (λ (named : Result (List ℕ) ElfError). AreAnswersIn style other several word named line) (same_targets e word plt)
-      (same_answers frames style (several_lines several (target_addresses file word)) word (target_addresses file word) line are))
+      inl (subst (λ (named : Result (List ℕ) ElfError). AreAnswersIn style (eh_frame_in other) (debug_frame_in other) several word named line) (same_targets e word plt)
+      (same_answers frames style several word (target_addresses file word) line are))
   same_word_line frames e style several word plt line (inr are) = inr (same_answers frames style several word (Err elf.OutOfMemory) line are)
 
   same_lines : HasSameFrames → HasSameSymbols → (style : Style) (several : Bool) (words : List (List ℕ)) → (list_any names_entry words ≡ true → HasSameEntries) → (line : Line) → AreEach (IsWordLine style file several) words line → AreEach (IsWordLine style other several) words line
@@ -192,7 +182,7 @@ module _ (file : File) (image : Image) where
 
   -- ---- all that is printed of a file
 
-  pub same_output : HasSameFrames → (names : RegisterNames) (printed : Printed) → (needs_symbols printed ≡ true → HasSameSymbols) → (needs_plt printed ≡ true → HasSameEntries) → (line : Line) → IsNamed names printed file line → IsNamed names printed other line
+  pub same_output : HasSameFrames → (names : RegisterNames) (printed : Printed) → (needs_symbols printed ≡ true → HasSameSymbols) → (needs_plt printed ≡ true → HasSameEntries) → (line : Line) → IsOfNames names printed file line → IsOfNames names printed other line
   same_output frames names (Row words format) symbols plt line is = same_lines frames (symbols refl) (styled names format) (has_several (texts words.now)) (texts words.now) plt line is
   same_output frames names (Rows word format) symbols plt line is = same_rows frames (symbols refl) (styled names format) word plt line is
   same_output frames names Dump symbols plt line is = same_entries frames (symbols refl) names line is

@@ -10,26 +10,27 @@ use Rattle.cfi_elf.proofs.PltImages.{same_plt_parts}
 use Rattle.cfi_programs.specs.Lines.{Line}
 use Rattle.cfi_programs.specs.declared.style.Format.{Format}
 use Rattle.gimli_cfi.specs.SectionSources.{GivenSection}
-use Rattle.cfi_object.specs.FileParts.{HasAll, IsEnoughOf}
-use Rattle.cfi_object.specs.declared.parts.Needed.{Needed}
+use Rattle.cfi_object.specs.NeededParts.{HasAll, IsEnoughOf}
+use Rattle.cfi_object.specs.declared.needed.Needed.{Needed}
 use Rattle.cfi_object.specs.MachineNames.{names_in}
 use Rattle.cfi_object.proofs.SameFrames.{same_debug, same_eh_frame}
 use Rattle.cfi_object.proofs.SectionReads.{section_address_read}
 use Rattle.cfi_files.specs.declared.finding.Finding.{Finding}
 use Rattle.cfi_files.specs.declared.request.Request.{Request}
-use Rattle.cfi_files.specs.FileOutputs.{ChecksInput, IsCheck, IsCheckOfParsed, IsOfParsed, needed_for}
+use Rattle.cfi_files.specs.FileOutputs.{ChecksInput, IsCheckOfFrames, IsCheckOfParsed, IsOfParsed, needed_for}
 use Rattle.cfi_files.specs.Findings.{ChecksSome}
 use Rattle.cfi_files.proofs.SameOutputs.{same_output}
 
 output_of : (request : Request) (bytes : List ℕ) (file : File) → IsImageOf file.image bytes → HasAll (needed_for request.printed) file → (line : Line) → IsOfParsed request (Ok file) line → IsOfParsed request (Ok (in_whole bytes file)) line
-output_of request bytes file of (eh, debug, symbols, plt) line is =
-    same_output file (whole bytes) ((same_eh_frame file bytes of).same eh, (same_debug file bytes of).same debug) (names_in file request.raw) request.printed
-    (λ needed. ((same_symbol_table file of).same (symbols needed), λ name. (same_section_address file of name).same (section_address_read file eh name)))
-    (λ needed. (same_plt_parts file of).same (plt needed)) line is
+output_of request bytes file of has line is =
+    let eh = has.frames.eh_frame in
+    same_output file (whole bytes) ((same_eh_frame file bytes of).same eh, (same_debug file bytes of).same has.frames.debug_frame) (names_in file request.raw) request.printed
+    (λ needed. ((same_symbol_table file of).same (has.symbols needed), λ name. (same_section_address file of name).same (section_address_read file eh name)))
+    (λ needed. (same_plt_parts file of).same (has.plt needed)) line is
 
 check_of : (format : Format) (bytes : List ℕ) (file : File) (needed : Needed) → IsImageOf file.image bytes → HasAll needed file → (finding : Finding) (line : Line) → IsCheckOfParsed format (Ok file) finding line → IsCheckOfParsed format (Ok (in_whole bytes file)) finding line
-check_of format bytes file needed of (eh, debug, symbols, plt) finding line is =
-    subst (λ (found : Result (Option GivenSection) ElfError). IsCheck format (result_transpose found) finding line) ((same_eh_frame file bytes of).same eh) is
+check_of format bytes file needed of has finding line is =
+    subst (λ (found : Result (Option GivenSection) ElfError). IsCheckOfFrames format (result_transpose found) finding line) ((same_eh_frame file bytes of).same has.frames.eh_frame) is
 
 pub output_by : (request : Request) (image : Image) (bytes : List ℕ) → IsImageOf image bytes → IsRead (elf_file_of image) → (r : Result File ElfError) → elf_file_of image ≡ r → IfOk r (HasAll (needed_for request.printed)) → (line : Line) →
     IsOfParsed request r line → IsOfParsed request (elf_file bytes) line

@@ -18,12 +18,11 @@ use Rattle.cfi_elf.specs.declared.error.ElfError.TheVariants as elf
 use Rattle.cfi_object.specs.Targets.{IsOrNoMemory, target_addresses}
 use Rattle.cfi_programs.specs.WriterOutput.{PrintsSome}
 use Rattle.cfi_read_core.specs.declared.error.Error.TheVariants.{OutOfMemory}
-use Rattle.gimli_cfi.specs.SectionSources.{GivenSection}
 use Rattle.cfi_files.specs.Asked.{address_found, asked_text, has_several}
 use Rattle.cfi_files.specs.FileLines.{AreEach, in_turn, no_lines, under}
-use Rattle.cfi_files.specs.Found.{debug_frame_in, eh_frame_in}
-use Rattle.cfi_files.specs.RowOutputs.{AreAnswersIn, several_lines, IsAnswer, IsAnswerAt, IsAnswerTo, IsWordLine, no_place, no_row_of}
-use Rattle.cfi_programs.specs.Lines.{refusal_behind}
+use Rattle.cfi_files.specs.Found.{FoundSection, debug_frame_in, eh_frame_in}
+use Rattle.cfi_files.specs.RowOutputs.{AreAnswersIn, several_lines, IsTargetAnswer, IsAddressLine, IsTargetLine, IsWordLine, no_place, no_row_of}
+use Rattle.cfi_programs.specs.Refusals.{refusal_end}
 use Rattle.cfi_files.proofs.Joined.{IsGiven}
 
 -- ---- outputs put together
@@ -42,59 +41,58 @@ regrouped a b c = λ i. record { text = sym (append_assoc a.text b.text c.text) 
 
 -- ---- each word has some line
 
-pub some_answer : (style : Style) (eh debug : Option (Result GivenSection ElfError)) (target : Result (Option ℕ) ElfError) → (line : Line) × IsAnswer style eh debug target line
-some_answer style eh debug (Ok (Some address)) = (refusal_behind style.format OutOfMemory, inr refl)
+pub some_answer : (style : Style) (eh debug : FoundSection) (target : Result (Option ℕ) ElfError) → (line : Line) × IsTargetAnswer style eh debug target line
+some_answer style eh debug (Ok (Some address)) = (refusal_end style.format OutOfMemory, inr refl)
 some_answer style eh debug (Ok None) = (no_place style.format, refl)
 some_answer style eh debug (Err e) = (no_row_of style.format e, refl)
 
--- an answer by other names for the sections and for what the word names
-pub answer_as : {E : Type 0} (style : Style) (eh eh' debug debug' : Option (Result GivenSection ElfError)) (target target' : Result (Option ℕ) ElfError) (old new : Option (List ℕ)) (r : Result ℕ E) →
-    eh ≡ eh' → debug ≡ debug' → target ≡ target' → PrintsSome (λ line. IsAnswer style eh debug target line) old new r → PrintsSome (λ line. IsAnswer style eh' debug' target' line) old new r
-answer_as style eh eh' debug debug' target target' old new r e d t printed =
-    subst (λ (x : Result (Option ℕ) ElfError). PrintsSome (λ line. IsAnswer style eh' debug' x line) old new r) t
-    (subst (λ (x : Option (Result GivenSection ElfError)). PrintsSome (λ line. IsAnswer style eh' x target line) old new r) d
-    (subst (λ (x : Option (Result GivenSection ElfError)). PrintsSome (λ line. IsAnswer style x debug target line) old new r) e printed))
+-- an output by other names for the sections
+pub by_sections : {E : Type 0} (P : FoundSection → FoundSection → Line → Type 0) (eh eh' debug debug' : FoundSection) (old new : Option (List ℕ)) (r : Result ℕ E) →
+    eh ≡ eh' → debug ≡ debug' → PrintsSome (P eh debug) old new r → PrintsSome (P eh' debug') old new r
+by_sections P eh eh' debug debug' old new r e d printed =
+    subst (λ (x : FoundSection). PrintsSome (P x debug') old new r) e
+    (subst (λ (x : FoundSection). PrintsSome (P eh x) old new r) d printed)
 
-pub some_line : (style : Style) (file : File) (several : Bool) (word : List ℕ) (target : Result (Option ℕ) ElfError) → (line : Line) × IsAnswerTo style file several word target line
-some_line style file several word target =
+pub some_line : (style : Style) (eh debug : FoundSection) (several : Bool) (word : List ℕ) (target : Result (Option ℕ) ElfError) → (line : Line) × IsTargetLine style eh debug several word target line
+some_line style eh debug several word target =
     let front = asked_text style.format several word (address_found target) in
-    let answer = some_answer style (eh_frame_in file) (debug_frame_in file) target in
+    let answer = some_answer style eh debug target in
     (under front answer.0, (answer.0, answer.1, refl))
 
 pub some_word_line : (style : Style) (file : File) (several : Bool) (word : List ℕ) → (line : Line) × IsWordLine style file several word line
 some_word_line style file several word =
-    let some = some_line style file several word (Err elf.OutOfMemory) in
+    let some = some_line style (eh_frame_in file) (debug_frame_in file) several word (Err elf.OutOfMemory) in
     (some.0, inr some.1)
 
-pub some_answer_at : (style : Style) (file : File) (several : Bool) (word : List ℕ) (address : ℕ) → (line : Line) × IsAnswerAt style file several word address line
-some_answer_at style file several word address = some_line style file several word (Ok (Some address))
+pub some_answer_at : (style : Style) (eh debug : FoundSection) (several : Bool) (word : List ℕ) (address : ℕ) → (line : Line) × IsAddressLine style eh debug several word address line
+some_answer_at style eh debug several word address = some_line style eh debug several word (Ok (Some address))
 
 -- the lines of a word that names these addresses, none or some
 pub not_empty : (a : ℕ) (others : List ℕ) → (length (a ∷ others) == 0) ≡ false
 not_empty a others = ne_eqb (length (a ∷ others)) 0 (λ same. omega (arith, same))
 
-pub of_none : {E : Type 0} (style : Style) (file : File) (given several : Bool) (word addresses : List ℕ) (old new : Option (List ℕ)) (r : Result ℕ E) → given ≡ several_lines several (Ok addresses) → (length addresses == 0) ≡ true →
-    PrintsSome (λ line. IsAnswerTo style file given word (Ok None) line) old new r → PrintsSome (λ line. AreAnswersIn style file several word (Ok addresses) line) old new r
-of_none style file given several word [] old new r e none printed = subst (λ (b : Bool). PrintsSome (λ line. IsAnswerTo style file b word (Ok None) line) old new r) e printed
-of_none style file given several word (a ∷ others) old new r e none printed = absurd (true≢false (sym none ∙ not_empty a others))
+pub of_none : {E : Type 0} (style : Style) (eh debug : FoundSection) (given several : Bool) (word addresses : List ℕ) (old new : Option (List ℕ)) (r : Result ℕ E) → given ≡ several_lines several (Ok addresses) → (length addresses == 0) ≡ true →
+    PrintsSome (λ line. IsTargetLine style eh debug given word (Ok None) line) old new r → PrintsSome (λ line. AreAnswersIn style eh debug several word (Ok addresses) line) old new r
+of_none style eh debug given several word [] old new r e none printed = subst (λ (b : Bool). PrintsSome (λ line. IsTargetLine style eh debug b word (Ok None) line) old new r) e printed
+of_none style eh debug given several word (a ∷ others) old new r e none printed = absurd (true≢false (sym none ∙ not_empty a others))
 
-pub of_some : {E : Type 0} (style : Style) (file : File) (given several : Bool) (word addresses : List ℕ) (old new : Option (List ℕ)) (r : Result ℕ E) → given ≡ several_lines several (Ok addresses) → (length addresses == 0) ≡ false →
-    PrintsSome (AreEach (IsAnswerAt style file given word) addresses) old new r → PrintsSome (λ line. AreAnswersIn style file several word (Ok addresses) line) old new r
-of_some style file given several word [] old new r e some printed = absurd (cc)
-of_some style file given several word (a ∷ others) old new r e some printed = subst (λ (b : Bool). PrintsSome (AreEach (IsAnswerAt style file b word) (a ∷ others)) old new r) e printed
+pub of_some : {E : Type 0} (style : Style) (eh debug : FoundSection) (given several : Bool) (word addresses : List ℕ) (old new : Option (List ℕ)) (r : Result ℕ E) → given ≡ several_lines several (Ok addresses) → (length addresses == 0) ≡ false →
+    PrintsSome (AreEach (IsAddressLine style eh debug given word) addresses) old new r → PrintsSome (λ line. AreAnswersIn style eh debug several word (Ok addresses) line) old new r
+of_some style eh debug given several word [] old new r e some printed = absurd (cc)
+of_some style eh debug given several word (a ∷ others) old new r e some printed = subst (λ (b : Bool). PrintsSome (AreEach (IsAddressLine style eh debug b word) (a ∷ others)) old new r) e printed
 
 -- by what the word names
 pub of_named : {E : Type 0} (style : Style) (file : File) (several : Bool) (word addresses given : List ℕ) (old new : Option (List ℕ)) (r : Result ℕ E) → target_addresses file word ≡ Ok addresses → given ≡ addresses →
-    PrintsSome (λ line. AreAnswersIn style file several word (Ok given) line) old new r → PrintsSome (λ line. IsWordLine style file several word line) old new r
+    PrintsSome (λ line. AreAnswersIn style (eh_frame_in file) (debug_frame_in file) several word (Ok given) line) old new r → PrintsSome (λ line. IsWordLine style file several word line) old new r
 of_named style file several word addresses given old new r is same (line, written, are) =
-    (line, written, inl (subst (λ (named : Result (List ℕ) ElfError). AreAnswersIn style file several word named line) (ap (λ (xs : List ℕ). Ok xs) same ∙ sym is) are))
+    (line, written, inl (subst (λ (named : Result (List ℕ) ElfError). AreAnswersIn style (eh_frame_in file) (debug_frame_in file) several word named line) (ap (λ (xs : List ℕ). Ok xs) same ∙ sym is) are))
 
 pub of_error : {E : Type 0} (style : Style) (file : File) (several : Bool) (word : List ℕ) (e : ElfError) (old new : Option (List ℕ)) (r : Result ℕ E) → IsOrNoMemory (target_addresses file word) e →
-    PrintsSome (λ line. IsAnswerTo style file several word (Err e) line) old new r → PrintsSome (λ line. IsWordLine style file several word line) old new r
+    PrintsSome (λ line. IsTargetLine style (eh_frame_in file) (debug_frame_in file) several word (Err e) line) old new r → PrintsSome (λ line. IsWordLine style file several word line) old new r
 of_error style file several word e old new r (inl memory) (line, written, is) =
-    (line, written, inr (subst (λ (e : ElfError). IsAnswerTo style file several word (Err e) line) memory is))
+    (line, written, inr (subst (λ (e : ElfError). IsTargetLine style (eh_frame_in file) (debug_frame_in file) several word (Err e) line) memory is))
 of_error style file several word e old new r (inr named) (line, written, is) =
-    (line, written, inl (subst (λ (found : Result (List ℕ) ElfError). AreAnswersIn style file several word found line) (sym named) is))
+    (line, written, inl (subst (λ (found : Result (List ℕ) ElfError). AreAnswersIn style (eh_frame_in file) (debug_frame_in file) several word found line) (sym named) is))
 
 -- the line of a word by another name for whether there are several
 pub failed_as : {E : Type 0} (style : Style) (file : File) (word : List ℕ) (b b' : Bool) (old new : Option (List ℕ)) (r : Result ℕ E) → b ≡ b' →

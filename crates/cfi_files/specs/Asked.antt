@@ -22,25 +22,27 @@ address_found (Err e) = None
 
 -- ---- in text
 
--- behind a space the address, unless the word is a number
-abbrev pub place_text : Option ℕ → Option ℕ → List ℕ
-place_text (Some number) address = []
-place_text None None = []
-place_text None (Some address) = codes " " ++ address_text address
+-- after a space the address, unless the word is a number
+abbrev pub asked_address_text : Option ℕ → Option ℕ → List ℕ
+asked_address_text (Some number) address = []
+asked_address_text None None = []
+asked_address_text None (Some address) = codes " " ++ address_text address
 
 -- `WORD: `, or `WORD 0xADDRESS: `
 abbrev pub word_text : List ℕ → Option ℕ → List ℕ
-word_text word address = shown word ++ (place_text (number word) address ++ codes ": ")
+word_text word address = shown word ++ (asked_address_text (number word) address ++ codes ": ")
 
 -- ---- in JSON
 
-abbrev pub address_member : Option ℕ → List ℕ
-address_member None = codes "\","
-address_member (Some address) = codes "\",\"address\":\"" ++ (address_text address ++ codes "\",")
+abbrev pub asked_address_member : Option ℕ → List ℕ
+asked_address_member None = codes "\","
+asked_address_member (Some address) =
+    codes "\",\"address\":\"" ++ (address_text address ++ codes "\",")
 
 -- `{"asked":"WORD","address":"0xADDRESS",`
 abbrev pub word_members : List ℕ → Option ℕ → List ℕ
-word_members word address = codes "{\"asked\":\"" ++ (json_name word ++ address_member address)
+word_members word address =
+    codes "{\"asked\":\"" ++ (json_name word ++ asked_address_member address)
 
 -- ---- by the format
 

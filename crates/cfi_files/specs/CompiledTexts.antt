@@ -14,14 +14,15 @@ use Rattle.cfi_compiled.specs.FrameParts.{parts_of_frame}
 use Rattle.cfi_compiled.specs.Steps.{Step}
 use Rattle.cfi_programs.specs.DumpProgramOutput.{text_output}
 use Rattle.cfi_programs.specs.ErrorWords.{error_words}
-use Rattle.cfi_programs.specs.Lines.{Line, address_text, refusal_in}
+use Rattle.cfi_programs.specs.Lines.{Line, address_text}
+use Rattle.cfi_programs.specs.Refusals.{refusal_in}
 use Rattle.cfi_programs.specs.declared.style.Format.TheVariants.{Text}
 use Rattle.cfi_programs.specs.RowLines.{frame_saying, rules_saying}
 use Rattle.cfi_programs.specs.Wordings.{Wording, of_section, text_style}
 use Rattle.cfi_object.specs.declared.register_names.RegisterNames.{RegisterNames}
 
-abbrev pub error_text : ℕ → Error → List ℕ
-error_text start error =
+abbrev pub refused_step_text : ℕ → Error → List ℕ
+refused_step_text start error =
     address_text start ++ codes " refused " ++ error_words Text error ++ 10 ∷ []
 
 abbrev pub step_text : Wording → ℕ → Result (Parts ℕ) Error → List ℕ
@@ -29,7 +30,7 @@ step_text wording start (Ok parts) =
     address_text start
     ++ (frame_saying wording.words wording.names parts.cfa parts.args_size
     ++ (rules_saying wording.words wording.names parts ++ 10 ∷ []))
-step_text wording start (Err error) = error_text start error
+step_text wording start (Err error) = refused_step_text start error
 
 unfoldable pub steps_text : Wording → List Step → List ℕ
 steps_text wording steps =

@@ -6,7 +6,8 @@ use Rattle.cfi_elf.specs.ErrorNames.{name_of_elf}
 use Rattle.cfi_elf.specs.ErrorTexts.{text_of_elf}
 use Rattle.cfi_read_core.specs.declared.error.Error.TheVariants.{OutOfMemory}
 use Rattle.cfi_programs.specs.ErrorWords.{parting}
-use Rattle.cfi_programs.specs.Lines.{Line, reason_line, refusal_in, refused_line}
+use Rattle.cfi_programs.specs.Lines.{Line}
+use Rattle.cfi_programs.specs.Refusals.{reason_line, refusal_in, refused_line}
 use Rattle.cfi_names.specs.Names.{shown}
 use Rattle.cfi_programs.specs.JsonLines.{json_name, json_section}
 use Rattle.cfi_programs.specs.declared.style.Format.{Format}
@@ -53,7 +54,7 @@ file_label Json name = codes "{\"file\":\"" ++ (json_name name ++ codes "\",")
 
 -- ---- outputs that are put together
 
--- an output behind a text
+-- an output after a text
 abbrev pub under : List ℕ → Line → Line
 under front printed = record { text = front ++ printed.text; status = printed.status }
 
@@ -62,7 +63,7 @@ abbrev pub in_turn : Line → Line → Line
 in_turn first second =
     record { text = first.text ++ second.text; status = max first.status second.status }
 
--- an output of which something holds, behind a text
+-- an output of which something holds, after a text
 abbrev pub IsUnder : List ℕ → (Line → Type 0) → Line → Type 0
 IsUnder front Is printed = (body : Line) × Is body × (printed ≡ under front body)
 

@@ -1,8 +1,8 @@
 -- Which output is right for the bytes of a file.
---     IsOutput request bytes line      what is printed of these bytes
+--     IsOfFileBytes request bytes line      what is printed of these bytes
 --     IsOwed request bytes line      the same, or that there was no memory or no input
 --     IsNamedCheck format name bytes finding line      what the check of a file finds, and its line
---         behind the name of the file
+--         after the name of the file
 --     PrintsOwed request input old new result      what is owed for the bytes of an input was
 --         written, with its status
 --     ChecksNamed format name input old new result      the check of an input, and its line, was
@@ -19,7 +19,7 @@ use Rattle.cfi_elf.specs.ElfFiles.{File, elf_file}
 use Rattle.cfi_read_core.specs.RefusalNames.{name_of}
 use Rattle.cfi_read_core.specs.declared.error.Error.TheVariants.{OutOfMemory}
 use Rattle.cfi_elf.specs.FunctionNames.{function_name, name_in}
-use Rattle.cfi_elf.specs.Relocations.{relocated_file}
+use Rattle.cfi_elf.specs.RelocatedFiles.{relocated_file}
 use Rattle.cfi_entry.specs.Sections.{Section}
 use Rattle.gimli_cfi.specs.EhFrameHdr.{HeaderSection}
 use Rattle.gimli_cfi.specs.SectionSources.{GivenSection, given_header, given_section}
@@ -31,15 +31,15 @@ use Rattle.cfi_programs.specs.CheckLines.{verdict_line}
 use Rattle.cfi_programs.specs.declared.dump.printed.AskedRows.{AskedRows}
 use Rattle.cfi_programs.specs.declared.dump.printed.Printed.TheVariants as listed
 use Rattle.cfi_programs.specs.DumpRowTexts.{given_addresses}
-use Rattle.cfi_programs.specs.DumpProgramOutput.{IsPrinted, format_of}
+use Rattle.cfi_programs.specs.DumpProgramOutput.{IsPrinted, printed_format}
 use Rattle.cfi_object.specs.declared.register_names.RegisterNames.{RegisterNames}
 use Rattle.cfi_programs.specs.declared.style.Format.{Format}
 use Rattle.cfi_programs.specs.declared.style.Format.TheVariants.{Text}
 use Rattle.cfi_programs.specs.declared.style.Style.{Style}
 use Rattle.cfi_object.specs.MachineNames.{names_in}
 use Rattle.cfi_object.specs.Targets.{names_entry, target_addresses}
-use Rattle.cfi_object.specs.declared.parts.Needed.{Needed}
-use Rattle.cfi_object.specs.FileParts.{AreLeft}
+use Rattle.cfi_object.specs.declared.needed.Needed.{Needed}
+use Rattle.cfi_object.specs.FileInputs.{AreLeft}
 use Rattle.cfi_files.specs.declared.request.Request.{Request}
 use Rattle.cfi_files.specs.declared.request.Printed.{Printed}
 use Rattle.cfi_files.specs.declared.request.Printed.TheVariants.{Row, Rows, Dump, Table}
@@ -54,14 +54,14 @@ use Rattle.cfi_programs.specs.WriterOutput.{PrintsSome}
 use Rattle.cfi_files.specs.FileLines.{IsUnder, InTurn, elf_refusal, elf_words, file_label}
 use Rattle.cfi_files.specs.FileLines.{no_address, no_call_frames, out_of_memory, section_line}
 use Rattle.cfi_files.specs.FileLines.{wrong_input}
-use Rattle.cfi_files.specs.Found.{debug_frame_in, eh_frame_in}
+use Rattle.cfi_files.specs.Found.{FoundSection, debug_frame_in, eh_frame_in}
 use Rattle.cfi_files.specs.RowOutputs.{AreWordLines}
 
 -- ---- sections
 
 -- the form of the lines
 abbrev pub section_format : SectionPrinted → Format
-section_format (sections.Listed printed) = format_of printed
+section_format (sections.Listed printed) = printed_format printed
 section_format sections.Compiled = Text
 
 -- of a section
@@ -77,8 +77,8 @@ IsPart names what (Err e) printed = printed ≡ elf_refusal (section_format what
 
 -- that of .eh_frame and of .debug_frame, where there are both each under a line with its name
 abbrev pub AreParts :
-    RegisterNames → SectionPrinted → Option (Result GivenSection ElfError) →
-    Option (Result GivenSection ElfError) → Line → Type 0
+    RegisterNames → SectionPrinted → FoundSection →
+    FoundSection → Line → Type 0
 AreParts names what None None printed = printed ≡ no_call_frames (section_format what)
 AreParts names what (Some eh_frame) None printed = IsPart names what eh_frame printed
 AreParts names what None (Some debug_frame) printed = IsPart names what debug_frame printed
@@ -103,39 +103,41 @@ IsVerdictOn format frames header finding printed =
     × (finding ≡ finding_of verdict) × (printed ≡ verdict_line format verdict)
 
 -- without a verdict, for a reason
-abbrev pub IsFound : Format → Finding → List ℕ → Finding → Line → Type 0
-IsFound format what reason finding printed =
+abbrev pub IsFindingFor : Format → Finding → List ℕ → Finding → Line → Type 0
+IsFindingFor format what reason finding printed =
     (finding ≡ what) × (printed ≡ found_line format what reason)
 
 abbrev pub IsVerdictIn :
     Format → GivenSection → Option HeaderSection → Finding → Line → Type 0
 IsVerdictIn format frames None finding printed =
-    IsFound format NoTable (codes "no header") finding printed
+    IsFindingFor format NoTable (codes "no header") finding printed
 IsVerdictIn format frames (Some header) finding printed =
     IsVerdictOn format frames header finding printed
 
-abbrev pub IsCheck : Format → Option (Result GivenSection ElfError) → Finding → Line → Type 0
-IsCheck format None finding printed =
-    IsFound format NoTable (codes "no call frames") finding printed
-IsCheck format (Some (Ok frames)) finding printed =
+abbrev pub IsCheckOfFrames :
+    Format → FoundSection → Finding → Line → Type 0
+IsCheckOfFrames format None finding printed =
+    IsFindingFor format NoTable (codes "no call frames") finding printed
+IsCheckOfFrames format (Some (Ok frames)) finding printed =
     IsVerdictIn format frames (given_header frames) finding printed
-IsCheck format (Some (Err e)) finding printed =
-    IsFound format NoTable (refused (elf_words Text e)) finding printed
+IsCheckOfFrames format (Some (Err e)) finding printed =
+    IsFindingFor format NoTable (refused (elf_words Text e)) finding printed
 
 -- of a file
 abbrev pub IsCheckOfParsed : Format → Result File ElfError → Finding → Line → Type 0
-IsCheckOfParsed format (Ok file) finding printed = IsCheck format (eh_frame_in file) finding printed
+IsCheckOfParsed format (Ok file) finding printed =
+    IsCheckOfFrames format (eh_frame_in file) finding printed
 IsCheckOfParsed format (Err e) finding printed =
-    IsFound format (finding_without e) (refused (elf_words Text e)) finding printed
+    IsFindingFor format (finding_without e) (refused (elf_words Text e)) finding printed
 
 -- or that there was no memory, or the input can't be read
 abbrev pub IsCheckOfInput : Format → List ℕ → Finding → Line → Type 0
 IsCheckOfInput format bytes finding printed =
     IsCheckOfParsed format (elf_file bytes) finding printed
-    ⊎ (IsFound format NoTable (refused (name_of OutOfMemory)) finding printed
-    ⊎ IsFound format Unreadable (codes "wrong input") finding printed)
+    ⊎ (IsFindingFor format NoTable (refused (name_of OutOfMemory)) finding printed
+    ⊎ IsFindingFor format Unreadable (codes "wrong input") finding printed)
 
--- behind the name of the file
+-- after the name of the file
 abbrev pub IsNamedCheck : Format → List ℕ → List ℕ → Finding → Line → Type 0
 IsNamedCheck format name bytes finding printed =
     IsUnder (file_label format name) (IsCheckOfInput format bytes finding) printed
@@ -147,14 +149,14 @@ abbrev pub AreNamesOf : File → FunctionNames → Type 0
 AreNamesOf file functions = (address : ℕ) → name_in functions address ≡ function_name file address
 
 -- in this form, at these addresses
-abbrev pub IsAskedFor : Style → File → Option (List ℕ) → AskedRows → Type 0
-IsAskedFor style file addresses asked =
+abbrev pub AreAskedRows : Style → File → Option (List ℕ) → AskedRows → Type 0
+AreAskedRows style file addresses asked =
     (given_addresses asked.addresses ≡ addresses) × AreNamesOf file asked.functions.now
     × (asked.format ≡ style.format)
 
 abbrev pub AreNamedRows : Style → File → Option (List ℕ) → Line → Type 0
 AreNamedRows style file addresses printed =
-    (asked : AskedRows) × IsAskedFor style file addresses asked
+    (asked : AskedRows) × AreAskedRows style file addresses asked
     × AreSections style.names (sections.Listed (listed.Rows asked)) file printed
 
 -- or that memory was refused for these
@@ -214,29 +216,31 @@ needs_plt Dump = false
 needs_plt Table = false
 
 abbrev pub needed_for : Printed → Needed
-needed_for printed = record { symbols = needs_symbols printed; plt = needs_plt printed }
+needed_for printed =
+    record { symbols = needs_symbols printed; plt = needs_plt printed; build = false }
 
 abbrev pub styled : RegisterNames → Format → Style
 styled names format = record { names = names; format = format }
 
 -- with these names of registers
-abbrev pub IsNamed : RegisterNames → Printed → File → Line → Type 0
-IsNamed names (Row words format) file printed =
+abbrev pub IsOfNames : RegisterNames → Printed → File → Line → Type 0
+IsOfNames names (Row words format) file printed =
     AreWordLines (styled names format) file (texts words.now) printed
-IsNamed names (Rows word format) file printed = AreRows (styled names format) file word printed
-IsNamed names Dump file printed = AreEntries names file printed
-IsNamed names Table file printed = AreSections names sections.Compiled file printed
+IsOfNames names (Rows word format) file printed = AreRows (styled names format) file word printed
+IsOfNames names Dump file printed = AreEntries names file printed
+IsOfNames names Table file printed = AreSections names sections.Compiled file printed
 
-abbrev pub IsOfFile : Request → File → Line → Type 0
-IsOfFile request file printed = IsNamed (names_in file request.raw) request.printed file printed
+abbrev pub IsOfElfFile : Request → File → Line → Type 0
+IsOfElfFile request file printed =
+    IsOfNames (names_in file request.raw) request.printed file printed
 
 abbrev pub IsOfParsed : Request → Result File ElfError → Line → Type 0
-IsOfParsed request (Ok file) printed = IsOfFile request file printed
+IsOfParsed request (Ok file) printed = IsOfElfFile request file printed
 IsOfParsed request (Err e) printed = printed ≡ elf_refusal (format_for request.printed) e
 
 -- of a relocatable file, relocated
-abbrev pub IsOutput : Request → List ℕ → Line → Type 0
-IsOutput request bytes printed =
+abbrev pub IsOfFileBytes : Request → List ℕ → Line → Type 0
+IsOfFileBytes request bytes printed =
     ((elf_file bytes ≢ Err Relocatable) × IsOfParsed request (elf_file bytes) printed)
     ⊎ ((elf_file bytes ≡ Err Relocatable) × IsOfParsed request (relocated_file bytes) printed)
 
@@ -250,7 +254,7 @@ IsOfCopy request relocated printed =
 -- or that there was no memory, or the input can't be read
 abbrev pub IsOwed : Request → List ℕ → Line → Type 0
 IsOwed request bytes printed =
-    IsOutput request bytes printed
+    IsOfFileBytes request bytes printed
     ⊎ ((printed ≡ out_of_memory (format_for request.printed))
     ⊎ (printed ≡ wrong_input (format_for request.printed)))
 

@@ -1,8 +1,9 @@
 -- What the check of a file found.
 use Rattle.std.specs.Prelude.{◌≡◌, ℕ, Bool, true, false, List, Option, Result, IfOk, ◌++◌, codes}
 use Rattle.cfi_programs.specs.Lines.{Line, line}
-use Rattle.cfi_programs.specs.CheckLines.{finding_text}
+use Rattle.cfi_programs.specs.CheckLines.{reasoned}
 use Rattle.cfi_programs.specs.declared.style.Format.{Format}
+use Rattle.cfi_programs.specs.declared.style.Format.TheVariants.{Text, Json}
 use Rattle.cfi_programs.specs.WriterOutput.{Writes}
 use Rattle.gimli_cfi.specs.declared.hdr.verdict.Verdict.{Verdict}
 use Rattle.gimli_cfi.specs.declared.hdr.verdict.Verdict.TheVariants as verdicts
@@ -27,12 +28,12 @@ is_faithful OtherFile = false
 is_faithful Unreadable = false
 
 -- the status of a run that found this
-abbrev pub status_of : Finding → ℕ
-status_of Faithful = 0
-status_of Unfaithful = 1
-status_of NoTable = 1
-status_of OtherFile = 0
-status_of Unreadable = 2
+abbrev pub finding_status : Finding → ℕ
+finding_status Faithful = 0
+finding_status Unfaithful = 1
+finding_status NoTable = 1
+finding_status OtherFile = 0
+finding_status Unreadable = 2
 
 abbrev pub name_of_finding : Finding → List ℕ
 name_of_finding Faithful = codes "faithful"
@@ -44,10 +45,15 @@ name_of_finding Unreadable = codes "unreadable"
 abbrev pub refused : List ℕ → List ℕ
 refused words = codes "refused " ++ words
 
+-- what is said of a file that has no verdict: only JSON says what was found
+abbrev pub finding_text : Format → List ℕ → List ℕ → List ℕ
+finding_text Text found reason = reason
+finding_text Json found reason = reasoned found reason
+
 -- the end of the line of a file, for a reason
 abbrev pub found_line : Format → Finding → List ℕ → Line
 found_line format finding reason =
-    line (finding_text format (name_of_finding finding) reason) (status_of finding)
+    line (finding_text format (name_of_finding finding) reason) (finding_status finding)
 
 abbrev pub finding_of : Verdict → Finding
 finding_of (verdicts.Faithful rows) = Faithful

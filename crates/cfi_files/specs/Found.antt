@@ -7,21 +7,24 @@ use Rattle.cfi_read_core.specs.ReaderCalls.{map_ok}
 use Rattle.gimli_cfi.specs.SectionSources.{GivenSection, source_view}
 use Rattle.gimli_cfi.specs.declared.source.SectionSource.{SectionSource}
 use Rattle.cfi_object.specs.CallFrames.{debug_frame_of, eh_frame_of}
-use Rattle.cfi_files.specs.declared.row.FrameSections.{FrameSections}
+use Rattle.cfi_files.specs.declared.address_row.FrameSections.{FrameSections}
 
-abbrev pub eh_frame_in : File → Option (Result GivenSection ElfError)
+-- none where the file has no such section
+abbrev pub FoundSection : Type 0
+FoundSection = Option (Result GivenSection ElfError)
+
+abbrev pub eh_frame_in : File → FoundSection
 eh_frame_in file = result_transpose (eh_frame_of file)
 
-abbrev pub debug_frame_in : File → Option (Result GivenSection ElfError)
+abbrev pub debug_frame_in : File → FoundSection
 debug_frame_in file = result_transpose (debug_frame_of file)
 
 -- ---- as the code has them
 
-abbrev pub part_view :
-    Option (Result SectionSource ElfError) → Option (Result GivenSection ElfError)
-part_view part = option_map (λ part. map_ok source_view part) part
+abbrev pub frames_view : Option (Result SectionSource ElfError) → FoundSection
+frames_view part = option_map (λ part. map_ok source_view part) part
 
 abbrev pub AreSectionsOf : File → FrameSections → Type 0
 AreSectionsOf file sections =
-    (part_view sections.eh_frame ≡ eh_frame_in file)
-    × (part_view sections.debug_frame ≡ debug_frame_in file)
+    (frames_view sections.eh_frame ≡ eh_frame_in file)
+    × (frames_view sections.debug_frame ≡ debug_frame_in file)

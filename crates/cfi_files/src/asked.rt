@@ -1,14 +1,15 @@
 //! What stands before the answer to a word.
-ghost use Rattle.std.specs.Prelude.{◌≡◌, ◌++◌};
+ghost use Rattle.std.specs.Prelude.{◌≡◌};
 ghost use Rattle.cfi_programs.specs.WriterOutput.{Writes};
 ghost use Rattle.cfi_programs.specs.Words.{texts};
-ghost use Rattle.cfi_files.specs.Asked.{address_found, address_member, asked_text, has_several};
-ghost use Rattle.cfi_files.specs.Asked.{place_text, word_members, word_text};
+ghost use Rattle.cfi_files.specs.Asked.{address_found, asked_address_member, asked_text};
+ghost use Rattle.cfi_files.specs.Asked.{has_several, asked_address_text, word_members, word_text};
 
 use cfi_elf::ElfError;
 use cfi_object::number_in;
-use cfi_programs::lines::{Address, write_part, write_text};
+use cfi_programs::lines::{write_part, write_text};
 use cfi_programs::names::{write_json_name, write_name};
+use cfi_programs::numbers::Address;
 use cfi_programs::style::Format;
 use std::io;
 use std::io::Write;
@@ -66,7 +67,7 @@ fn write_place<W: Write>(
     address: Option<u64>,
 ) -> io::Result<()>
     ensures { Writes (W.contents output.old) (W.contents output.new) result
-        (place_text number address) }
+        (asked_address_text number address) }
 {
     match (number, address) {
         (None, Some(address)) => {
@@ -90,7 +91,7 @@ fn write_members<W: Write>(output: &mut W, word: &str, address: Option<u64>) -> 
 /// Writes the end of a string, and the address where there is one.
 fn write_address_member<W: Write>(output: &mut W, address: Option<u64>) -> io::Result<()>
     ensures { Writes (W.contents output.old) (W.contents output.new) result
-        (address_member address) }
+        (asked_address_member address) }
 {
     match address {
         None => write_text(output, b"\","),

@@ -11,14 +11,16 @@ ghost use Rattle.cfi_programs.specs.DumpProgramOutput.{text_output};
 ghost use Rattle.cfi_programs.specs.Lines.{Line, address_text};
 ghost use Rattle.cfi_programs.specs.Wordings.{text_style, worded};
 ghost use Rattle.cfi_programs.specs.WriterOutput.{Prints, Writes};
-ghost use Rattle.cfi_files.specs.CompiledTexts.{IsCompiledText, error_text, step_text};
+ghost use Rattle.cfi_files.specs.CompiledTexts.{IsCompiledText, refused_step_text, step_text};
 ghost use Rattle.cfi_files.specs.CompiledTexts.{steps_text};
 
 use cfi_compiled::{CompiledRow, CompiledStep, CompiledTable};
 use cfi_object::register_names::RegisterNames;
 use cfi_programs::error_words::ErrorWords;
-use cfi_programs::lines::{Address, write_part, write_refusal, write_text};
-use cfi_programs::row_line::{HasRules, number_behind};
+use cfi_programs::lines::{write_part, write_text};
+use cfi_programs::numbers::Address;
+use cfi_programs::refusals::write_refusal;
+use cfi_programs::register_rules::{HasRules, number_after};
 use cfi_programs::row_words::{write_frame, write_rules};
 use cfi_programs::style::Format;
 use gimli_cfi::{
@@ -156,7 +158,7 @@ fn write_start<W: Write>(output: &mut W, start: u64) -> io::Result<()>
 /// Writes the line of a step that has an error.
 fn write_error<W: Write>(output: &mut W, start: u64, error: Error) -> io::Result<()>
     ensures { Writes (W.contents output.old) (W.contents output.new) result
-        (error_text start error) }
+        (refused_step_text start error) }
 {
     let start = Address(start);
     let words = ErrorWords {
@@ -180,7 +182,7 @@ impl HasRules for TableRow<'_, '_> {
     fn end(&self) -> u32 {
         let mut end = 0u32;
         for pair in self.0.registers() {
-            end = end.max(number_behind(pair.0));
+            end = end.max(number_after(pair.0));
         }
         end
     }

@@ -7,7 +7,7 @@ use crate::sections::{SectionPrinted, print_sections};
 use cfi_elf::{ElfFile, FunctionNames};
 use cfi_object::register_names::RegisterNames;
 use cfi_programs::dump::Printed;
-use cfi_programs::lines::write_refusal_in;
+use cfi_programs::refusals::write_refusal_in;
 use cfi_programs::style::Format;
 use gimli_cfi::Error;
 use std::alloc::Global;

@@ -1,17 +1,19 @@
 //! What the check of a file found.
-ghost use Rattle.std.specs.Prelude.{◌≡◌, ◌++◌, IfOk};
+ghost use Rattle.std.specs.Prelude.{◌≡◌, ◌++◌, [], ◌∷◌, IfOk};
+ghost use Rattle.cfi_programs.specs.CheckLines.{reasoned};
 ghost use Rattle.cfi_read_core.specs.ReaderCalls.{map_ok};
 ghost use Rattle.cfi_programs.specs.WriterOutput.{Writes};
+ghost use Rattle.cfi_files.specs.Findings.{finding_text};
 ghost use Rattle.cfi_files.specs.Findings.{finding_of, finding_without, found_line, has_table};
-ghost use Rattle.cfi_files.specs.Findings.{is_faithful, name_of_finding, refused, status_of};
+ghost use Rattle.cfi_files.specs.Findings.{is_faithful, name_of_finding, refused, finding_status};
 ghost use Rattle.cfi_files.specs.FileLines.{elf_words};
 ghost use Rattle.cfi_programs.specs.declared.style.Format.TheVariants.{Json, Text};
 
 use crate::lines::write_elf_words;
 use cfi_elf::ElfError;
-use cfi_programs::check::output_line::write_finding;
-use cfi_programs::lines::write_between;
+use cfi_programs::lines::{write_between, write_text};
 use cfi_programs::style::Format;
+use cfi_programs::verdict_line::write_reasoned;
 use gimli_cfi::Verdict;
 use std::io;
 use std::io::Write;
@@ -49,7 +51,7 @@ impl Finding {
     /// Returns the status of a run that found this: 0 where the table is faithful or the file isn't
     /// an ELF file, 2 where the file can't be read, and else 1.
     pub fn status(&self) -> u8
-        ensures { result ≡ status_of self.now }
+        ensures { result ≡ finding_status self.now }
     {
         match self {
             Finding::Faithful => 0,
@@ -107,7 +109,7 @@ pub(crate) fn found(finding: Finding, printed: io::Result<u8>) -> io::Result<Fin
 }
 
 /// Writes the end of the line of a file of which this was found for a reason, a text and a name
-/// behind it, and returns what was found.
+/// after it, and returns what was found.
 pub(crate) fn write_found<W: Write>(
     output: &mut W,
     format: Format,
@@ -122,6 +124,38 @@ pub(crate) fn write_found<W: Write>(
     let what = finding.name().as_bytes();
     write_finding(output, format, what, reason.as_bytes(), name.as_bytes())?;
     Ok(finding)
+}
+
+/// Writes the end of a line about a file: in JSON what was found, and in either format why, as a
+/// text and a name after it.
+fn write_finding<W: Write>(
+    output: &mut W,
+    format: Format,
+    found: &[u8],
+    reason: &[u8],
+    name: &[u8],
+) -> io::Result<()>
+    ensures { Writes (W.contents output.old) (W.contents output.new) result
+        (finding_text format found.now (reason.now ++ name.now) ++ 10 ∷ []) }
+{
+    match format {
+        Format::Text => write_between(output, reason, name, b"\n"),
+        Format::Json => write_reasoned_line(output, found, reason, name),
+    }
+}
+
+/// Writes what `write_reasoned` writes, and the end of the line.
+fn write_reasoned_line<W: Write>(
+    output: &mut W,
+    found: &[u8],
+    reason: &[u8],
+    name: &[u8],
+) -> io::Result<()>
+    ensures { Writes (W.contents output.old) (W.contents output.new) result
+        (reasoned found.now (reason.now ++ name.now) ++ 10 ∷ []) }
+{
+    write_reasoned(output, found, reason, name)?;
+    write_text(output, b"\n")
 }
 
 /// Writes the end of the line of a file of which this was found for an error of the file, and

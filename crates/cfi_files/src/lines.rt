@@ -1,13 +1,14 @@
 //! Lines that say why nothing is printed of a file.
 ghost use Rattle.std.specs.Prelude.{◌≡◌, ◌++◌};
 ghost use Rattle.cfi_programs.specs.WriterOutput.{Prints, Writes};
-ghost use Rattle.cfi_files.specs.FileLines.{advice_on, elf_refusal, elf_words};
-ghost use Rattle.cfi_files.specs.FileLines.{no_address, no_call_frames, section_line};
-ghost use Rattle.cfi_files.specs.FileLines.{wrong_input};
+ghost use Rattle.cfi_files.specs.FileLines.{advice_on, elf_refusal, elf_words, no_address};
+ghost use Rattle.cfi_files.specs.FileLines.{no_call_frames, wrong_input};
+ghost use Rattle.cfi_files.specs.RowOutputs.{no_frames, no_place, no_row_of};
 
 use cfi_elf::ElfError;
 use cfi_programs::error_words::parting;
-use cfi_programs::lines::{write_between, write_part, write_reason, write_text};
+use cfi_programs::lines::{write_part, write_text};
+use cfi_programs::refusals::{write_reason, write_reason_end};
 use cfi_programs::style::Format;
 use std::io;
 use std::io::Write;
@@ -65,7 +66,7 @@ fn write_elf_reason<W: Write>(output: &mut W, format: Format, error: ElfError) -
     write_part(output, format_args!("{name}{parting}{error}{advice}"))
 }
 
-/// Returns what to do about an error, behind its sentence.
+/// Returns what to do about an error, after its sentence.
 fn advice_on(error: ElfError) -> &'static str
     ensures { result.now ≡ advice_on error }
 {
@@ -98,13 +99,40 @@ pub fn write_wrong_input<W: Write>(output: &mut W, format: Format) -> io::Result
     write_reason(output, format, "wrong input", 2)
 }
 
-/// Writes the line with the name of a section.
-pub fn write_section_name<W: Write>(output: &mut W, format: Format, name: &[u8]) -> io::Result<()>
+/// Prints that there is no row, for this error of the file, and returns the status 1.
+pub(crate) fn write_no_row_of<W: Write>(
+    output: &mut W,
+    format: Format,
+    error: ElfError,
+) -> io::Result<u8>
+    ensures { Prints (no_row_of format error)
+        (W.contents output.old) (W.contents output.new) result }
+{
+    write_no_row_line(output, format, error)?;
+    Ok(1)
+}
+
+/// Writes that there is no row, for this error of the file.
+fn write_no_row_line<W: Write>(output: &mut W, format: Format, error: ElfError) -> io::Result<()>
     ensures { Writes (W.contents output.old) (W.contents output.new) result
-        (section_line format name.now) }
+        (no_row_of format error).text }
 {
     match format {
-        Format::Text => write_between(output, b"", name, b"\n"),
-        Format::Json => write_between(output, b"{\"section\":\"", name, b"\"}\n"),
+        Format::Text => write_elf_words(output, Format::Text, b"refused ", error, b"\n"),
+        Format::Json => write_elf_words(output, Format::Json, b"\"error\":\"", error, b"\"}\n"),
     }
+}
+
+/// Prints that the file has no call frames, and returns the status 1.
+pub(crate) fn write_no_frames<W: Write>(output: &mut W, format: Format) -> io::Result<u8>
+    ensures { Prints (no_frames format) (W.contents output.old) (W.contents output.new) result }
+{
+    write_reason_end(output, format, b"", "no call frames")
+}
+
+/// Prints that a word names no address, and returns the status 1.
+pub(crate) fn write_no_place<W: Write>(output: &mut W, format: Format) -> io::Result<u8>
+    ensures { Prints (no_place format) (W.contents output.old) (W.contents output.new) result }
+{
+    write_reason_end(output, format, b"", "no address")
 }

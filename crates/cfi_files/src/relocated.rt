@@ -1,6 +1,6 @@
 //! What is printed of a file whose bytes were all read, and is relocated if it is relocatable.
 ghost use Rattle.cfi_elf.specs.ElfFiles.{file_view, object_file};
-ghost use Rattle.cfi_elf.specs.Relocations.{relocated, relocated_file};
+ghost use Rattle.cfi_elf.specs.RelocatedFiles.{relocated, relocated_file};
 ghost use Rattle.cfi_elf.specs.Results.{and_then};
 ghost use Rattle.cfi_programs.specs.WriterOutput.{PrintsSome};
 ghost use Rattle.cfi_files.specs.FileOutputs.{IsOfCopy, IsOfParsed, IsOwed};
@@ -9,7 +9,7 @@ use crate::lines::write_elf_refusal;
 use crate::request::Request;
 use crate::run::print_file;
 use cfi_elf::{ElfError, ElfFile};
-use cfi_programs::lines::write_refusal_in;
+use cfi_programs::refusals::write_refusal_in;
 use gimli_cfi::Error;
 use std::alloc::Global;
 use std::io;
@@ -33,7 +33,7 @@ pub(crate) fn print_bytes<W: Write>(
 }
 
 /// Prints what is asked for of the relocatable file that these bytes are.
-#[tactic(auto, unfolding(cfi_elf::specs::Relocations::relocated_file))]
+#[tactic(auto, unfolding(cfi_elf::specs::RelocatedFiles::relocated_file))]
 fn print_object<W: Write>(
     alloc: Global,
     request: Request<'_>,

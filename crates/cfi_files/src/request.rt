@@ -5,7 +5,7 @@ ghost use Rattle.cfi_object.specs.Targets.{names_entry};
 ghost use Rattle.cfi_programs.specs.Words.{texts};
 ghost use Rattle.cfi_files.specs.FileOutputs.{format_for, needed_for, needs_plt, needs_symbols};
 
-use cfi_object::parts::Needed;
+use cfi_object::Needed;
 use cfi_object::target::names_entry;
 use cfi_programs::style::Format;
 
@@ -79,6 +79,7 @@ impl Printed<'_> {
         Needed {
             symbols: self.needs_symbols(),
             plt: self.needs_plt(),
+            build: false,
         }
     }
 }

@@ -11,7 +11,7 @@ use crate::sections::{SectionPrinted, print_sections};
 use cfi_elf::{ElfFile, FunctionNames};
 use cfi_object::target::target_addresses;
 use cfi_programs::dump::{AskedRows, Printed};
-use cfi_programs::lines::write_refusal_in;
+use cfi_programs::refusals::write_refusal_in;
 use cfi_programs::style::Style;
 use gimli_cfi::Error;
 use std::alloc::Global;

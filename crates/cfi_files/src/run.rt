@@ -1,30 +1,23 @@
 //! What is printed of a file.
-ghost use Rattle.cfi_elf.specs.ElfFiles.{elf_file_of, file_view};
+ghost use Rattle.cfi_elf.specs.ElfFiles.{file_view};
 ghost use Rattle.cfi_elf.specs.Images.{image_view};
-ghost use Rattle.cfi_programs.specs.WriterOutput.{Writes, PrintsSome};
-ghost use Rattle.cfi_files.specs.FileLines.{file_label};
-ghost use Rattle.cfi_files.specs.FileOutputs.{ChecksInput, ChecksNamed, IsCheckOfParsed};
-ghost use Rattle.cfi_files.specs.FileOutputs.{IsOfFile, PrintsOwed, needed_for};
-ghost use Rattle.cfi_object.specs.FileParts.{IsEnoughOf};
-ghost use Rattle.cfi_files.specs.Findings.{ChecksSome};
+ghost use Rattle.cfi_programs.specs.WriterOutput.{PrintsSome};
+ghost use Rattle.cfi_files.specs.FileOutputs.{IsOfElfFile, PrintsOwed, needed_for};
+ghost use Rattle.cfi_object.specs.NeededParts.{IsEnoughOf};
 
 use crate::entries::print_entries;
-use crate::finding::{Finding, finding_without, write_found, write_refused};
 use crate::lines::{write_elf_refusal, write_wrong_input};
 use crate::relocated::print_bytes;
 use crate::request::{Printed, Request};
 use crate::row::print_words;
 use crate::rows::print_rows;
 use crate::sections::{SectionPrinted, print_sections};
-use crate::table_check::check_table;
 use cfi_elf::{ElfError, ElfFile, Image};
-use cfi_object::input::{FileInput, InputError};
 use cfi_object::machine_names::names_in;
-use cfi_object::parts::{Needed, read_parts, read_whole};
-use cfi_programs::lines::{write_refusal_in, write_text};
+use cfi_object::{FileInput, InputError, read_parts, read_whole};
 use cfi_programs::names;
-use cfi_programs::names::write_json_name;
-use cfi_programs::style::{Format, Style};
+use cfi_programs::refusals::write_refusal_in;
+use cfi_programs::style::Style;
 use gimli_cfi::Error;
 use std::alloc::Global;
 use std::io;
@@ -106,7 +99,7 @@ pub(crate) fn print_file<W: Write>(
     file: &ElfFile<'_>,
     output: &mut W,
 ) -> io::Result<u8>
-    ensures { PrintsSome (λ line. IsOfFile request.entry (file_view file.now) line)
+    ensures { PrintsSome (λ line. IsOfElfFile request.entry (file_view file.now) line)
         (W.contents output.old) (W.contents output.new) result }
 {
     let names = names_in(file, request.raw);
@@ -119,98 +112,5 @@ pub(crate) fn print_file<W: Write>(
         }
         Printed::Dump => print_entries(alloc, names, file, output),
         Printed::Table => print_sections(alloc, names, SectionPrinted::Compiled, file, output),
-    }
-}
-
-/// Reads the parts of an ELF file that are needed, prints a line with the name and whether the
-/// table of the file lists its FDEs faithfully, and returns what was found.
-///
-/// The line has after the name and `: ` the verdict on the table, as `write_verdict` of
-/// `cfi_programs` prints it; `no call frames` or `no header` where the file has no `.eh_frame` or
-/// no header; `refused` and the name of an error; or `wrong input` where the file can't be read.
-/// In JSON it is an object with the name as `file`, what was found as `result`, and the number of
-/// rows of a faithful table as `rows` or else that text as `reason`. Fails where the output can't
-/// be written: then a beginning has been written. Allocates for the parts.
-pub fn check_file<I: FileInput, W: Write>(
-    alloc: Global,
-    format: Format,
-    name: &str,
-    input: &mut I,
-    output: &mut W,
-) -> io::Result<Finding>
-    ensures { ChecksNamed format name.now (I.bytes input.old) (W.contents output.old)
-        (W.contents output.new) result }
-{
-    write_name(format, name, output)?;
-    check_input(alloc, format, input, output)
-}
-
-/// Writes the name of the file, and what parts it from the rest of the line.
-fn write_name<W: Write>(format: Format, name: &str, output: &mut W) -> io::Result<()>
-    ensures { Writes (W.contents output.old) (W.contents output.new) result
-        (file_label format name.now) }
-{
-    match format {
-        Format::Text => write_name_label(name, output),
-        Format::Json => write_name_member(name, output),
-    }
-}
-
-/// Writes the name of the file and a colon.
-fn write_name_label<W: Write>(name: &str, output: &mut W) -> io::Result<()>
-    ensures { Writes (W.contents output.old) (W.contents output.new) result
-        (file_label Format.Text name.now) }
-{
-    names::write_name(output, name.as_bytes())?;
-    write_text(output, b": ")
-}
-
-/// Writes the beginning of an object, with the name of the file.
-fn write_name_member<W: Write>(name: &str, output: &mut W) -> io::Result<()>
-    ensures { Writes (W.contents output.old) (W.contents output.new) result
-        (file_label Format.Json name.now) }
-{
-    write_text(output, b"{\"file\":\"")?;
-    write_json_name(output, name.as_bytes())?;
-    write_text(output, b"\",")
-}
-
-/// Reads the parts of the file that are needed, and checks it.
-fn check_input<I: FileInput, W: Write>(
-    alloc: Global,
-    format: Format,
-    input: &mut I,
-    output: &mut W,
-) -> io::Result<Finding>
-    ensures { ChecksInput format (I.bytes input.old) (W.contents output.old)
-        (W.contents output.new) result }
-{
-    let needed = Needed {
-        symbols: false,
-        plt: false,
-    };
-    match read_parts(alloc, needed, input) {
-        Ok(parts) => check_image(parts.image(), format, output),
-        Err(InputError::OutOfMemory) => {
-            let name = Error::OutOfMemory.name();
-            write_found(output, format, Finding::NoTable, "refused ", name)
-        }
-        Err(_) => write_found(output, format, Finding::Unreadable, "wrong input", ""),
-    }
-}
-
-/// Checks the file with these parts.
-fn check_image<W: Write>(image: Image<'_>, format: Format, output: &mut W) -> io::Result<Finding>
-    ensures { ChecksSome
-        (λ finding line.
-        IsCheckOfParsed format (elf_file_of (image_view image.entry)) finding line)
-        (W.contents output.old) (W.contents output.new) result }
-{
-    match ElfFile::of_image(image) {
-        Ok(file) => check_table(&file, format, output),
-        Err(error) => {
-            let finding = finding_without(error);
-            write_refused(output, format, finding, error)
-        }
     }
 }

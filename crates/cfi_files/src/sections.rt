@@ -8,10 +8,11 @@ ghost use Rattle.cfi_programs.specs.WriterOutput.{Prints, PrintsSome};
 ghost use Rattle.cfi_files.specs.FileLines.{InTurn, IsUnder, section_line};
 ghost use Rattle.cfi_files.specs.FileOutputs.{AreParts, AreSections, IsOfSection, IsPart};
 ghost use Rattle.cfi_files.specs.FileOutputs.{section_format};
-ghost use Rattle.cfi_files.specs.Found.{debug_frame_in, eh_frame_in, part_view};
+ghost use Rattle.cfi_files.specs.Found.{debug_frame_in, eh_frame_in, frames_view};
 
 use crate::compiled::print_compiled;
-use crate::lines::{write_elf_refusal, write_no_call_frames, write_section_name};
+use crate::labels::write_section_name;
+use crate::lines::{write_elf_refusal, write_no_call_frames};
 use cfi_elf::{ElfError, ElfFile};
 use cfi_object::call_frames::{debug_frame, eh_frame};
 use cfi_object::register_names::RegisterNames;
@@ -46,7 +47,7 @@ impl SectionPrinted<'_> {
 
 /// The section `.eh_frame`, or the error in its place; `None` where the file has no such section.
 pub fn eh_frame_part<'file>(file: &ElfFile<'file>) -> Option<Result<SectionSource<'file>, ElfError>>
-    ensures { part_view result ≡ eh_frame_in (file_view file.now) }
+    ensures { frames_view result ≡ eh_frame_in (file_view file.now) }
 {
     eh_frame(file).transpose()
 }
@@ -56,7 +57,7 @@ pub fn eh_frame_part<'file>(file: &ElfFile<'file>) -> Option<Result<SectionSourc
 pub fn debug_frame_part<'file>(
     file: &ElfFile<'file>,
 ) -> Option<Result<SectionSource<'file>, ElfError>>
-    ensures { part_view result ≡ debug_frame_in (file_view file.now) }
+    ensures { frames_view result ≡ debug_frame_in (file_view file.now) }
 {
     debug_frame(file).transpose()
 }

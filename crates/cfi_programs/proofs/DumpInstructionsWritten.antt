@@ -9,9 +9,9 @@ use Rattle.cfi_read_core.specs.declared.instruction.CallFrameInstruction.TheVari
 use Rattle.cfi_parts.specs.Instructions.{Instruction}
 use Rattle.cfi_parts.specs.InstructionReaders.{items, refusal_item}
 use Rattle.cfi_programs.specs.Wordings.{Wording}
-use Rattle.cfi_programs.specs.Lines.{refusal_told}
+use Rattle.cfi_programs.specs.Refusals.{refusal_told}
 use Rattle.cfi_programs.specs.ReadingTexts.{item_text, refusal_text}
-use Rattle.cfi_programs.specs.DumpInstructionLines.{instruction_line, instruction_lines, instructions_text, item_moved, moved}
+use Rattle.cfi_programs.specs.DumpInstructionLines.{instruction_line, instruction_lines, instructions_text, address_after_item, address_after}
 use Rattle.cfi_programs.specs.declared.style.Format.TheVariants.{Text as AsText}
 use Rattle.cfi_programs.specs.WriterOutput.{Writes}
 use Rattle.cfi_programs.proofs.WrittenLemmas.{IsGiven, given_all}
@@ -55,7 +55,7 @@ module _ (wording : Wording) (factor size : ℕ) where
   abbrev item_lines : Option ℕ → List (Result Instruction Error) → List ℕ
   item_lines at [] = []
   item_lines at (item ∷ items) =
-      let next = item_moved factor size at item in
+      let next = address_after_item factor size at item in
       item_text AsText (instruction_line wording next) item ++ item_lines next items
 
   refusal_lines : (at : Option ℕ) (refusal : Option Error) → refusal_text AsText refusal ≡ item_lines at (refusal_item refusal)
@@ -66,7 +66,7 @@ module _ (wording : Wording) (factor size : ℕ) where
       instruction_lines wording factor size at values ++ refusal_text AsText refusal ≡ item_lines at (map Ok values ++ refusal_item refusal)
   item_by_item at [] refusal = refusal_lines at refusal
   item_by_item at (i ∷ is) refusal =
-      let next = moved factor size at i in
+      let next = address_after factor size at i in
       append_assoc (instruction_line wording next i) (instruction_lines wording factor size next is) (refusal_text AsText refusal)
       ∙ ap (λ xs. instruction_line wording next i ++ xs) (item_by_item next is refusal)
 
@@ -79,10 +79,10 @@ module _ (wording : Wording) (factor size : ℕ) where
 
   one_more : (at : Option ℕ) (before after : Readings Instruction) (item : Result Instruction Error) → items before ≡ item ∷ items after →
       instructions_text wording factor size at before
-      ≡ item_text AsText (instruction_line wording (item_moved factor size at item)) item ++ instructions_text wording factor size (item_moved factor size at item) after
+      ≡ item_text AsText (instruction_line wording (address_after_item factor size at item)) item ++ instructions_text wording factor size (address_after_item factor size at item) after
   one_more at before after item is =
       by_items at before ∙ ap (item_lines at) is
-      ∙ ap (λ xs. item_text AsText (instruction_line wording (item_moved factor size at item)) item ++ xs) (sym (by_items (item_moved factor size at item) after))
+      ∙ ap (λ xs. item_text AsText (instruction_line wording (address_after_item factor size at item)) item ++ xs) (sym (by_items (address_after_item factor size at item) after))
 
 -- ---- what is written
 
@@ -90,7 +90,7 @@ module _ (wording : Wording) (factor size : ℕ) (at : Option ℕ) (before : Rea
   pub all_written : items before ≡ [] → Appends old now text
   all_written is = given_all old now (instructions_text wording factor size at before) text given (none_left wording factor size at before is)
 
-  pub to_write : (after : Readings Instruction) (item : Result Instruction Error) (next : Option ℕ) → next ≡ item_moved factor size at item
+  pub to_write : (after : Readings Instruction) (item : Result Instruction Error) (next : Option ℕ) → next ≡ address_after_item factor size at item
       → items before ≡ map_ok (map_instruction (λ (n : ℕ). n)) item ∷ items after
       → IsGiven old now (item_text AsText (instruction_line wording next) item ++ instructions_text wording factor size next after) text
   to_write after item next moves is =

@@ -8,7 +8,7 @@ use Rattle.cfi_entry.specs.Fdes.{Fde}
 use Rattle.cfi_entry.specs.Sections.{Section}
 use Rattle.cfi_object.specs.declared.register_names.RegisterNames.{RegisterNames}
 use Rattle.cfi_object.specs.declared.register_names.RegisterNames.TheVariants.{Numbers, X86_64}
-use Rattle.cfi_programs.specs.DumpInstructionLines.{instruction_line, instructions_text, moved}
+use Rattle.cfi_programs.specs.DumpInstructionLines.{instruction_line, instructions_text, address_after}
 use Rattle.cfi_programs.specs.DumpRowTexts.{addresses_line, fde_rows_text, is_asked_for}
 use Rattle.cfi_programs.specs.FunctionLines.{function_text}
 use Rattle.cfi_programs.specs.RowLines.{expression_text}
@@ -83,14 +83,14 @@ moves_of_cie : instructions_text (plainly Numbers) 4 8 None two_moves ≡ codes 
 unfolding computing instructions_text
 moves_of_cie = refl
 
-set : moved 1 8 (Some 0x1000) (variant.SetLoc 0x2000) ≡ Some 0x2000
+set : address_after 1 8 (Some 0x1000) (variant.SetLoc 0x2000) ≡ Some 0x2000
 set = refl
 
 -- the last address of four bytes, and one more
-the_greatest : moved 1 4 (Some 0xfffffff0) (variant.AdvanceLoc 15) ≡ Some 0xffffffff
+the_greatest : address_after 1 4 (Some 0xfffffff0) (variant.AdvanceLoc 15) ≡ Some 0xffffffff
 the_greatest = refl
 
-no_room : moved 1 4 (Some 0xfffffff0) (variant.AdvanceLoc 16) ≡ None
+no_room : address_after 1 4 (Some 0xfffffff0) (variant.AdvanceLoc 16) ≡ None
 no_room = refl
 
 -- escape, delete, a character of two bytes, and the first of them alone

@@ -26,7 +26,7 @@ use Rattle.cfi_entry.specs.EntryInstructions.{cie_instructions, fde_instructions
 use Rattle.cfi_entry.specs.Fdes.{Fde}
 use Rattle.cfi_entry.specs.Sections.{Section}
 use Rattle.cfi_unwind.specs.UnwindTableCalls.{AnswersWithoutMachine, AcceptsCieProgram, LendsNextRow}
-use Rattle.cfi_programs.specs.Lines.{refusal_told}
+use Rattle.cfi_programs.specs.Refusals.{refusal_told}
 use Rattle.cfi_programs.specs.AnswerLines.{answer_line}
 use Rattle.cfi_programs.specs.Wordings.{Wording}
 use Rattle.cfi_programs.specs.WriterOutput.{IsBeginning, Writes}

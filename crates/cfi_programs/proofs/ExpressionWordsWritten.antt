@@ -8,9 +8,9 @@ use Rattle.cfi_read_core.specs.ReadFunctions.{Source, Position, Outcome, rest}
 use Rattle.cfi_read_core.specs.ReaderCalls.{IsSound, Reads, bytes_left, map_ok, remaining}
 use Rattle.cfi_read_core.proofs.Leb128.{byte_there, no_byte_there}
 use Rattle.cfi_object.specs.declared.register_names.RegisterNames.{RegisterNames}
-use Rattle.cfi_programs.specs.Operations.{operation}
-use Rattle.cfi_programs.specs.declared.operations.Operation.{Operation}
-use Rattle.cfi_programs.specs.ExpressionWords.{comma, known, listed, operation_text, unknown_text, words_from}
+use Rattle.cfi_programs.specs.OperationReads.{operation}
+use Rattle.cfi_programs.specs.declared.operation_reader.Operation.{Operation}
+use Rattle.cfi_programs.specs.ExpressionWords.{operation_comma, known_operation, operation_then, operation_text, unknown_text, words_from}
 use Rattle.cfi_programs.proofs.WrittenLemmas.{IsGiven}
 
 -- ---- a byte that is read
@@ -44,14 +44,14 @@ module _ (names : RegisterNames) (size : ℕ) (source : Source) (input : Positio
   unfolding words_from
   none_left zero is_first h = refl
   none_left (suc n) is_first h =
-      ap (λ (b : Bool). if b then [] else listed names is_first (known (operation size source input.place).value) (rest source input.place) (words_behind n (operation size source input.place).place)) (ends true h)
+      ap (λ (b : Bool). if b then [] else operation_then names is_first (known_operation (operation size source input.place).value) (rest source input.place) (words_behind n (operation size source input.place).place)) (ends true h)
 
   pub no_turn : (left : ℕ) (is_first : Bool) → left ≡ 0 → words_from names size left source input.place is_first ≡ []
   unfolding words_from
   no_turn zero is_first none = refl
   no_turn (suc n) is_first none = absurd (cc)
 
-  same_known : (answer : Result Operation Error) → known (map_ok (λ (x : Operation). x) answer) ≡ known answer
+  same_known : (answer : Result Operation Error) → known_operation (map_ok (λ (x : Operation). x) answer) ≡ known_operation answer
   same_known (Ok o) = refl
   same_known (Err e) = refl
 
@@ -60,23 +60,23 @@ module _ (names : RegisterNames) (size : ℕ) (source : Source) (input : Positio
     there : operation size source input.place ≡ record { value = map_ok (λ (x : Operation). x) answer; place = after }
     there = ap (λ (s : Source). operation size s input.place) (sym same) ∙ read
 
-    turn : (n : ℕ) → n ≢ 0 → words_from names size n source input.place is_first ≡ listed names is_first (known answer) (rest source input.place) (words_behind (n - 1) after)
+    turn : (n : ℕ) → n ≢ 0 → words_from names size n source input.place is_first ≡ operation_then names is_first (known_operation answer) (rest source input.place) (words_behind (n - 1) after)
     unfolding words_from
     turn zero none = absurd (none refl)
     turn (suc n) none =
         let less : suc n - 1 ≡ n = omega arith in
         rw less
-        (ap (λ (b : Bool). if b then [] else listed names is_first (known (operation size source input.place).value) (rest source input.place) (words_behind n (operation size source input.place).place)) (ends false more)
-        ∙ ap (λ (o : Outcome Operation). listed names is_first (known o.value) (rest source input.place) (words_behind n o.place)) there
-        ∙ ap (λ (k : Option Operation). listed names is_first k (rest source input.place) (words_behind n after)) (same_known answer))
+        (ap (λ (b : Bool). if b then [] else operation_then names is_first (known_operation (operation size source input.place).value) (rest source input.place) (words_behind n (operation size source input.place).place)) (ends false more)
+        ∙ ap (λ (o : Outcome Operation). operation_then names is_first (known_operation o.value) (rest source input.place) (words_behind n o.place)) there
+        ∙ ap (λ (k : Option Operation). operation_then names is_first k (rest source input.place) (words_behind n after)) (same_known answer))
 
-    pub known_next : (o : Operation) → known answer ≡ Some o → words_from names size left source input.place is_first ≡ (comma is_first ++ operation_text names o) ++ words_behind (left - 1) after
-    known_next o is = turn left some ∙ ap (λ (k : Option Operation). listed names is_first k (rest source input.place) (words_behind (left - 1) after)) is
+    pub known_next : (o : Operation) → known_operation answer ≡ Some o → words_from names size left source input.place is_first ≡ (operation_comma is_first ++ operation_text names o) ++ words_behind (left - 1) after
+    known_next o is = turn left some ∙ ap (λ (k : Option Operation). operation_then names is_first k (rest source input.place) (words_behind (left - 1) after)) is
 
-    pub unknown_next : known answer ≡ None → words_from names size left source input.place is_first ≡ comma is_first ++ unknown_text (bytes_left input)
+    pub unknown_next : known_operation answer ≡ None → words_from names size left source input.place is_first ≡ operation_comma is_first ++ unknown_text (bytes_left input)
     unknown_next is =
-        turn left some ∙ ap (λ (k : Option Operation). listed names is_first k (rest source input.place) (words_behind (left - 1) after)) is
-        ∙ ap (λ (s : Source). comma is_first ++ unknown_text (rest s input.place)) (sym same)
+        turn left some ∙ ap (λ (k : Option Operation). operation_then names is_first k (rest source input.place) (words_behind (left - 1) after)) is
+        ∙ ap (λ (s : Source). operation_comma is_first ++ unknown_text (rest s input.place)) (sym same)
 
 pub given_as : (old now : Option (List ℕ)) (left other text : List ℕ) → left ≡ other → IsGiven old now left text → IsGiven old now other text
 given_as old now left other text is given = subst (λ xs. IsGiven old now xs text) is given

@@ -8,8 +8,8 @@ use Rattle.cfi_state.specs.declared.table.rules.RegisterRule.TheVariants as rule
 use Rattle.cfi_state.specs.Row.{Row}
 use Rattle.std.specs.FinMap as map
 use Rattle.cfi_object.specs.declared.register_names.RegisterNames.TheVariants.{X86_64}
-use Rattle.cfi_programs.specs.JsonLines.{bytes_of_rule, escaped, json_addresses, json_function, json_head, json_name, json_number, json_rule, json_section, rules_end, separated}
-use Rattle.cfi_programs.specs.Lines.{reason_behind, reason_line, refusal_in, refusal_told}
+use Rattle.cfi_programs.specs.JsonLines.{bytes_of_rule, json_escaped, json_addresses, json_function, json_head, json_name, json_number, json_rule, json_section, rules_end, separated}
+use Rattle.cfi_programs.specs.Refusals.{reason_end, reason_line, refusal_in, refusal_told}
 use Rattle.std.specs.Fmt.{decimal}
 use Rattle.cfi_object.specs.declared.register_names.RegisterNames.{RegisterNames}
 use Rattle.cfi_programs.specs.RowLines.{expression_text, rules_by}
@@ -91,7 +91,7 @@ unfolding computing
 least_string = refl
 
 -- a tab, a quotation mark, a backslash, delete and a character of two bytes
-escaped_characters : escaped (codes "a" ++ 9 ∷ 0x1f ∷ codes "\"\\" ++ 0x7f ∷ 0xc3 ∷ 0xa9 ∷ []) ≡ codes "a\\u0009\\u001f\\\"\\\\" ++ 0x7f ∷ 0xc3 ∷ 0xa9 ∷ []
+escaped_characters : json_escaped (codes "a" ++ 9 ∷ 0x1f ∷ codes "\"\\" ++ 0x7f ∷ 0xc3 ∷ 0xa9 ∷ []) ≡ codes "a\\u0009\\u001f\\\"\\\\" ++ 0x7f ∷ 0xc3 ∷ 0xa9 ∷ []
 unfolding computing
 escaped_characters = refl
 
@@ -116,5 +116,5 @@ no_address : reason_line Json (codes "no address") 1 ≡ record { text = codes "
 no_address = refl
 
 -- the end of an object that has begun
-no_address_behind : reason_behind Json [] (codes "no address") ≡ record { text = codes "\"error\":\"no address\"}" ++ 10 ∷ []; status = 1 }
+no_address_behind : reason_end Json [] (codes "no address") ≡ record { text = codes "\"error\":\"no address\"}" ++ 10 ∷ []; status = 1 }
 no_address_behind = refl

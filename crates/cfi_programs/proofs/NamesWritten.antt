@@ -5,7 +5,7 @@ use Rattle.std.proofs.Math.Seq.{drop-cons}
 use Rattle.std.proofs.lemmas.List.{drop_all}
 use Rattle.cfi_names.specs.Names.{Part, byte_escape, first_part, is_printable, parts}
 use Rattle.cfi_names.proofs.NameLemmas.{made_first, parts_plain}
-use Rattle.cfi_programs.specs.JsonLines.{escape, escaped, json_name, json_part}
+use Rattle.cfi_programs.specs.JsonLines.{json_escape, json_escaped, json_name, json_part}
 use Rattle.cfi_programs.proofs.WrittenLemmas.{IsGiven}
 
 module _ (f : Part → List ℕ) (old now : Option (List ℕ)) (bytes : List ℕ) (part : Part) (whole : List ℕ) where
@@ -38,10 +38,10 @@ named_end text spaced named ended name shown same e f g =
 
 -- ---- most names, in JSON
 
-pub all_escaped : (name : List ℕ) → list_all is_printable name ≡ true → json_name name ≡ escaped name
+pub all_escaped : (name : List ℕ) → list_all is_printable name ≡ true → json_name name ≡ json_escaped name
 all_escaped [] plain = refl
 all_escaped (c ∷ cs) plain = by (is_printable c) refl plain (all_escaped cs)
   where
-    by : (b : Bool) → is_printable c ≡ b → (b && list_all is_printable cs) ≡ true → (list_all is_printable cs ≡ true → json_name cs ≡ escaped cs) → json_name (c ∷ cs) ≡ escaped (c ∷ cs)
-    by true is rest same = ap (flat_map json_part) (parts_plain c cs is) ∙ ap (λ (more : List ℕ). (escape c ++ []) ++ more) (same rest) ∙ ap (λ (one : List ℕ). one ++ escaped cs) (append-nil (escape c))
+    by : (b : Bool) → is_printable c ≡ b → (b && list_all is_printable cs) ≡ true → (list_all is_printable cs ≡ true → json_name cs ≡ json_escaped cs) → json_name (c ∷ cs) ≡ json_escaped (c ∷ cs)
+    by true is rest same = ap (flat_map json_part) (parts_plain c cs is) ∙ ap (λ (more : List ℕ). (json_escape c ++ []) ++ more) (same rest) ∙ ap (λ (one : List ℕ). one ++ json_escaped cs) (append-nil (json_escape c))
     by false is none same = cc none

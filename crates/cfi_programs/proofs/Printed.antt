@@ -3,7 +3,8 @@ use Rattle.std.proofs.Common.{◌≡◌, [], ◌∷◌, ◌++◌, Some, None, re
 use Rattle.cfi_read_core.specs.declared.error.Error.TheVariants.{NoUnwindInfoForAddress}
 use Rattle.cfi_object.specs.Numbers.{number}
 use Rattle.cfi_programs.specs.Input.{bytes_by}
-use Rattle.cfi_programs.specs.Lines.{address_text, refusal_line}
+use Rattle.cfi_programs.specs.Lines.{address_text}
+use Rattle.cfi_programs.specs.Refusals.{refusal_line}
 use Rattle.cfi_programs.proofs.Computing.{computing}
 
 -- ---- numbers

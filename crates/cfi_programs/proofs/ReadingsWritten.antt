@@ -4,7 +4,7 @@ use Rattle.std.specs.Prelude.{flat_map}
 use Rattle.cfi_read_core.specs.ReadFunctions.{Readings}
 use Rattle.cfi_read_core.specs.declared.error.Error.{Error}
 use Rattle.cfi_parts.specs.InstructionReaders.{items, refusal_item}
-use Rattle.cfi_programs.specs.Lines.{refusal_told}
+use Rattle.cfi_programs.specs.Refusals.{refusal_told}
 use Rattle.cfi_programs.specs.declared.style.Format.{Format}
 use Rattle.cfi_programs.specs.ReadingTexts.{item_text, readings_text, refusal_text}
 

@@ -1,6 +1,6 @@
 -- Lines with an error, part by part.
 use Rattle.std.proofs.Common.{ℕ, List, Option, Result, [], ◌∷◌, ◌++◌, append_assoc, ap, codes, subst, sym}
-use Rattle.cfi_programs.specs.Lines.{error_behind, error_object}
+use Rattle.cfi_programs.specs.Refusals.{error_end, error_object}
 use Rattle.cfi_programs.specs.WriterOutput.{Writes}
 use Rattle.cfi_programs.specs.declared.style.Format.TheVariants.{Json}
 
@@ -12,5 +12,5 @@ module _ {T E : Type 0} (old new : Option (List ℕ)) (r : Result T E) where
   pub object_written : (words : List ℕ) → IsWritten (codes "{\"error\":\"" ++ (words ++ (codes "\"}" ++ 10 ∷ []))) → IsWritten (error_object words ++ 10 ∷ [])
   object_written words h = subst IsWritten (ap (λ (xs : List ℕ). codes "{\"error\":\"" ++ xs) (sym (append_assoc words (codes "\"}") (10 ∷ [])))) h
 
-  pub behind_written : (before words : List ℕ) → IsWritten (codes "\"error\":\"" ++ (words ++ (codes "\"}" ++ 10 ∷ []))) → IsWritten (error_behind Json before words ++ 10 ∷ [])
+  pub behind_written : (before words : List ℕ) → IsWritten (codes "\"error\":\"" ++ (words ++ (codes "\"}" ++ 10 ∷ []))) → IsWritten (error_end Json before words ++ 10 ∷ [])
   behind_written before words h = subst IsWritten (ap (λ (xs : List ℕ). codes "\"error\":\"" ++ xs) (sym (append_assoc words (codes "\"}") (10 ∷ [])))) h

@@ -19,9 +19,9 @@ use Rattle.cfi_object.specs.RegisterNames.{register_text}
 use Rattle.cfi_object.specs.declared.register_names.RegisterNames.{RegisterNames}
 use Rattle.cfi_programs.specs.AnswerLines.{answer_line, plain_line}
 use Rattle.cfi_programs.specs.ExpressionWords.{in_words}
-use Rattle.cfi_programs.specs.KeptRules.{ArePlain}
+use Rattle.cfi_programs.specs.KeptRules.{HaveNoExpression}
 use Rattle.cfi_programs.specs.Lines.{address_text, line}
-use Rattle.cfi_programs.specs.RowLines.{IsPlain, cfa_saying, expression_at, expression_in, expression_text, frame_saying, head_saying, is_plain_cfa, row_saying, rule_saying, ruled_by, ruled_saying, rules_by, rules_saying}
+use Rattle.cfi_programs.specs.RowLines.{HasNoExpression, cfa_saying, expression_at, expression_in, expression_text, frame_saying, head_saying, is_plain_cfa, row_saying, rule_saying, ruled_by, ruled_saying, rules_by, rules_saying}
 use Rattle.cfi_programs.specs.Wordings.{text_style, worded}
 use Rattle.cfi_programs.specs.WriterOutput.{Writes}
 use Rattle.cfi_programs.proofs.RowLineLemmas.{get_behind, get_apart, get_first, get_of_none}
@@ -79,7 +79,7 @@ module _ (say : UnwindExpression ℕ → List ℕ) (names : RegisterNames) where
       ap (λ xs. xs ++ rules_by (ruled_saying expression_text names) n (register + 1) rule_of) (same_ruled register (rule_of register) (plain register))
       ∙ ap (λ xs. ruled_by (ruled_saying say names) register (rule_of register) ++ xs) (same_rules n (register + 1) rule_of plain)
 
-  same_row : (row : Row ℕ) → IsPlain row → row_saying expression_text names row ≡ row_saying say names row
+  same_row : (row : Row ℕ) → HasNoExpression row → row_saying expression_text names row ≡ row_saying say names row
   same_row row plain =
       let args = decimal row.parts.args_size in
       let before = address_text row.start_address ++ codes " " ++ address_text row.end_address ++ codes " cfa=" in
@@ -87,14 +87,14 @@ module _ (say : UnwindExpression ℕ → List ℕ) (names : RegisterNames) where
       ∙ ap (λ xs. head_saying say names row ++ xs) (same_rules 65536 0 (get row.parts.rules) plain.rules)
 
 -- a line whose row has none is the same in words
-pub pushed_in_words : (names : RegisterNames) (size : ℕ) (section : Position) (old new : List ℕ) (answer : Result (Bor (Row ℕ)) Error) → IsOkAnd answer (λ row. IsPlain row.now)
+pub pushed_in_words : (names : RegisterNames) (size : ℕ) (section : Position) (old new : List ℕ) (answer : Result (Bor (Row ℕ)) Error) → IsOkAnd answer (λ row. HasNoExpression row.now)
     → new ≡ old ++ (plain_line names (map_ok (λ row. row.now) answer)).text → new ≡ old ++ (answer_line (worded (text_style names) size section) (map_ok (λ row. row.now) answer)).text
 pushed_in_words names size section old new (Ok row) plain is = is ∙ ap (λ xs. old ++ (line xs 0).text) (same_row (in_words names size section) names row.now plain)
 pushed_in_words names size section old new (Err e) plain is = absurd plain
 
 -- ---- a list of rules without expressions
 
-pub plain_rules : (pairs : List (Register × RegisterRule ℕ)) → ArePlain pairs → (register : ℕ) → expression_at (get (rules_of pairs) register) ≡ None
+pub plain_rules : (pairs : List (Register × RegisterRule ℕ)) → HaveNoExpression pairs → (register : ℕ) → expression_at (get (rules_of pairs) register) ≡ None
 plain_rules [] plain register = ap expression_at (get_of_none register)
 plain_rules (pair ∷ pairs) plain register =
     let others = plain_rules pairs plain.1 register in

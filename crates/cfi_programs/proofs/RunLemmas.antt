@@ -3,14 +3,15 @@ use Rattle.std.proofs.Common.{◌≡◌, ◌==◌, true, false, ◌⊎◌, inl, 
 use Rattle.std.specs.Option.{IsSome}
 use Rattle.std.specs.Io.KnownBytes.{Appends, Keeps}
 use Rattle.cfi_programs.specs.Input.{Bytes}
-use Rattle.cfi_programs.specs.Lines.{Line, wrong_words, wrong_hexadecimal, wrong_input}
-use Rattle.cfi_programs.specs.Runs.{Tool, IsPlain, IsLineFor, IsOwed, IsRun, LineOfInput, LineOfRequest, LineOfWords, asked_for, out_of_memory}
+use Rattle.cfi_programs.specs.Lines.{Line}
+use Rattle.cfi_programs.specs.Refusals.{wrong_words, wrong_hexadecimal, wrong_input}
+use Rattle.cfi_programs.specs.Runs.{Tool, IsNoWrongLine, IsLineFor, IsOwed, IsRun, LineOfInput, LineOfRequest, LineOfWords, requested, out_of_memory}
 use Rattle.cfi_programs.specs.WriterOutput.{IsBeginning, Prints}
 use Rattle.cfi_programs.proofs.WrittenLemmas.{appends_then, keeps_is}
 
 -- what holds of the lines of a program
 abbrev pub ArePlain : Tool → Type 0
-ArePlain tool = (r : tool.Request) (bytes : Bytes) (printed : Line) → tool.IsLine r bytes printed → IsPlain printed
+ArePlain tool = (r : tool.Request) (bytes : Bytes) (printed : Line) → tool.IsLine r bytes printed → IsNoWrongLine printed
 
 -- ---- the line that is owed
 
@@ -111,7 +112,7 @@ answered tool (Some r) input printed (inr (some, inr unread)) low = (let h : 2 �
 
 -- ---- the run
 
-is_run : (tool : Tool) → ArePlain tool → (words : Option (List (List ℕ))) (input written : List ℕ) (status : ℕ) (printed : Line) → IsOwed tool (asked_for tool words) input printed →
+is_run : (tool : Tool) → ArePlain tool → (words : Option (List (List ℕ))) (input written : List ℕ) (status : ℕ) (printed : Line) → IsOwed tool (requested tool words) input printed →
     IsBeginning written printed.text → ((written ≡ printed.text) × (status ≡ printed.status)) ⊎ (IsBeginning written printed.text × (status ≡ 2))
     → (status ≤ 1 → (written ≡ printed.text) × (status ≡ printed.status)) → (1 < status → status ≡ 2) → IsRun tool words input written status
 is_run tool plain words input written status printed owed (rest, begins) ends whole high = record {
@@ -120,11 +121,11 @@ is_run tool plain words input written status printed owed (rest, begins) ends wh
   ends = ends;
   answered = λ low.
       let is : record { text = written; status = status } ≡ printed = line_is written status printed (whole low).0 (whole low).1 in
-      let P : Line → Type 0 = λ shown. IsSome (asked_for tool words) × (LineOfWords tool words input shown ⊎ (shown ≡ out_of_memory)) in
-      subst P (sym is) (answered tool (asked_for tool words) input printed owed (rw (← (whole low).1) low));
+      let P : Line → Type 0 = λ shown. IsSome (requested tool words) × (LineOfWords tool words input shown ⊎ (shown ≡ out_of_memory)) in
+      subst P (sym is) (answered tool (requested tool words) input printed owed (rw (← (whole low).1) low));
   otherwise = high;
-  words_wrong = λ _ e. words_wrong tool plain (asked_for tool words) input printed owed (code_at 0 written rest wrong_words.text printed begins e) (code_at 6 written rest wrong_words.text printed begins e);
-  hexadecimal_wrong = λ _ e. hexadecimal_wrong tool plain (asked_for tool words) input printed owed (code_at 0 written rest wrong_hexadecimal.text printed begins e) (code_at 6 written rest wrong_hexadecimal.text printed begins e);
+  words_wrong = λ _ e. words_wrong tool plain (requested tool words) input printed owed (code_at 0 written rest wrong_words.text printed begins e) (code_at 6 written rest wrong_words.text printed begins e);
+  hexadecimal_wrong = λ _ e. hexadecimal_wrong tool plain (requested tool words) input printed owed (code_at 0 written rest wrong_hexadecimal.text printed begins e) (code_at 6 written rest wrong_hexadecimal.text printed begins e);
 }
 
 bound_by : (printed line : Line) → line.status ≤ 2 → printed ≡ line → printed.status ≤ 2
@@ -144,19 +145,19 @@ status_bound tool plain request input printed (inr (some, inl e)) = bound_by pri
 status_bound tool plain request input printed (inr (some, inr e)) = bound_by printed wrong_input (omega arith) e
 
 pub run_ends : {E : Type 0} (tool : Tool) → ArePlain tool → (words : Option (List (List ℕ))) (input : List ℕ) (old mid new : Option (List ℕ)) (result : Result ℕ E) (status : ℕ) → result ≡ Ok status → Keeps mid new →
-    ((printed : Line) × Prints printed old mid result × IsOwed tool (asked_for tool words) input printed) → (written : List ℕ) × Appends old new written × IsRun tool words input written status
+    ((printed : Line) × Prints printed old mid result × IsOwed tool (requested tool words) input printed) → (written : List ℕ) × Appends old new written × IsRun tool words input written status
 run_ends tool plain words input old mid new (Ok answered) status e keeps (printed, prints, owed) =
     let same : answered ≡ status = cc in
     let is : status ≡ printed.status = sym same ∙ prints.1 in
     let P : List ℕ → Type 0 = λ xs. Appends old new xs in
     let whole : Appends old new printed.text = subst P (append-nil printed.text) (appends_then old mid new printed.text [] prints.0 (keeps_is mid new keeps)) in
-    let bound : printed.status ≤ 2 = status_bound tool plain (asked_for tool words) input printed owed in
+    let bound : printed.status ≤ 2 = status_bound tool plain (requested tool words) input printed owed in
     (printed.text, whole, is_run tool plain words input printed.text status printed owed ([], append-nil printed.text) (inl (refl, is)) (λ low. (refl, is)) (λ high. omega arith))
 run_ends tool plain words input old mid new (Err error) status e keeps (printed, prints, owed) = cc
 
 -- where the line or the flush after it failed
 pub run_fails : {E : Type 0} (tool : Tool) → ArePlain tool → (words : Option (List (List ℕ))) (input : List ℕ) (old mid new : Option (List ℕ)) (result : Result ℕ E) → Keeps mid new →
-    ((printed : Line) × Prints printed old mid result × IsOwed tool (asked_for tool words) input printed) → (written : List ℕ) × Appends old new written × IsRun tool words input written 2
+    ((printed : Line) × Prints printed old mid result × IsOwed tool (requested tool words) input printed) → (written : List ℕ) × Appends old new written × IsRun tool words input written 2
 run_fails tool plain words input old mid new (Ok answered) keeps (printed, prints, owed) =
     let P : List ℕ → Type 0 = λ xs. Appends old new xs in
     let whole : Appends old new printed.text = subst P (append-nil printed.text) (appends_then old mid new printed.text [] prints.0 (keeps_is mid new keeps)) in

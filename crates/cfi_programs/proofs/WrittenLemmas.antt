@@ -4,7 +4,7 @@ use Rattle.std.proofs.Math.Seq.{take-length}
 use Rattle.std.proofs.lemmas.List.{take-append-drop}
 use Rattle.std.specs.Io.KnownBytes.{Appends, Keeps}
 use Rattle.std.specs.Result.{IsErr}
-use Rattle.cfi_programs.specs.WriterOutput.{IsBeginning, Writes, WritesBehind}
+use Rattle.cfi_programs.specs.WriterOutput.{IsBeginning, Writes, WritesAfter}
 
 pub appends_then : (a b c : Option (List ℕ)) (x y : List ℕ) → Appends a b x → Appends b c y → Appends a c (x ++ y)
 appends_then None b c x y p q = tt
@@ -107,7 +107,7 @@ regrouped_six old new r a b c d e f h =
 -- ---- a text that waits
 
 pub behind_refused : {T E : Type 0} (waiting waits : List ℕ) (old new : Option (List ℕ)) (r : Result T E) (text : List ℕ) → IsErr r →
-    ((front : List ℕ) × Appends old new front × IsBeginning front (waiting ++ text)) → WritesBehind waiting waits old new r text
+    ((front : List ℕ) × Appends old new front × IsBeginning front (waiting ++ text)) → WritesAfter waiting waits old new r text
 behind_refused waiting waits old new (Ok x) text h more = cc
 behind_refused waiting waits old new (Err e) text h more = more
 

@@ -3,7 +3,8 @@ use Rattle.std.specs.Prelude.{ℕ, List, Result, Ok, Err}
 use Rattle.cfi_read_core.specs.declared.error.Error.{Error}
 use Rattle.cfi_state.specs.Row.{Row}
 use Rattle.cfi_object.specs.declared.register_names.RegisterNames.{RegisterNames}
-use Rattle.cfi_programs.specs.Lines.{Line, line, refusal_behind, refusal_line, refusal_told}
+use Rattle.cfi_programs.specs.Lines.{Line, line}
+use Rattle.cfi_programs.specs.Refusals.{refusal_end, refusal_line, refusal_told}
 use Rattle.cfi_programs.specs.JsonLines.{json_members, json_row}
 use Rattle.cfi_programs.specs.RowLines.{row_saying, row_text}
 use Rattle.cfi_programs.specs.Wordings.{Wording}
@@ -15,20 +16,20 @@ abbrev pub plain_line : RegisterNames → Result (Row ℕ) Error → Line
 plain_line names (Ok row) = line (row_text names row) 0
 plain_line names (Err e) = refusal_line e
 
-abbrev pub row_in : Format → Wording → Row ℕ → List ℕ
-row_in Text wording row = row_saying wording.words wording.names row
-row_in Json wording row = json_row wording row
+abbrev pub row_by_format : Format → Wording → Row ℕ → List ℕ
+row_by_format Text wording row = row_saying wording.words wording.names row
+row_by_format Json wording row = json_row wording row
 
 abbrev pub answer_line : Wording → Result (Row ℕ) Error → Line
-answer_line wording (Ok row) = line (row_in wording.format wording row) 0
+answer_line wording (Ok row) = line (row_by_format wording.format wording row) 0
 answer_line wording (Err e) = refusal_told wording.format e
 
--- ---- behind what was asked for, with which an object of JSON has begun
+-- ---- after what was asked for, with which an object of JSON has begun
 
-abbrev pub row_behind : Format → Wording → Row ℕ → List ℕ
-row_behind Text wording row = row_saying wording.words wording.names row
-row_behind Json wording row = json_members wording row
+abbrev pub row_end : Format → Wording → Row ℕ → List ℕ
+row_end Text wording row = row_saying wording.words wording.names row
+row_end Json wording row = json_members wording row
 
-abbrev pub answer_behind : Wording → Result (Row ℕ) Error → Line
-answer_behind wording (Ok row) = line (row_behind wording.format wording row) 0
-answer_behind wording (Err e) = refusal_behind wording.format e
+abbrev pub answer_end : Wording → Result (Row ℕ) Error → Line
+answer_end wording (Ok row) = line (row_end wording.format wording row) 0
+answer_end wording (Err e) = refusal_end wording.format e

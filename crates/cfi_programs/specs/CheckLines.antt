@@ -16,29 +16,29 @@ use Rattle.gimli_cfi.specs.declared.hdr.verdict.Verdict.TheVariants as verdicts
 abbrev pub refused_text : List ℕ → Error → List ℕ
 refused_text place error = place ++ codes ": refused " ++ error_words Text error
 
-abbrev pub row_text : ℕ → List ℕ
-row_text row = codes "row " ++ decimal row
+abbrev pub row_label : ℕ → List ℕ
+row_label row = codes "row " ++ decimal row
 
 -- by their offset in the section
-abbrev pub entry_text : ℕ → List ℕ
-entry_text offset = codes "entry " ++ address_text offset
+abbrev pub entry_label : ℕ → List ℕ
+entry_label offset = codes "entry " ++ address_text offset
 
-abbrev pub fde_text : ℕ → List ℕ
-fde_text offset = codes "FDE " ++ address_text offset
+abbrev pub fde_label : ℕ → List ℕ
+fde_label offset = codes "FDE " ++ address_text offset
 
 abbrev pub reason_text : Unfaithful → List ℕ
 reason_text (reasons.Header error) = refused_text (codes "header") error
-reason_text (reasons.Row row error) = refused_text (row_text row) error
+reason_text (reasons.Row row error) = refused_text (row_label row) error
 reason_text (reasons.Order row before start) =
-    row_text row ++ codes ": starts at " ++ address_text start ++ codes ", the row before it at "
+    row_label row ++ codes ": starts at " ++ address_text start ++ codes ", the row before it at "
     ++ address_text before
-reason_text (reasons.Entry offset error) = refused_text (entry_text offset) error
-reason_text (reasons.Fde offset error) = refused_text (fde_text offset) error
+reason_text (reasons.Entry offset error) = refused_text (entry_label offset) error
+reason_text (reasons.Fde offset error) = refused_text (fde_label offset) error
 reason_text (reasons.NoRow offset address) =
-    fde_text offset ++ codes ": no row starts at " ++ address_text address
+    fde_label offset ++ codes ": no row starts at " ++ address_text address
     ++ codes " and leads to it"
 reason_text (reasons.Overlap offset end next) =
-    fde_text offset ++ codes ": ends at " ++ address_text end ++ codes ", the next row starts at "
+    fde_label offset ++ codes ": ends at " ++ address_text end ++ codes ", the next row starts at "
     ++ address_text next
 reason_text (reasons.Count rows fdes) =
     codes "table: " ++ decimal rows ++ codes " rows for " ++ decimal fdes ++ codes " FDEs"
@@ -55,7 +55,7 @@ verdict_status (verdicts.Unfaithful reason) = 1
 verdict_status verdicts.NoTable = 1
 verdict_status (verdicts.Refused error) = 1
 
--- ---- in JSON: the members behind the name of the file, and the end of the object
+-- ---- in JSON: the members after the name of the file, and the end of the object
 
 -- what was found, and why
 abbrev pub reasoned : List ℕ → List ℕ → List ℕ
@@ -80,8 +80,3 @@ verdict_in Json verdict = verdict_object verdict
 
 abbrev pub verdict_line : Format → Verdict → Line
 verdict_line format verdict = line (verdict_in format verdict) (verdict_status verdict)
-
--- what is said of a file that has no verdict: only JSON says what was found
-abbrev pub finding_text : Format → List ℕ → List ℕ → List ℕ
-finding_text Text found reason = reason
-finding_text Json found reason = reasoned found reason

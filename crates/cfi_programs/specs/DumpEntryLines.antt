@@ -15,13 +15,13 @@ use Rattle.cfi_programs.specs.FunctionLines.{function_text}
 -- ---- what only some entries have
 
 -- after a * the place of the address
-abbrev pub target_text : Pointer → List ℕ
-target_text (Direct address) = address_text address
-target_text (Indirect address) = codes "*" ++ address_text address
+abbrev pub pointer_text : Pointer → List ℕ
+pointer_text (Direct address) = address_text address
+pointer_text (Indirect address) = codes "*" ++ address_text address
 
-abbrev pub addresses_text : Option ℕ → List ℕ
-addresses_text None = []
-addresses_text (Some encoding) = codes " addresses=" ++ address_text encoding
+abbrev pub address_encoding_text : Option ℕ → List ℕ
+address_encoding_text None = []
+address_encoding_text (Some encoding) = codes " addresses=" ++ address_text encoding
 
 abbrev pub lsda_encoding_text : Option ℕ → List ℕ
 lsda_encoding_text None = []
@@ -30,11 +30,11 @@ lsda_encoding_text (Some encoding) = codes " lsda=" ++ address_text encoding
 abbrev pub personality_text : Option (ℕ × Pointer) → List ℕ
 personality_text None = []
 personality_text (Some (encoding, pointer)) =
-    codes " personality=" ++ address_text encoding ++ codes ":" ++ target_text pointer
+    codes " personality=" ++ address_text encoding ++ codes ":" ++ pointer_text pointer
 
-abbrev pub signal_text : Bool → List ℕ
-signal_text false = []
-signal_text true = codes " signal"
+abbrev pub signal_flag_text : Bool → List ℕ
+signal_flag_text false = []
+signal_flag_text true = codes " signal"
 
 abbrev pub b_key_text : Bool → List ℕ
 b_key_text false = []
@@ -42,7 +42,7 @@ b_key_text true = codes " bkey"
 
 abbrev pub lsda_text : Option Pointer → List ℕ
 lsda_text None = []
-lsda_text (Some pointer) = codes " lsda=" ++ target_text pointer
+lsda_text (Some pointer) = codes " lsda=" ++ pointer_text pointer
 
 -- ---- a CIE
 
@@ -60,10 +60,10 @@ cie_factors names cie =
 -- what its augmentation means
 abbrev pub cie_augmentation : Cie → List ℕ
 cie_augmentation cie =
-    addresses_text (address_encoding_of cie.augmentation)
+    address_encoding_text (address_encoding_of cie.augmentation)
     ++ lsda_encoding_text (lsda_encoding_of cie.augmentation)
     ++ personality_text (personality_of cie.augmentation)
-    ++ signal_text (is_trampoline cie.augmentation) ++ b_key_text (has_b_key cie.augmentation)
+    ++ signal_flag_text (is_trampoline cie.augmentation) ++ b_key_text (has_b_key cie.augmentation)
     ++ 10 ∷ []
 
 abbrev pub cie_line : RegisterNames → Cie → List ℕ

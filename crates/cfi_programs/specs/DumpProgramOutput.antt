@@ -7,7 +7,8 @@ use Rattle.cfi_entry.specs.Sections.{Section}
 use Rattle.cfi_elf.specs.FunctionNames.{name_in}
 use Rattle.cfi_read_core.specs.declared.error.Error.TheVariants.{OutOfMemory}
 use Rattle.cfi_object.specs.declared.register_names.RegisterNames.{RegisterNames}
-use Rattle.cfi_programs.specs.Lines.{Line, refusal_in}
+use Rattle.cfi_programs.specs.Lines.{Line}
+use Rattle.cfi_programs.specs.Refusals.{refusal_in}
 use Rattle.cfi_programs.specs.declared.style.Format.{Format}
 use Rattle.cfi_programs.specs.declared.style.Format.TheVariants.{Text as AsText}
 use Rattle.cfi_programs.specs.declared.style.Style.{Style}
@@ -19,9 +20,9 @@ use Rattle.cfi_programs.specs.DumpSectionTexts.{entry_text}
 use Rattle.cfi_programs.specs.ReadingTexts.{readings_text}
 
 -- the form of the lines
-abbrev pub format_of : Printed → Format
-format_of (printing.Entries functions) = AsText
-format_of (printing.Rows asked) = asked.format
+abbrev pub printed_format : Printed → Format
+printed_format (printing.Entries functions) = AsText
+printed_format (printing.Rows asked) = asked.format
 
 abbrev pub style_of : RegisterNames → AskedRows → Style
 style_of names asked = record { names = names; format = asked.format }
@@ -38,7 +39,7 @@ printed_entry names (printing.Rows asked) section entry =
 
 abbrev pub printed_text : RegisterNames → Printed → Section → List ℕ
 printed_text names what section =
-    readings_text (format_of what) (λ entry. printed_entry names what section entry)
+    readings_text (printed_format what) (λ entry. printed_entry names what section entry)
     (entries section)
 
 -- ---- the output
@@ -47,10 +48,8 @@ printed_text names what section =
 abbrev pub text_output : List ℕ → Line
 text_output text = record { text = text; status = 0 }
 
-abbrev pub IsOutput : RegisterNames → Printed → Section → Line → Type 0
-IsOutput names what section printed = printed ≡ text_output (printed_text names what section)
-
--- the same, or that memory was refused
+-- what is printed of the section, or that memory was refused
 abbrev pub IsPrinted : RegisterNames → Printed → Section → Line → Type 0
 IsPrinted names what section printed =
-    IsOutput names what section printed ⊎ (printed ≡ refusal_in (format_of what) OutOfMemory)
+    (printed ≡ text_output (printed_text names what section))
+    ⊎ (printed ≡ refusal_in (printed_format what) OutOfMemory)

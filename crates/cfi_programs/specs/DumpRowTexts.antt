@@ -13,7 +13,8 @@ use Rattle.cfi_entry.specs.Entries.{Entry, CieEntry, FdeEntry}
 use Rattle.cfi_entry.specs.Fdes.{Fde, covers, end_of}
 use Rattle.cfi_entry.specs.Sections.{Section}
 use Rattle.cfi_unwind.specs.Scan.{read_fde}
-use Rattle.cfi_programs.specs.Lines.{address_text, refusal_told}
+use Rattle.cfi_programs.specs.Lines.{address_text}
+use Rattle.cfi_programs.specs.Refusals.{refusal_told}
 use Rattle.cfi_programs.specs.FunctionLines.{function_text}
 use Rattle.cfi_programs.specs.JsonLines.{json_addresses, json_function}
 use Rattle.cfi_programs.specs.Wordings.{of_section}
@@ -25,23 +26,23 @@ use Rattle.cfi_programs.specs.declared.style.Style.{Style}
 -- ---- the rows of FDEs
 
 -- the first address, and the first one after the last
-abbrev pub addresses_text : ℕ → ℕ → List ℕ
-addresses_text start end = codes "fde " ++ address_text start ++ codes " " ++ address_text end
+abbrev pub fde_addresses_text : ℕ → ℕ → List ℕ
+fde_addresses_text start end = codes "fde " ++ address_text start ++ codes " " ++ address_text end
 
 -- the same by the format
-abbrev pub addresses_in : Format → ℕ → ℕ → List ℕ
-addresses_in AsText start end = addresses_text start end
-addresses_in Json start end = json_addresses start end
+abbrev pub fde_addresses_in : Format → ℕ → ℕ → List ℕ
+fde_addresses_in AsText start end = fde_addresses_text start end
+fde_addresses_in Json start end = json_addresses start end
 
 -- the end of the line: the name of a function, if there is one
-abbrev pub function_in : Format → Option (List ℕ) → List ℕ
-function_in AsText name = function_text name ++ 10 ∷ []
-function_in Json name = json_function name ++ 10 ∷ []
+abbrev pub function_end : Format → Option (List ℕ) → List ℕ
+function_end AsText name = function_text name ++ 10 ∷ []
+function_end Json name = json_function name ++ 10 ∷ []
 
 -- the addresses, and the name of the function that begins at the first, by the function's address
 abbrev pub addresses_line : Format → (ℕ → Option (List ℕ)) → Fde → List ℕ
 addresses_line format function fde =
-    addresses_in format fde.initial (end_of fde) ++ function_in format (function fde.initial)
+    fde_addresses_in format fde.initial (end_of fde) ++ function_end format (function fde.initial)
 
 -- the addresses that the code is given
 abbrev pub given_addresses : Option (Bor (List ℕ)) → Option (List ℕ)

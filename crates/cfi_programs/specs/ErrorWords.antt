@@ -5,7 +5,9 @@ use Rattle.std.specs.Prelude.{ℕ, List, [], ◌++◌, ◌==◌, codes, if◌the
 use Rattle.cfi_read_core.specs.declared.error.Error.{Error}
 use Rattle.cfi_read_core.specs.declared.error.Error.TheVariants.{UnknownCallFrameInstruction}
 use Rattle.cfi_read_core.specs.declared.error.Error.TheVariants.{StackFull, TooManyRegisterRules}
+use Rattle.cfi_read_core.specs.declared.error.Error.TheVariants.{}
 use Rattle.cfi_read_core.specs.declared.error.Error.TheVariants.{TextRelativePointerButTextBaseIsUndefined}
+use Rattle.cfi_read_core.specs.declared.error.Error.TheVariants.{}
 use Rattle.cfi_read_core.specs.declared.error.Error.TheVariants.{DataRelativePointerButDataBaseIsUndefined}
 use Rattle.cfi_read_core.specs.ErrorSentences.{sentence_of}
 use Rattle.cfi_read_core.specs.RefusalNames.{name_of}
@@ -15,14 +17,14 @@ use Rattle.cfi_programs.specs.declared.style.Format.TheVariants.{Text, Json}
 -- ---- what to do
 
 -- an opcode that only one machine has, and that isn't read
-abbrev pub machine_of : ℕ → List ℕ
-machine_of opcode =
+abbrev pub unsupported_opcode : ℕ → List ℕ
+unsupported_opcode opcode =
     if opcode == 0x2d then codes "; DW_CFA_GNU_window_save of SPARC isn't supported"
     else if opcode == 0x1d then codes "; DW_CFA_MIPS_advance_loc8 isn't supported"
     else []
 
 abbrev pub advice_on : Error → List ℕ
-advice_on (UnknownCallFrameInstruction opcode) = machine_of opcode.0
+advice_on (UnknownCallFrameInstruction opcode) = unsupported_opcode opcode.0
 advice_on TextRelativePointerButTextBaseIsUndefined = codes "; cfi_rows takes one by text=N"
 advice_on DataRelativePointerButDataBaseIsUndefined = codes "; cfi_rows takes one by data=N"
 advice_on StackFull = codes "; cfi_rows has room by store=vec"

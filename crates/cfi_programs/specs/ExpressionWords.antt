@@ -14,11 +14,12 @@ use Rattle.cfi_read_core.specs.ExpressionPlaces.{expression_bytes}
 use Rattle.cfi_object.specs.RegisterNames.{register_text}
 use Rattle.cfi_object.specs.declared.register_names.RegisterNames.{RegisterNames}
 use Rattle.cfi_programs.specs.Lines.{address_text}
-use Rattle.cfi_programs.specs.Operations.{entry_of, operation}
+use Rattle.cfi_programs.specs.Operations.{operation_entry}
+use Rattle.cfi_programs.specs.OperationReads.{operation}
 use Rattle.cfi_programs.specs.RowLines.{offset_text}
-use Rattle.cfi_programs.specs.declared.operations.Operand.{Operand}
-use Rattle.cfi_programs.specs.declared.operations.Operand.TheVariants as operands
-use Rattle.cfi_programs.specs.declared.operations.Operation.{Operation}
+use Rattle.cfi_programs.specs.declared.operation_reader.Operand.{Operand}
+use Rattle.cfi_programs.specs.declared.operation_reader.Operand.TheVariants as operands
+use Rattle.cfi_programs.specs.declared.operation_reader.Operation.{Operation}
 
 -- ---- an operation
 
@@ -33,22 +34,22 @@ operand_text names (operands.RegisterOffset r z) =
     codes " " ++ (register_text names r.0 ++ offset_text z)
 
 abbrev pub operation_text : RegisterNames → Operation → List ℕ
-operation_text names o = (entry_of o.opcode).name ++ operand_text names o.operand
+operation_text names o = (operation_entry o.opcode).name ++ operand_text names o.operand
 
 -- ---- bytes
 
 abbrev pub byte_text : ℕ → List ℕ
 byte_text b = digit_glyph false (b / 16) ∷ digit_glyph false (b % 16) ∷ []
 
-abbrev pub hexadecimal : List ℕ → List ℕ
-hexadecimal bytes = flat_map byte_text bytes
+abbrev pub hexadecimal_bytes : List ℕ → List ℕ
+hexadecimal_bytes bytes = flat_map byte_text bytes
 
--- those behind an opcode
+-- those after an opcode
 abbrev pub bytes_text : List ℕ → List ℕ
 bytes_text [] = []
-bytes_text (b ∷ bs) = codes " 0x" ++ (byte_text b ++ hexadecimal bs)
+bytes_text (b ∷ bs) = codes " 0x" ++ (byte_text b ++ hexadecimal_bytes bs)
 
--- where an operation isn't known or is cut: the opcode, and all bytes behind it
+-- where an operation isn't known or is cut: the opcode, and all bytes after it
 abbrev pub unknown_text : List ℕ → List ℕ
 unknown_text [] = []
 unknown_text (opcode ∷ bs) = codes "DW_OP_0x" ++ (byte_text opcode ++ bytes_text bs)
@@ -60,19 +61,20 @@ abbrev pub with_operand : Operation → Operand → Option Operation
 with_operand o operands.Unknown = None
 with_operand o operand = Some o
 
-abbrev pub known : Result Operation Error → Option Operation
-known (Ok o) = with_operand o o.operand
-known (Err e) = None
+abbrev pub known_operation : Result Operation Error → Option Operation
+known_operation (Ok o) = with_operand o o.operand
+known_operation (Err e) = None
 
 -- before each but the first
-abbrev pub comma : Bool → List ℕ
-comma true = []
-comma false = codes ", "
+abbrev pub operation_comma : Bool → List ℕ
+operation_comma true = []
+operation_comma false = codes ", "
 
--- an operation and those behind it; or all that is left
-abbrev pub listed : RegisterNames → Bool → Option Operation → List ℕ → List ℕ → List ℕ
-listed names is_first None left others = comma is_first ++ unknown_text left
-listed names is_first (Some o) left others = (comma is_first ++ operation_text names o) ++ others
+-- an operation and those after it; or all that is left
+abbrev pub operation_then : RegisterNames → Bool → Option Operation → List ℕ → List ℕ → List ℕ
+operation_then names is_first None left others = operation_comma is_first ++ unknown_text left
+operation_then names is_first (Some o) left others =
+    (operation_comma is_first ++ operation_text names o) ++ others
 
 -- from a place on at most n, each of which takes a byte at least
 unfoldable pub words_from : RegisterNames → ℕ → ℕ → Source → ℕ → Bool → List ℕ
@@ -81,7 +83,7 @@ words_from names size (suc n) source place is_first =
     let read = operation size source place in
     if (source.last - place) == 0
     then []
-    else listed names is_first (known read.value) (rest source place)
+    else operation_then names is_first (known_operation read.value) (rest source place)
     (words_from names size n source read.place false)
 
 -- those of all bytes of a reader
@@ -91,13 +93,13 @@ words_at names size at = words_from names size (remaining at) at.source at.place
 -- ---- an expression of a section
 
 -- a reader of these bytes
-abbrev pub part_of : Position → Extent → Position
-part_of section extent =
+abbrev pub expression_reader : Position → Extent → Position
+expression_reader section extent =
     record { source = record section.source { last = extent.last }; place = extent.first }
 
 -- an expression of a row or an instruction always lies in its section
 abbrev pub words_in : RegisterNames → ℕ → Position → Result Extent Error → List ℕ
-words_in names size section (Ok extent) = words_at names size (part_of section extent)
+words_in names size section (Ok extent) = words_at names size (expression_reader section extent)
 words_in names size section (Err e) = codes "..."
 
 abbrev pub in_words : RegisterNames → ℕ → Position → UnwindExpression ℕ → List ℕ
@@ -107,7 +109,8 @@ in_words names size section expression =
     ++ codes ")")
 
 abbrev pub hexadecimal_in : Position → Result Extent Error → List ℕ
-hexadecimal_in section (Ok extent) = hexadecimal (bytes_left (part_of section extent))
+hexadecimal_in section (Ok extent) =
+    hexadecimal_bytes (bytes_left (expression_reader section extent))
 hexadecimal_in section (Err e) = codes "..."
 
 abbrev pub hexadecimal_of : Position → UnwindExpression ℕ → List ℕ

@@ -2,7 +2,7 @@
 use Rattle.std.specs.Prelude.{ℕ, List, [], ◌∷◌, Option, Some, None}
 use Rattle.cfi_names.specs.Names.{shown}
 
--- behind a space
+-- after a space
 abbrev pub function_text : Option (List ℕ) → List ℕ
 function_text None = []
 function_text (Some name) = 32 ∷ shown name

@@ -72,20 +72,21 @@ bytes_by (Some base) input =
 
 -- what comes of the input, for the bytes that it means; lack of memory and a failed read are no
 -- fault of its bytes
-abbrev pub IsReading : Option Bytes → Result Bytes InputError → Type 0
-IsReading meant (Ok bytes) = meant ≡ Some bytes
-IsReading meant (Err NotHexadecimal) = meant ≡ None
-IsReading meant (Err Unreadable) = Unit {0}
-IsReading meant (Err OutOfMemory) = Unit {0}
+abbrev pub IsInputRead : Option Bytes → Result Bytes InputError → Type 0
+IsInputRead meant (Ok bytes) = meant ≡ Some bytes
+IsInputRead meant (Err NotHexadecimal) = meant ≡ None
+IsInputRead meant (Err Unreadable) = Unit {0}
+IsInputRead meant (Err OutOfMemory) = Unit {0}
 
 abbrev pub IsDecoded : Option ℕ → List ℕ → Result Bytes InputError → Type 0
-IsDecoded header input result = IsReading (bytes_by header input) result
+IsDecoded header input result = IsInputRead (bytes_by header input) result
 
-abbrev pub bytes_of : Sections → Bytes
-bytes_of sections = record { section = sections.section.items; header = sections.header.items }
+abbrev pub bytes_of_sections : Sections → Bytes
+bytes_of_sections sections =
+    record { section = sections.section.items; header = sections.header.items }
 
 -- what comes of an input whose bytes are known, by what they mean
 abbrev pub ReadsSections :
     (List ℕ → Option Bytes) → Option (List ℕ) → Result Sections InputError → Type 0
 ReadsSections meaning input result =
-    IfSome input (λ bytes. IsReading (meaning bytes) (map_ok bytes_of result))
+    IfSome input (λ bytes. IsInputRead (meaning bytes) (map_ok bytes_of_sections result))

@@ -1,6 +1,6 @@
 -- Lines of JSON, an object each (RFC 8259).
 --     json_number n      a number
---     escaped text      the characters of a string
+--     json_escaped text      the characters of a string
 --     json_name name      those of a name, which may have any bytes
 --     json_row wording row      a row
 --     json_members wording row      its members, and the brace after them
@@ -32,16 +32,16 @@ abbrev pub json_number : ℕ → List ℕ
 json_number n = if nat_lt n (2 ^ 53) then decimal n else codes "\"" ++ decimal n ++ codes "\""
 
 -- a quotation mark (34), a backslash (92) and a control character are escaped (section 7)
-abbrev pub escape : ℕ → List ℕ
-escape c =
+abbrev pub json_escape : ℕ → List ℕ
+json_escape c =
     if c == 34 then codes "\\\""
     else if c == 92 then codes "\\\\"
     else if nat_lt c 0x20 then codes "\\u00"
     ++ digit_glyph false (c / 16) ∷ digit_glyph false (c % 16) ∷ []
     else c ∷ []
 
-abbrev pub escaped : List ℕ → List ℕ
-escaped text = flat_map escape text
+abbrev pub json_escaped : List ℕ → List ℕ
+json_escaped text = flat_map json_escape text
 
 -- the escape of the character with this number, below 2^16
 abbrev pub number_escape : ℕ → List ℕ
@@ -52,7 +52,7 @@ number_escape n =
 -- a string is UTF-8 (section 8.1): U+FFFD, the replacement character, stands for each byte that
 -- isn't, and each control character is escaped, also U+007F to U+009F
 abbrev pub json_kind : Kind → List ℕ → List ℕ
-json_kind Shown bytes = escaped bytes
+json_kind Shown bytes = json_escaped bytes
 json_kind Control bytes = number_escape (scalar bytes)
 json_kind Stray bytes = codes "\\ufffd"
 
@@ -64,11 +64,11 @@ json_name name = flat_map json_part (parts name)
 
 -- ---- a row
 
-abbrev pub start_member : ℕ → List ℕ
-start_member start = codes "\"start\":\"" ++ address_text start ++ codes "\","
-
-abbrev pub end_member : ℕ → List ℕ
-end_member end = codes "\"end\":\"" ++ address_text end ++ codes "\","
+-- its addresses, from the first up to the end
+abbrev pub address_members : ℕ → ℕ → List ℕ
+address_members start end =
+    codes "\"start\":\"" ++ address_text start ++ codes "\",\"end\":\"" ++ address_text end
+    ++ codes "\","
 
 module _ (wording : Wording) where
   -- a register and its rule
@@ -77,7 +77,7 @@ module _ (wording : Wording) where
       codes "\"" ++ register_text wording.names register ++ codes "\":\""
       ++ (rule_saying wording.words wording.names rule ++ codes "\"")
 
-  -- behind a comma (44)
+  -- after a comma (44)
   abbrev pub json_rule : ℕ → RegisterRule ℕ → List ℕ
   json_rule register rule = 44 ∷ json_member register rule
 
@@ -87,7 +87,7 @@ separated true [] = []
 separated true (comma ∷ members) = members
 separated false members = members
 
--- the bytes of rules' expressions, if there are any, are an object behind that of the rules, which
+-- the bytes of rules' expressions, if there are any, are an object after that of the rules, which
 -- ends before it
 abbrev pub rules_end : Bool → List ℕ → List ℕ
 rules_end true [] = codes "}"
@@ -95,9 +95,9 @@ rules_end true (comma ∷ members) = codes "},\"rules_bytes\":{" ++ (members ++ 
 rules_end false members = members ++ codes "}"
 
 -- what comes before such a member
-abbrev pub opening : Bool → List ℕ
-opening true = codes "},\"rules_bytes\":{"
-opening false = codes ","
+abbrev pub bytes_opening : Bool → List ℕ
+bytes_opening true = codes "},\"rules_bytes\":{"
+bytes_opening false = codes ","
 
 module _ (wording : Wording) where
   -- the rules of all registers, by rising number
@@ -110,13 +110,13 @@ module _ (wording : Wording) where
       codes "\"" ++ register_text wording.names register ++ codes "\":\""
       ++ (wording.bytes e ++ codes "\"")
 
-  -- behind a comma, if there is one
-  abbrev pub bytes_at : ℕ → Option (UnwindExpression ℕ) → List ℕ
-  bytes_at register None = []
-  bytes_at register (Some e) = 44 ∷ bytes_member register e
+  -- after a comma, if there is one
+  abbrev pub bytes_member_at : ℕ → Option (UnwindExpression ℕ) → List ℕ
+  bytes_member_at register None = []
+  bytes_member_at register (Some e) = 44 ∷ bytes_member register e
 
   abbrev pub bytes_of_rule : ℕ → RegisterRule ℕ → List ℕ
-  bytes_of_rule register rule = bytes_at register (expression_in rule)
+  bytes_of_rule register rule = bytes_member_at register (expression_in rule)
 
   abbrev pub json_bytes : Parts ℕ → List ℕ
   json_bytes parts = rules_end true (rules_by bytes_of_rule 65536 0 (get parts.rules))
@@ -126,7 +126,7 @@ module _ (wording : Wording) where
   cfa_bytes (cfas.Expression e) =
       codes ",\"cfa_bytes\":\"" ++ (wording.bytes e ++ codes "\"")
 
-  -- behind the addresses
+  -- after the addresses
   abbrev pub json_cfa : CfaRule ℕ → List ℕ
   json_cfa cfa =
       codes "\"cfa\":\"" ++ (cfa_saying wording.words wording.names cfa
@@ -135,7 +135,7 @@ module _ (wording : Wording) where
   -- what comes before the rules
   abbrev pub json_head : Row ℕ → List ℕ
   json_head row =
-      (start_member row.start_address ++ end_member row.end_address)
+      address_members row.start_address row.end_address
       ++ (json_cfa row.parts.cfa
       ++ (codes ",\"args\":" ++ json_number row.parts.args_size ++ codes ",\"rules\":{"))
 

@@ -20,6 +20,6 @@ AreKept names kept =
     kept_text kept ≡ rules_by (ruled names) 65536 0 (map.get (rules_of (kept_rules kept)))
 
 -- no rule is an expression
-abbrev pub ArePlain : List (Register × RegisterRule ℕ) → Type 0
-ArePlain [] = ⊤
-ArePlain (pair ∷ pairs) = (expression_in pair.1 ≡ None) × ArePlain pairs
+abbrev pub HaveNoExpression : List (Register × RegisterRule ℕ) → Type 0
+HaveNoExpression [] = ⊤
+HaveNoExpression (pair ∷ pairs) = (expression_in pair.1 ≡ None) × HaveNoExpression pairs

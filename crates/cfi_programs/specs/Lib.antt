@@ -4,8 +4,10 @@ pub mod Input
 pub mod Addresses
 pub mod ErrorWords
 pub mod Lines
+pub mod Refusals
 pub mod RowLines
 pub mod Operations
+pub mod OperationReads
 pub mod ExpressionWords
 pub mod Wordings
 pub mod FunctionLines

@@ -1,26 +1,17 @@
--- The operations of DWARF expressions as they are encoded (DWARF 5 sections 2.5.1, 2.6.1 and
--- 7.7.1): for each section a table, from the opcode to the name and the form of the operand.
--- Operations with a block, a type, an entry or an offset of another section are in no table: call
--- frames may not have them, or they mean nothing there (section 6.4.2).
---     entry_of opcode      its name, and the form of its operand
---     operation size      the read of an operation, where an address has this size
-use Rattle.std.specs.Prelude.{ℕ, ◌-◌, ℤ, List, [], ◌∷◌, ◌++◌, Option, Some, None, nat_lt, ◌==◌}
+-- The operations of DWARF expressions (DWARF 5 sections 2.5.1, 2.6.1 and 7.7.1): for each section a
+-- table, from the opcode to the name and the form of the operand. Operations with a block, a type,
+-- an entry or an offset of another section are in no table: call frames may not have them, or they
+-- mean nothing there (section 6.4.2).
+--     operation_entry opcode      its name, and the form of its operand
+use Rattle.std.specs.Prelude.{ℕ, ◌-◌, List, [], ◌∷◌, ◌++◌, nat_lt, ◌==◌}
 use Rattle.std.specs.Prelude.{codes, if◌then◌else◌}
 use Rattle.std.specs.Fmt.{decimal}
-use Rattle.std.specs.Int.{w8, w16, w32, w64}
+use Rattle.std.specs.Option.{option_map_or}
 use Rattle.cfi_read_core.specs.declared.common.Register.{Register}
-use Rattle.cfi_read_core.specs.ReadFunctions.{Read, ◌>>=◌, give}
-use Rattle.cfi_read_core.specs.Numbers.{unsigned, signed, unsigned_leb128, signed_leb128}
-use Rattle.cfi_read_core.specs.Numbers.{register_leb128}
-use Rattle.cfi_read_core.specs.Addresses.{address}
 use Rattle.cfi_programs.specs.declared.operations.Form.{Form}
 use Rattle.cfi_programs.specs.declared.operations.Form.TheVariants as form
 use Rattle.cfi_programs.specs.declared.operations.Form.TheVariants.{Nothing, Unsigned, Signed}
-use Rattle.cfi_programs.specs.declared.operations.Operand.{Operand}
-use Rattle.cfi_programs.specs.declared.operations.Operand.TheVariants as operands
-use Rattle.cfi_programs.specs.declared.operations.Operation.{Operation}
 use Rattle.cfi_programs.specs.declared.operations.OperationName.{OperationName}
-use Rattle.cfi_programs.specs.declared.operations.Width.{Width}
 use Rattle.cfi_programs.specs.declared.operations.Width.TheVariants.{One, Two, Four, Eight, Leb128}
 
 -- ---- the tables
@@ -39,8 +30,8 @@ found opcode (row ∷ rows) other = if row.0 == opcode then row.1 else found opc
 
 -- register values (section 2.5.1.2), objects and frames (section 2.5.1.3), the one that does
 -- nothing (section 2.5.1.6), and what names a place (sections 2.6.1.1 and 2.6.1.2)
-abbrev pub others : List (ℕ × Entry)
-others =
+abbrev pub special_operations : List (ℕ × Entry)
+special_operations =
     (0x90, made (codes "DW_OP_regx") form.Register)
     ∷ (0x91, made (codes "DW_OP_fbreg") (Signed Leb128))
     ∷ (0x92, made (codes "DW_OP_bregx") form.RegisterOffset)
@@ -53,11 +44,11 @@ others =
     ∷ []
 
 unfoldable pub other_entry : ℕ → Entry
-other_entry opcode = found opcode others (made [] form.Unknown)
+other_entry opcode = found opcode special_operations (made [] form.Unknown)
 
 -- control flow (section 2.5.1.5)
-abbrev pub control : List (ℕ × Entry)
-control =
+abbrev pub control_flow_operations : List (ℕ × Entry)
+control_flow_operations =
     (0x28, made (codes "DW_OP_bra") (Signed Two))
     ∷ (0x29, made (codes "DW_OP_eq") Nothing)
     ∷ (0x2a, made (codes "DW_OP_ge") Nothing)
@@ -69,11 +60,11 @@ control =
     ∷ []
 
 unfoldable pub control_entry : ℕ → Entry
-control_entry opcode = found opcode control (other_entry opcode)
+control_entry opcode = found opcode control_flow_operations (other_entry opcode)
 
 -- arithmetic and logical operations (section 2.5.1.4)
-abbrev pub logic : List (ℕ × Entry)
-logic =
+abbrev pub logical_operations : List (ℕ × Entry)
+logical_operations =
     (0x1a, made (codes "DW_OP_and") Nothing)
     ∷ (0x20, made (codes "DW_OP_not") Nothing)
     ∷ (0x21, made (codes "DW_OP_or") Nothing)
@@ -84,10 +75,10 @@ logic =
     ∷ []
 
 unfoldable pub logic_entry : ℕ → Entry
-logic_entry opcode = found opcode logic (control_entry opcode)
+logic_entry opcode = found opcode logical_operations (control_entry opcode)
 
-abbrev pub arithmetic : List (ℕ × Entry)
-arithmetic =
+abbrev pub arithmetic_operations : List (ℕ × Entry)
+arithmetic_operations =
     (0x19, made (codes "DW_OP_abs") Nothing)
     ∷ (0x1b, made (codes "DW_OP_div") Nothing)
     ∷ (0x1c, made (codes "DW_OP_minus") Nothing)
@@ -99,11 +90,11 @@ arithmetic =
     ∷ []
 
 unfoldable pub arithmetic_entry : ℕ → Entry
-arithmetic_entry opcode = found opcode arithmetic (logic_entry opcode)
+arithmetic_entry opcode = found opcode arithmetic_operations (logic_entry opcode)
 
 -- stack operations (section 2.5.1.3)
-abbrev pub stack : List (ℕ × Entry)
-stack =
+abbrev pub stack_operations : List (ℕ × Entry)
+stack_operations =
     (0x06, made (codes "DW_OP_deref") Nothing)
     ∷ (0x12, made (codes "DW_OP_dup") Nothing)
     ∷ (0x13, made (codes "DW_OP_drop") Nothing)
@@ -117,11 +108,11 @@ stack =
     ∷ []
 
 unfoldable pub stack_entry : ℕ → Entry
-stack_entry opcode = found opcode stack (arithmetic_entry opcode)
+stack_entry opcode = found opcode stack_operations (arithmetic_entry opcode)
 
 -- literal encodings (section 2.5.1.1)
-abbrev pub constants : List (ℕ × Entry)
-constants =
+abbrev pub literal_encodings : List (ℕ × Entry)
+literal_encodings =
     (0x03, made (codes "DW_OP_addr") form.Address)
     ∷ (0x08, made (codes "DW_OP_const1u") (Unsigned One))
     ∷ (0x09, made (codes "DW_OP_const1s") (Signed One))
@@ -136,15 +127,15 @@ constants =
     ∷ []
 
 unfoldable pub constant_entry : ℕ → Entry
-constant_entry opcode = found opcode constants (stack_entry opcode)
+constant_entry opcode = found opcode literal_encodings (stack_entry opcode)
 
 abbrev pub numbered_register : ℕ → Register
 numbered_register n = record { 0 = n }
 
 -- 0x30 to 0x4f are DW_OP_lit0 to lit31, 0x50 to 0x6f DW_OP_reg0 to reg31, and 0x70 to 0x8f
 -- DW_OP_breg0 to breg31
-abbrev pub entry_of : ℕ → Entry
-entry_of opcode =
+abbrev pub operation_entry : ℕ → Entry
+operation_entry opcode =
     if nat_lt opcode 0x30 then constant_entry opcode
     else if nat_lt opcode 0x50 then made (codes "DW_OP_lit" ++ decimal (opcode - 0x30)) Nothing
     else if nat_lt opcode 0x70 then made (codes "DW_OP_reg" ++ decimal (opcode - 0x50))
@@ -154,62 +145,5 @@ entry_of opcode =
     else constant_entry opcode
 
 -- a name of the code
-abbrev pub number_text : Option ℕ → List ℕ
-number_text None = []
-number_text (Some n) = decimal n
-
-abbrev pub name_text : OperationName → List ℕ
-name_text name = name.text.now ++ number_text name.number
-
--- ---- the operands
-
-unfoldable pub unsigned_by : Width → Read ℕ
-unsigned_by One = unsigned w8
-unsigned_by Two = unsigned w16
-unsigned_by Four = unsigned w32
-unsigned_by Eight = unsigned w64
-unsigned_by Leb128 = unsigned_leb128
-
--- in two's complement
-unfoldable pub signed_by : Width → Read ℤ
-signed_by One = signed w8
-signed_by Two = signed w16
-signed_by Four = signed w32
-signed_by Eight = signed w64
-signed_by Leb128 = signed_leb128
-
-unfoldable pub unsigned_operand : Width → Read Operand
-unsigned_operand width = unsigned_by width >>= λ n. give (operands.Unsigned n)
-
-unfoldable pub signed_operand : Width → Read Operand
-signed_operand width = signed_by width >>= λ z. give (operands.Signed z)
-
-unfoldable pub address_operand : ℕ → Read Operand
-address_operand size = address size >>= λ n. give (operands.Address n)
-
-unfoldable pub register_operand : Read Operand
-register_operand = register_leb128 >>= λ r. give (operands.Register r)
-
--- the offset comes after the register
-unfoldable pub offset_from : Register → Read Operand
-offset_from r = signed_leb128 >>= λ z. give (operands.RegisterOffset r z)
-
-unfoldable pub any_offset : Read Operand
-any_offset = register_leb128 >>= offset_from
-
-abbrev pub operand : ℕ → Form → Read Operand
-operand size form.Unknown = give operands.Unknown
-operand size Nothing = give operands.Nothing
-operand size form.Address = address_operand size
-operand size (Unsigned width) = unsigned_operand width
-operand size (Signed width) = signed_operand width
-operand size form.Register = register_operand
-operand size form.RegisterOffset = any_offset
-operand size (form.Named r) = give (operands.Register r)
-operand size (form.OffsetFrom r) = offset_from r
-
-unfoldable pub operation : ℕ → Read Operation
-operation size = do
-  opcode ← unsigned w8
-  operand ← operand size (entry_of opcode).form
-  give (record { opcode = opcode; operand = operand })
+abbrev pub operation_name_text : OperationName → List ℕ
+operation_name_text name = name.text.now ++ option_map_or decimal name.number []

@@ -5,7 +5,7 @@
 use Rattle.std.specs.Prelude.{ℕ, Option, Some, None, List, [], ◌++◌, Result, Ok, Err, flat_map}
 use Rattle.cfi_read_core.specs.declared.error.Error.{Error}
 use Rattle.cfi_read_core.specs.ReadFunctions.{Readings}
-use Rattle.cfi_programs.specs.Lines.{refusal_told}
+use Rattle.cfi_programs.specs.Refusals.{refusal_told}
 use Rattle.cfi_programs.specs.declared.style.Format.{Format}
 
 abbrev pub item_text : {A : Type 0} → Format → (A → List ℕ) → Result A Error → List ℕ

@@ -1,7 +1,7 @@
 -- What is printed of a row, with the names of registers.
 --     row_saying say names row      where an expression is said so
 --     row_text names row      where it is said by its place in the section
---     IsPlain row      no rule of the row is an expression
+--     HasNoExpression row      no rule of the row is an expression
 use Rattle.std.specs.Prelude.{ℕ, zero, suc, ◌+◌, ℤ, pos, negsuc, Option, Some, None, List, [], ◌++◌}
 use Rattle.std.specs.Prelude.{◌≡◌, Bool, true, false, codes}
 use Rattle.std.specs.FinMap as map
@@ -120,6 +120,6 @@ abbrev pub expression_at : Option (RegisterRule ℕ) → Option (UnwindExpressio
 expression_at None = None
 expression_at (Some rule) = expression_in rule
 
-pub record IsPlain (row : Row ℕ) : Type 0 where
+pub record HasNoExpression (row : Row ℕ) : Type 0 where
   pub cfa : is_plain_cfa row.parts.cfa ≡ true
   pub rules : (register : ℕ) → expression_at (map.get row.parts.rules register) ≡ None

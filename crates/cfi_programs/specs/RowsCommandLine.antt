@@ -25,8 +25,8 @@ option_words options request = each_word option_word options request
 
 -- ---- the four first words
 
-abbrev pub first_words : List ℕ → List ℕ → List ℕ → List ℕ → Option Request
-first_words kind order size address = do
+abbrev pub first_four_words : List ℕ → List ℕ → List ℕ → List ℕ → Option Request
+first_four_words kind order size address = do
   words ← sections.first_words kind order size
   value ← number address
   Some (record {
@@ -38,5 +38,5 @@ first_words kind order size address = do
 -- what the words ask for, or none where they are wrong
 unfoldable pub request_of : List (List ℕ) → Option Request
 request_of (kind ∷ order ∷ size ∷ address ∷ options) =
-    option_and_then (option_words options) (first_words kind order size address)
+    option_and_then (option_words options) (first_four_words kind order size address)
 request_of words = None

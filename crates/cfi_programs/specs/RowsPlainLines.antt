@@ -7,16 +7,16 @@ use Rattle.cfi_object.specs.declared.register_names.RegisterNames.TheVariants.{N
 use Rattle.cfi_programs.specs.Input.{Bytes}
 use Rattle.cfi_programs.specs.Lines.{Line}
 use Rattle.cfi_programs.specs.AnswerLines.{plain_line}
-use Rattle.cfi_programs.specs.Runs.{IsPlain}
+use Rattle.cfi_programs.specs.Runs.{IsNoWrongLine}
 use Rattle.cfi_programs.specs.declared.rows.command_line.Request.{Request}
 use Rattle.cfi_programs.specs.RowsProgramOutput.{rows_tool}
 
-plain_answer : (answer : Result (Row ℕ) Error) → IsPlain (plain_line Numbers answer)
+plain_answer : (answer : Result (Row ℕ) Error) → IsNoWrongLine (plain_line Numbers answer)
 plain_answer (Ok row) = record { beginning = refl; low = lit≤ tt }
 plain_answer (Err e) = record { beginning = refl; low = lit≤ tt }
 
 pub plain :
     (request : Request) (bytes : Bytes) (printed : Line) → rows_tool.IsLine request bytes printed →
-    IsPlain printed
+    IsNoWrongLine printed
 plain request bytes printed (answer, is, e) =
-    subst (λ line. IsPlain line) (sym e) (plain_answer answer)
+    subst (λ line. IsNoWrongLine line) (sym e) (plain_answer answer)

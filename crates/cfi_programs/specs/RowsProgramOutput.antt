@@ -33,25 +33,25 @@ room_of Growing = room None None false
 -- What may be answered to a request: the row for the address in the section, by the table of the
 -- header where there is one, or the first refusal on the way. Only an instruction that may allocate
 -- may be refused for lack of it; where the room is fixed none is.
-abbrev pub IsAnswer : Room → Request → Bytes → Result (Row ℕ) Error → Type 0
-IsAnswer room request bytes answer =
+abbrev pub IsRequestedRow : Room → Request → Bytes → Result (Row ℕ) Error → Type 0
+IsRequestedRow room request bytes answer =
     IsGivenRow room.rule_limit room.stack_limit room.copies_free
     (given_by request.words bytes.section bytes.header) request.address answer
 
 -- ---- the line
 
 -- the rows of sections, where the unwind of a request has so much room
-abbrev pub rows_in : (Request → Room) → Tool
-rows_in room_for = record {
+abbrev pub rows_tool_with : (Request → Room) → Tool
+rows_tool_with room_for = record {
   Request = Request;
   request_of = request_of;
   meaning = λ request input. bytes_by request.words.header input;
   IsLine =
       λ request bytes printed.
-      (answer : Result (Row ℕ) Error) × IsAnswer (room_for request) request bytes answer
+      (answer : Result (Row ℕ) Error) × IsRequestedRow (room_for request) request bytes answer
       × (printed ≡ plain_line Numbers answer);
 }
 
 -- the program
 abbrev pub rows_tool : Tool
-rows_tool = rows_in (λ request. room_of request.storage)
+rows_tool = rows_tool_with (λ request. room_of request.storage)

@@ -11,8 +11,9 @@ use Rattle.std.specs.Io.KnownBytes.{Appends}
 use Rattle.std.specs.Option.{option_and_then}
 use Rattle.cfi_read_core.specs.declared.error.Error.TheVariants.{OutOfMemory}
 use Rattle.cfi_programs.specs.Input.{Bytes}
-use Rattle.cfi_programs.specs.Lines.{Line, refusal_line, wrong_words, wrong_hexadecimal}
-use Rattle.cfi_programs.specs.Lines.{wrong_input}
+use Rattle.cfi_programs.specs.Lines.{Line}
+use Rattle.cfi_programs.specs.Refusals.{refusal_line, wrong_words, wrong_hexadecimal}
+use Rattle.cfi_programs.specs.Refusals.{wrong_input}
 use Rattle.cfi_programs.specs.WriterOutput.{IsBeginning, Prints}
 
 -- An executable: what its words ask for, or none where they are wrong; what its input means, or
@@ -36,7 +37,7 @@ IsAskedFor request_of request = (words : List (List ℕ)) × (request_of words �
 
 -- The output of an answer does not begin with a w, as the lines do that say that words or input are
 -- wrong, and its status is 0 or 1.
-pub record IsPlain (printed : Line) : Type 0 where
+pub record IsNoWrongLine (printed : Line) : Type 0 where
   pub beginning : (get_or printed.text 0 0 == 119) ≡ false
   pub low : printed.status ≤ 1
 
@@ -53,12 +54,12 @@ LineOfRequest tool (Some request) input printed =
 
 -- what is asked for by the words after the program's name, or none where they are wrong or can't be
 -- had
-abbrev pub asked_for : (tool : Tool) → Option (List (List ℕ)) → Option tool.Request
-asked_for tool words = option_and_then tool.request_of words
+abbrev pub requested : (tool : Tool) → Option (List (List ℕ)) → Option tool.Request
+requested tool words = option_and_then tool.request_of words
 
 -- for those words, and all bytes of the input
 abbrev pub LineOfWords : Tool → Option (List (List ℕ)) → List ℕ → Line → Type 0
-LineOfWords tool words input printed = LineOfRequest tool (asked_for tool words) input printed
+LineOfWords tool words input printed = LineOfRequest tool (requested tool words) input printed
 
 -- the line where memory was refused
 abbrev pub out_of_memory : Line
@@ -97,7 +98,7 @@ PrintsOwed tool request input old new result =
 pub record IsRun (tool : Tool) (words : Option (List (List ℕ))) (input written : List ℕ)
     (status : ℕ) : Type 0 where
   pub printed : Line
-  pub owed : IsOwed tool (asked_for tool words) input printed
+  pub owed : IsOwed tool (requested tool words) input printed
   -- all of it, with its status; or, where the output failed, a beginning of it
   pub ends :
       ((written ≡ printed.text) × (status ≡ printed.status))
@@ -106,7 +107,7 @@ pub record IsRun (tool : Tool) (words : Option (List (List ℕ))) (input written
   -- been refused.
   pub answered :
       status ≤ 1 →
-      IsSome (asked_for tool words)
+      IsSome (requested tool words)
       × (LineOfWords tool words input (record { text = written; status = status })
       ⊎ (record { text = written; status = status } ≡ out_of_memory))
   pub otherwise : 1 < status → status ≡ 2

@@ -6,8 +6,8 @@ use Rattle.cfi_object.specs.CallFrames.{bases_at}
 use Rattle.cfi_programs.specs.declared.words.SectionWords.{SectionWords}
 
 -- the bytes of the header, where it has an address
-abbrev pub header_of : SectionWords → List ℕ → Option (List ℕ)
-header_of words bytes = option_map (λ address. bytes) words.header
+abbrev pub header_of_words : SectionWords → List ℕ → Option (List ℕ)
+header_of_words words bytes = option_map (λ address. bytes) words.header
 
 -- section= and header= are where the sections lie, data= is the base of data, text= that of text
 abbrev pub given_by : SectionWords → List ℕ → List ℕ → GivenSection
@@ -18,5 +18,5 @@ given_by words bytes header = record {
   vendor = words.vendor;
   bases = bases_at words.section words.text words.data_base words.header;
   bytes = bytes;
-  header = header_of words header;
+  header = header_of_words words header;
 }

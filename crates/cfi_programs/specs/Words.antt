@@ -75,18 +75,18 @@ each_word read (word ∷ words) value = option_and_then (each_word read words) (
 
 -- ---- the first words
 
-abbrev pub kind_of : List ℕ → Option SectionKind
-kind_of word =
+abbrev pub kind_named : List ℕ → Option SectionKind
+kind_named word =
     if bytes_eq word (codes "debug_frame") then Some DebugFrame
     else if bytes_eq word (codes "eh_frame") then Some EhFrame else None
 
-abbrev pub order_of : List ℕ → Option RunTimeEndian
-order_of word =
+abbrev pub order_named : List ℕ → Option RunTimeEndian
+order_named word =
     if bytes_eq word (codes "le") then Some Little
     else if bytes_eq word (codes "be") then Some Big else None
 
-abbrev pub size_of : List ℕ → Option AddressSize
-size_of word =
+abbrev pub size_named : List ℕ → Option AddressSize
+size_named word =
     if bytes_eq word (codes "1") then Some (record { bytes = 1; sized = refl })
     else if bytes_eq word (codes "2") then Some (record { bytes = 2; sized = refl })
     else if bytes_eq word (codes "4") then Some (record { bytes = 4; sized = refl })
@@ -99,9 +99,9 @@ given >>= next = option_and_then next given
 
 abbrev pub first_words : List ℕ → List ℕ → List ℕ → Option SectionWords
 first_words kind order size = do
-  section ← kind_of kind
-  endian ← order_of order
-  address_size ← size_of size
+  section ← kind_named kind
+  endian ← order_named order
+  address_size ← size_named size
   Some (record {
     kind = section;
     endian = endian;

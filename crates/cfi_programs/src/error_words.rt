@@ -1,6 +1,7 @@
 //! What errors of call frames say, as the programs print it.
 ghost use Rattle.std.specs.Prelude.{◌≡◌, Some};
-ghost use Rattle.cfi_programs.specs.ErrorWords.{advice_on, error_words, machine_of, parting};
+ghost use Rattle.cfi_programs.specs.ErrorWords.{advice_on, error_words, unsupported_opcode};
+ghost use Rattle.cfi_programs.specs.ErrorWords.{parting};
 
 use crate::style::Format;
 use gimli_cfi::{DwCfa, Error};
@@ -37,12 +38,12 @@ pub fn parting(format: Format) -> &'static str
     }
 }
 
-/// Returns what to do about an error, behind its sentence.
+/// Returns what to do about an error, after its sentence.
 fn advice_on(error: Error) -> &'static str
     ensures { result.now ≡ advice_on error }
 {
     match error {
-        Error::UnknownCallFrameInstruction(opcode) => machine_of(opcode),
+        Error::UnknownCallFrameInstruction(opcode) => unsupported_opcode(opcode),
         Error::TextRelativePointerButTextBaseIsUndefined => "; cfi_rows takes one by text=N",
         Error::DataRelativePointerButDataBaseIsUndefined => "; cfi_rows takes one by data=N",
         Error::StackFull => "; cfi_rows has room by store=vec",
@@ -52,8 +53,8 @@ fn advice_on(error: Error) -> &'static str
 }
 
 /// Returns that an opcode of one machine alone isn't supported, if it is one.
-fn machine_of(opcode: DwCfa) -> &'static str
-    ensures { result.now ≡ machine_of opcode.0 }
+fn unsupported_opcode(opcode: DwCfa) -> &'static str
+    ensures { result.now ≡ unsupported_opcode opcode.0 }
 {
     if opcode.0 == 0x2d {
         "; DW_CFA_GNU_window_save of SPARC isn't supported"

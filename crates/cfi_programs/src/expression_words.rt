@@ -3,15 +3,17 @@ ghost use Rattle.std.specs.Prelude.{◌≡◌, ◌++◌, Some, codes};
 ghost use Rattle.cfi_read_core.specs.ExpressionPlaces.{expression_bytes};
 ghost use Rattle.cfi_read_core.specs.ReaderCalls.{bytes_left, read_at};
 ghost use Rattle.cfi_programs.specs.WriterOutput.{Writes};
-ghost use Rattle.cfi_programs.specs.ExpressionWords.{bytes_text, byte_text, comma, hexadecimal};
-ghost use Rattle.cfi_programs.specs.ExpressionWords.{hexadecimal_in, in_words, known};
-ghost use Rattle.cfi_programs.specs.ExpressionWords.{operand_text, operation_text, unknown_text};
-ghost use Rattle.cfi_programs.specs.ExpressionWords.{with_operand, words_at, words_in};
+ghost use Rattle.cfi_programs.specs.ExpressionWords.{bytes_text, byte_text, operation_comma};
+ghost use Rattle.cfi_programs.specs.ExpressionWords.{hexadecimal_bytes, hexadecimal_in, in_words};
+ghost use Rattle.cfi_programs.specs.ExpressionWords.{known_operation, operand_text, operation_text};
+ghost use Rattle.cfi_programs.specs.ExpressionWords.{unknown_text, with_operand, words_at};
+ghost use Rattle.cfi_programs.specs.ExpressionWords.{words_in};
 ghost use Rattle.cfi_programs.specs.RowLines.{offset_text};
 ghost use Rattle.cfi_object.specs.RegisterNames.{register_text};
 
 use crate::lines::{write_part, write_text};
-use crate::operations::{Operand, Operation, entry_of, read_operation};
+use crate::operation_reader::{Operand, Operation, read_operation};
+use crate::operations::entry_of;
 use cfi_names::digit;
 use cfi_object::register_names::RegisterNames;
 use gimli_cfi::{Error, Reader, Register, UnwindExpression, UnwindSection};
@@ -41,11 +43,11 @@ impl Display for RegisterOffset {
     }
 }
 
-/// An operand behind a space, with the names of registers.
+/// An operand after a space, with the names of registers.
 #[derive(Clone, Copy)]
-struct Behind(RegisterNames, Operand);
+struct SpacedOperand(RegisterNames, Operand);
 
-impl Display for Behind {
+impl Display for SpacedOperand {
     ghost output = { λ it. Some (operand_text it.0 it.1) };
 
     fn fmt<W: fmt::Write>(&self, f: &mut Formatter<W>) -> fmt::Result {
@@ -64,18 +66,6 @@ impl Display for Behind {
                 write!(f, " {sum}")
             }
         }
-    }
-}
-
-/// What stands before an operation: nothing before the first.
-#[derive(Clone, Copy)]
-struct Comma(bool);
-
-impl Display for Comma {
-    ghost output = { λ it. Some (comma it.0) };
-
-    fn fmt<W: fmt::Write>(&self, f: &mut Formatter<W>) -> fmt::Result {
-        if self.0 { Ok(()) } else { f.write_str(", ") }
     }
 }
 
@@ -161,7 +151,7 @@ fn write_operations<R: Reader<Offset = usize>, W: Write>(
 
 /// Returns the operation that was read, if it is in the table.
 fn known(read: Result<Operation, Error>) -> Option<Operation>
-    ensures { result ≡ known read }
+    ensures { result ≡ known_operation read }
 {
     match read {
         Ok(operation) => named(operation),
@@ -179,7 +169,7 @@ fn named(operation: Operation) -> Option<Operation>
     }
 }
 
-/// Writes an operation, behind what stands before it.
+/// Writes an operation, after what stands before it.
 fn write_operation<W: Write>(
     output: &mut W,
     names: RegisterNames,
@@ -187,18 +177,30 @@ fn write_operation<W: Write>(
     operation: Operation,
 ) -> io::Result<()>
     ensures { Writes (W.contents output.old) (W.contents output.new) result
-        (comma is_first ++ operation_text names operation) }
+        (operation_comma is_first ++ operation_text names operation) }
 {
-    let comma = Comma(is_first);
-    let name = entry_of(operation.opcode).name;
-    let operand = Behind(names, operation.operand);
-    write_part(output, format_args!("{comma}{name}{operand}"))
+    write_comma(output, is_first)?;
+    write_named(output, names, operation)
 }
 
-/// Writes all that is left, where an operation isn't known or is cut, behind what stands before it.
+/// Writes the name of an operation and its operand.
+fn write_named<W: Write>(
+    output: &mut W,
+    names: RegisterNames,
+    operation: Operation,
+) -> io::Result<()>
+    ensures { Writes (W.contents output.old) (W.contents output.new) result
+        (operation_text names operation) }
+{
+    let name = entry_of(operation.opcode).name;
+    let operand = SpacedOperand(names, operation.operand);
+    write_part(output, format_args!("{name}{operand}"))
+}
+
+/// Writes all that is left, where an operation isn't known or is cut, after what stands before it.
 fn write_unknown<R: Reader, W: Write>(output: &mut W, is_first: bool, input: &R) -> io::Result<()>
     ensures { Writes (W.contents output.old) (W.contents output.new) result
-        (comma is_first ++ unknown_text (bytes_left (R.position input.now))) }
+        (operation_comma is_first ++ unknown_text (bytes_left (R.position input.now))) }
 {
     write_comma(output, is_first)?;
     write_left(output, input)
@@ -206,7 +208,8 @@ fn write_unknown<R: Reader, W: Write>(output: &mut W, is_first: bool, input: &R)
 
 /// Writes what stands before an operation.
 fn write_comma<W: Write>(output: &mut W, is_first: bool) -> io::Result<()>
-    ensures { Writes (W.contents output.old) (W.contents output.new) result (comma is_first) }
+    ensures { Writes (W.contents output.old) (W.contents output.new) result
+        (operation_comma is_first) }
 {
     if is_first {
         Ok(())
@@ -227,18 +230,18 @@ fn write_left<R: Reader, W: Write>(output: &mut W, input: &R) -> io::Result<()>
     }
 }
 
-/// Writes an opcode, and the bytes behind it.
+/// Writes an opcode, and the bytes after it.
 fn write_opcode<R: Reader, W: Write>(output: &mut W, opcode: u8, input: &R) -> io::Result<()>
     ensures { Writes (W.contents output.old) (W.contents output.new) result
         (codes "DW_OP_0x" ++ (byte_text opcode ++ bytes_text (bytes_left (R.position input.now)))) }
 {
     write_text(output, b"DW_OP_0x")?;
     write_byte(output, opcode)?;
-    write_behind(output, input)
+    write_bytes_after(output, input)
 }
 
-/// Writes the bytes behind an opcode.
-fn write_behind<R: Reader, W: Write>(output: &mut W, input: &R) -> io::Result<()>
+/// Writes the bytes after an opcode.
+fn write_bytes_after<R: Reader, W: Write>(output: &mut W, input: &R) -> io::Result<()>
     ensures { Writes (W.contents output.old) (W.contents output.new) result
         (bytes_text (bytes_left (R.position input.now))) }
 {
@@ -249,10 +252,11 @@ fn write_behind<R: Reader, W: Write>(output: &mut W, input: &R) -> io::Result<()
     }
 }
 
-/// Writes the first byte behind an opcode, and the others.
+/// Writes the first byte after an opcode, and the others.
 fn write_first<R: Reader, W: Write>(output: &mut W, first: u8, input: &R) -> io::Result<()>
     ensures { Writes (W.contents output.old) (W.contents output.new) result
-        (codes " 0x" ++ (byte_text first ++ hexadecimal (bytes_left (R.position input.now)))) }
+        (codes " 0x"
+        ++ (byte_text first ++ hexadecimal_bytes (bytes_left (R.position input.now)))) }
 {
     write_text(output, b" 0x")?;
     write_byte(output, first)?;
@@ -262,7 +266,7 @@ fn write_first<R: Reader, W: Write>(output: &mut W, first: u8, input: &R) -> io:
 /// Writes the bytes in hexadecimal.
 fn write_hexadecimal<R: Reader, W: Write>(output: &mut W, input: &R) -> io::Result<()>
     ensures { Writes (W.contents output.old) (W.contents output.new) result
-        (hexadecimal (bytes_left (R.position input.now))) }
+        (hexadecimal_bytes (bytes_left (R.position input.now))) }
 {
     let mut left = *input;
     while let Ok(byte) = left.read_u8() {

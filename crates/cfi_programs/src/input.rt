@@ -4,12 +4,11 @@ ghost use Rattle.std.specs.Prelude.{slice_index, IfOk, IfErr, IsErr, IfSome, IfN
 ghost use Rattle.std.specs.List.{All, before_first, after_first};
 ghost use Rattle.cfi_read_core.specs.ReaderCalls.{map_ok};
 ghost use Rattle.cfi_programs.specs.Input.{AreDigitValues, IsDecoded, ReadsSections};
-ghost use Rattle.cfi_programs.specs.Input.{BeginsWithByte, BeginsWithNoByte};
-ghost use Rattle.cfi_programs.specs.Input.{BeginsWithDigit, BeginsWithNoDigit};
-ghost use Rattle.cfi_programs.specs.Input.{bytes_by, bytes_of, decoded_bytes, without_spaces};
-ghost use Rattle.cfi_programs.specs.Input.{is_line_feed, is_space};
+ghost use Rattle.cfi_programs.specs.Input.{BeginsWithByte, BeginsWithNoByte, BeginsWithDigit};
+ghost use Rattle.cfi_programs.specs.Input.{BeginsWithNoDigit, bytes_by, bytes_of_sections};
+ghost use Rattle.cfi_programs.specs.Input.{decoded_bytes, without_spaces, is_line_feed, is_space};
 
-use cfi_object::input::{InputError, read_all};
+use cfi_object::{InputError, read_all};
 use hex::FromHex;
 use std::alloc::Global;
 use std::io::Read;
@@ -42,7 +41,7 @@ pub fn decode_sections(
     header: Option<u64>,
     text: Vec<u8>,
 ) -> Result<Sections, InputError>
-    ensures read { IsDecoded header text.items (map_ok bytes_of result) }
+    ensures read { IsDecoded header text.items (map_ok bytes_of_sections result) }
     ensures refused { IfErr result (λ e. e ≢ InputError.Unreadable) }
 {
     match header {
@@ -56,7 +55,7 @@ pub fn decode_sections(
 
 /// Decodes the section in the first line and the header after it.
 fn decode_lines(alloc: Global, text: Vec<u8>) -> Result<Sections, InputError>
-    ensures read { IsDecoded (Some 0) text.items (map_ok bytes_of result) }
+    ensures read { IsDecoded (Some 0) text.items (map_ok bytes_of_sections result) }
     ensures refused { IfErr result (λ e. e ≢ InputError.Unreadable) }
 {
     let mut first_line = text;

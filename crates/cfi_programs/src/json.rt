@@ -1,11 +1,12 @@
 //! The numbers and strings of JSON (RFC 8259).
 ghost use Rattle.std.specs.Prelude.{◌≡◌, ◌++◌, OnOk, codes};
 ghost use Rattle.std.specs.Fmt.{decimal};
-ghost use Rattle.cfi_programs.specs.JsonLines.{escape, escaped, json_number};
+ghost use Rattle.cfi_programs.specs.JsonLines.{json_escape, json_escaped, json_number};
 ghost use Rattle.cfi_programs.specs.WriterOutput.{Writes};
 
 use crate::lines::write_text;
-use crate::text::{Text, push, push_decimal};
+use crate::numbers::push_decimal;
+use crate::text::{Text, push};
 use cfi_names::digit;
 use std::io::Write;
 use std::{fmt, io};
@@ -20,12 +21,12 @@ pub fn push_number(text: &mut Text, number: u64) -> fmt::Result
     if number < EXACT {
         push_decimal(text, number)
     } else {
-        push_digits(text, number)
+        push_quoted(text, number)
     }
 }
 
 /// Appends the digits of the number as a string.
-fn push_digits(text: &mut Text, number: u64) -> fmt::Result
+fn push_quoted(text: &mut Text, number: u64) -> fmt::Result
     ensures { OnOk result (text.new.items
         ≡ text.old.items ++ (codes "\"" ++ decimal number ++ codes "\"")) }
 {
@@ -36,7 +37,8 @@ fn push_digits(text: &mut Text, number: u64) -> fmt::Result
 
 /// Writes the characters of a string, which are UTF-8 (section 7).
 pub fn write_escaped<W: Write>(output: &mut W, text: &[u8]) -> io::Result<()>
-    ensures { Writes (W.contents output.old) (W.contents output.new) result (escaped text.now) }
+    ensures { Writes (W.contents output.old) (W.contents output.new) result
+        (json_escaped text.now) }
 {
     for byte in text {
         write_escape(output, *byte)?;
@@ -45,8 +47,8 @@ pub fn write_escaped<W: Write>(output: &mut W, text: &[u8]) -> io::Result<()>
 }
 
 /// Writes what stands for the byte in a string.
-pub(crate) fn write_escape<W: Write>(output: &mut W, byte: u8) -> io::Result<()>
-    ensures { Writes (W.contents output.old) (W.contents output.new) result (escape byte) }
+fn write_escape<W: Write>(output: &mut W, byte: u8) -> io::Result<()>
+    ensures { Writes (W.contents output.old) (W.contents output.new) result (json_escape byte) }
 {
     if byte == b'"' {
         write_text(output, b"\\\"")

@@ -1,10 +1,9 @@
 //! The line of a row in JSON.
-ghost use Rattle.std.specs.Prelude.{◌≡◌, ◌≤◌, ◌++◌, [], ◌∷◌, codes};
-ghost use Rattle.std.specs.FinMap as map;
+ghost use Rattle.std.specs.Prelude.{◌++◌, [], ◌∷◌, codes};
 ghost use Rattle.cfi_programs.specs.JsonLines.{bytes_member, cfa_bytes, json_bytes, json_cfa};
 ghost use Rattle.cfi_programs.specs.JsonLines.{json_head, json_member, json_members, json_number};
-ghost use Rattle.cfi_programs.specs.JsonLines.{end_member, json_row, json_rule, json_rules};
-ghost use Rattle.cfi_programs.specs.JsonLines.{opening, separated, start_member};
+ghost use Rattle.cfi_programs.specs.JsonLines.{address_members, json_row, json_rule, json_rules};
+ghost use Rattle.cfi_programs.specs.JsonLines.{bytes_opening, separated};
 ghost use Rattle.cfi_programs.specs.RowLines.{expression_at};
 ghost use Rattle.cfi_object.specs.RegisterNames.{register_text};
 ghost use Rattle.cfi_programs.specs.ExpressionWords.{hexadecimal_of};
@@ -13,8 +12,9 @@ ghost use Rattle.cfi_programs.specs.WriterOutput.{Writes};
 
 use crate::expression_words::write_bytes_of;
 use crate::json::push_number;
-use crate::lines::{Address, write_part, write_text};
-use crate::row_line::{HasRules, expression_in};
+use crate::lines::{write_part, write_text};
+use crate::numbers::Address;
+use crate::register_rules::{HasRules, expression_at};
 use crate::row_words::{write_cfa, write_rule};
 use crate::style::Style;
 use crate::text::{Text, push};
@@ -81,26 +81,14 @@ fn write_head<
 /// Writes the addresses.
 fn write_addresses<W: Write>(output: &mut W, start: u64, end: u64) -> io::Result<()>
     ensures { Writes (W.contents output.old) (W.contents output.new) result
-        (start_member start ++ end_member end) }
-{
-    write_start(output, start)?;
-    write_end(output, end)
-}
-
-/// Writes the first address.
-fn write_start<W: Write>(output: &mut W, start: u64) -> io::Result<()>
-    ensures { Writes (W.contents output.old) (W.contents output.new) result (start_member start) }
+        (address_members start end) }
 {
     let start = Address(start);
-    write_part(output, format_args!("\"start\":\"{start}\","))
-}
-
-/// Writes the first address after the last.
-fn write_end<W: Write>(output: &mut W, end: u64) -> io::Result<()>
-    ensures { Writes (W.contents output.old) (W.contents output.new) result (end_member end) }
-{
     let end = Address(end);
-    write_part(output, format_args!("\"end\":\"{end}\","))
+    write_part(
+        output,
+        format_args!("\"start\":\"{start}\",\"end\":\"{end}\","),
+    )
 }
 
 /// Writes the rule of the canonical frame address, and the bytes of its expression.
@@ -205,12 +193,12 @@ fn write_separated<R: Reader<Offset = usize>, S: UnwindSection<R>, W: Write>(
     if is_first {
         write_member(output, style, section, register, rule)
     } else {
-        write_behind_comma(output, style, section, register, rule)
+        write_after_comma(output, style, section, register, rule)
     }
 }
 
 /// Writes a register and its rule, after a comma.
-fn write_behind_comma<R: Reader<Offset = usize>, S: UnwindSection<R>, W: Write>(
+fn write_after_comma<R: Reader<Offset = usize>, S: UnwindSection<R>, W: Write>(
     output: &mut W,
     style: Style,
     section: &S,
@@ -253,7 +241,7 @@ fn write_name<W: Write>(output: &mut W, names: RegisterNames, register: Register
     write_part(output, format_args!("\"{name}\":\""))
 }
 
-/// Writes the end of the rules, and behind them the bytes of their expressions, if there are any.
+/// Writes the end of the rules, and after them the bytes of their expressions, if there are any.
 fn write_bytes<R: Reader<Offset = usize>, S: UnwindSection<R>, W: Write, H: HasRules>(
     output: &mut W,
     style: Style,
@@ -277,16 +265,6 @@ fn write_bytes<R: Reader<Offset = usize>, S: UnwindSection<R>, W: Write, H: HasR
     write_text(output, b"}")
 }
 
-/// Returns the expression of the register's rule, if it has one.
-fn expression_at<H: HasRules>(row: &H, register: Register) -> Option<UnwindExpression<usize>>
-    ensures { result ≡ expression_at (map.get (H.parts row.now).rules register.0) }
-{
-    match row.rule(register) {
-        Some(rule) => expression_in(rule),
-        None => None,
-    }
-}
-
 /// Writes a register and the bytes of its expression, after a comma; after the end of the rules if
 /// it is the first.
 fn write_bytes_member<R: Reader<Offset = usize>, S: UnwindSection<R>, W: Write>(
@@ -300,7 +278,7 @@ fn write_bytes_member<R: Reader<Offset = usize>, S: UnwindSection<R>, W: Write>(
     ensures { let from = S.view section.now in
         let wording = worded style from.address_size from.position in
         Writes (W.contents output.old) (W.contents output.new) result
-        (opening is_first ++ bytes_member wording register.0 expression) }
+        (bytes_opening is_first ++ bytes_member wording register.0 expression) }
 {
     write_opening(output, is_first)?;
     write_bytes_of_member(output, style, section, register, expression)
@@ -308,7 +286,8 @@ fn write_bytes_member<R: Reader<Offset = usize>, S: UnwindSection<R>, W: Write>(
 
 /// Writes what comes before the bytes of an expression.
 fn write_opening<W: Write>(output: &mut W, is_first: bool) -> io::Result<()>
-    ensures { Writes (W.contents output.old) (W.contents output.new) result (opening is_first) }
+    ensures { Writes (W.contents output.old) (W.contents output.new) result
+        (bytes_opening is_first) }
 {
     if is_first {
         write_text(output, b"},\"rules_bytes\":{")

@@ -1,28 +1,26 @@
 //! The rules of rows in turn, which mostly are those of the last row with as many rules and the
 //! same first register.
-ghost use Rattle.std.specs.Prelude.{◌≡◌, ◌<◌, ◌≤◌, ◌++◌, [], ◌∷◌, IfOk, IsOkAnd, OnOk, false, true};
+ghost use Rattle.std.specs.Prelude.{◌≡◌, ◌≤◌, ◌++◌, [], ◌∷◌, OnOk, true};
 ghost use Rattle.std.specs.FinMap as map;
-ghost use Rattle.cfi_read_core.specs.ReaderCalls.{map_ok};
 ghost use Rattle.cfi_state.specs.RegisterRuleIters.{rules_left};
 ghost use Rattle.cfi_state.specs.RulePairs.{IsRising, rules_of};
 ghost use Rattle.cfi_object.specs.declared.register_names.RegisterNames.{RegisterNames};
-ghost use Rattle.cfi_programs.specs.AnswerLines.{plain_line};
 ghost use Rattle.cfi_programs.specs.KeptRules.{AreKept, kept_rules, kept_text};
-ghost use Rattle.cfi_programs.specs.RowLines.{IsPlain, ruled, rules_by};
+ghost use Rattle.cfi_programs.specs.RowLines.{ruled, rules_by};
 
-use crate::row_line::{is_rising, push_next, push_ruled};
+use crate::register_rules::is_rising;
+use crate::row_text::push_ruled;
 use crate::text::Text;
 use arrayvec::ArrayVec;
 use cfi_object::register_names::RegisterNames;
-use gimli_cfi::{ArrayLike, Error, Register, RegisterRule, RegisterRuleIter, UnwindTableRow};
+use gimli_cfi::{Register, RegisterRule, RegisterRuleIter};
 use std::fmt;
-use std::marker::Model;
 
 /// How many rules are kept at most.
 const MOST: usize = 16;
 
 /// How long their text is at most. A line has at most 114 bytes before it, and a line
-/// feed behind it.
+/// feed after it.
 const LONGEST: usize = 300;
 
 /// The rules of a row and their text, for the next row. There are none where a row has many.
@@ -125,7 +123,7 @@ impl KeptRules {
         Ok(())
     }
 
-    /// Keeps a rule behind those that are kept. Fails where there is no room for it.
+    /// Keeps a rule after those that are kept. Fails where there is no room for it.
     fn add(
         &mut self,
         names: RegisterNames,
@@ -141,112 +139,6 @@ impl KeptRules {
         match self.rules.try_push((register, rule)) {
             Ok(()) => push_ruled(&mut self.text, names, register, rule),
             Err(_) => Err(fmt::Error),
-        }
-    }
-}
-
-/// The rules of the last rows, and their texts: by how many there are and the first register, since
-/// rows with these in common mostly have the same.
-#[derive(Drop)]
-pub(crate) struct KeptRows {
-    names: RegisterNames,
-    rows: [KeptRules; 16],
-}
-
-impl Model for KeptRows {
-    ghost use Rattle.std.specs.List.{All};
-    ghost use Rattle.cfi_programs.specs.KeptRules.{AreKept};
-    ghost use Rattle.cfi_object.specs.declared.register_names.RegisterNames.{RegisterNames};
-
-    ghost Value = { RegisterNames };
-
-    ghost view = { λ kept. kept.names };
-
-    ghost invariant = { λ kept. All (AreKept kept.names) kept.rows };
-}
-
-impl KeptRows {
-    /// Keeps no rules, for rows with these names of registers.
-    pub(crate) fn new(names: RegisterNames) -> KeptRows {
-        KeptRows {
-            names,
-            rows: [
-                KeptRules::new(),
-                KeptRules::new(),
-                KeptRules::new(),
-                KeptRules::new(),
-                KeptRules::new(),
-                KeptRules::new(),
-                KeptRules::new(),
-                KeptRules::new(),
-                KeptRules::new(),
-                KeptRules::new(),
-                KeptRules::new(),
-                KeptRules::new(),
-                KeptRules::new(),
-                KeptRules::new(),
-                KeptRules::new(),
-                KeptRules::new(),
-            ],
-        }
-    }
-
-    /// Appends the line of text of an answer as `row_line::push_next` does, and returns whether it
-    /// does.
-    #[inline]
-    pub(crate) fn push_next<A: ArrayLike<Item = (Register, RegisterRule<usize>)>>(
-        &mut self,
-        text: &mut Text,
-        names: RegisterNames,
-        answer: Result<&UnwindTableRow<usize, A>, Error>,
-    ) -> Result<bool, fmt::Error>
-        ensures pushed { IfOk result (λ pushed. pushed ≡ true → text.new.items ≡ text.old.items
-            ++ (plain_line names (map_ok (λ row. row.now) answer.entry)).text) }
-        ensures plain { IfOk result (λ pushed. pushed ≡ true →
-            IsOkAnd answer.entry (λ row. IsPlain row.now)) }
-        ensures left { IfOk result (λ pushed. pushed ≡ false → text.new.items ≡ text.old.items) }
-    {
-        if self.names != names {
-            return Ok(false);
-        }
-        let place = place_of(answer);
-        push_next(text, names, &mut self.rows[place], answer)
-    }
-}
-
-/// Returns the place for the rules of the row; 0 where there is none. It depends on how many there
-/// are and on the first register, so that few sets of a program's functions share a place.
-#[inline]
-fn place_of<A: ArrayLike<Item = (Register, RegisterRule<usize>)>>(
-    answer: Result<&UnwindTableRow<usize, A>, Error>,
-) -> usize
-    ensures { result < 16 }
-{
-    let Ok(row) = answer else {
-        return 0;
-    };
-    let first = match row.registers().next() {
-        Some((register, _)) => register.0 % 16,
-        None => 0,
-    };
-    (row.registers().count() % 16 + 3 * first as usize) % 16
-}
-
-/// What lines of text are put together in.
-#[derive(Drop)]
-pub(crate) struct LineRoom {
-    /// The text that is not written yet.
-    pub(crate) text: Text,
-    /// The rules of the last rows.
-    pub(crate) kept: KeptRows,
-}
-
-impl LineRoom {
-    /// Has no text and keeps no rules, for rows with these names of registers.
-    pub(crate) fn new(names: RegisterNames) -> LineRoom {
-        LineRoom {
-            text: Text::new(),
-            kept: KeptRows::new(names),
         }
     }
 }

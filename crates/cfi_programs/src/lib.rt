@@ -4,7 +4,7 @@
 //! addresses, the input in hexadecimal, and the run of the program.
 #![tactic(auto)]
 
-pub mod check;
+mod arguments;
 pub mod dump;
 pub mod error_words;
 mod expression_words;
@@ -14,11 +14,18 @@ mod json_row;
 mod kept_rules;
 pub mod lines;
 pub mod names;
+pub mod numbers;
+mod operation_reader;
 mod operations;
+mod plain_rows;
+pub mod refusals;
+pub mod register_rules;
 pub mod row_line;
+pub mod row_text;
 pub mod row_words;
 pub mod rows;
 pub mod run;
 pub mod style;
 pub mod text;
+pub mod verdict_line;
 pub mod words;

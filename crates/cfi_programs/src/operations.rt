@@ -1,19 +1,12 @@
-//! The operations of DWARF expressions as they are encoded (DWARF 5 sections 2.5.1, 2.6.1 and
-//! 7.7.1): the name of each, and its operand.
+//! The table of the operations of DWARF expressions (DWARF 5 sections 2.5.1, 2.6.1 and 7.7.1): the
+//! name of each, and the form of its operand.
 ghost use Rattle.std.specs.Prelude.{◌≡◌, ◌++◌, Some};
 ghost use Rattle.std.specs.Fmt.{decimal};
-ghost use Rattle.std.specs.Int.{w8};
-ghost use Rattle.cfi_read_core.specs.Numbers.{signed as two_complement};
-ghost use Rattle.cfi_read_core.specs.ReaderCalls.{ReadsValue};
-ghost use Rattle.cfi_programs.specs.Operations.{address_operand, any_offset, arithmetic_entry};
-ghost use Rattle.cfi_programs.specs.Operations.{constant_entry, control_entry};
-ghost use Rattle.cfi_programs.specs.Operations.{entry_of, logic_entry, name_text, offset_from};
-ghost use Rattle.cfi_programs.specs.Operations.{operand, operation, other_entry, register_operand};
-ghost use Rattle.cfi_programs.specs.Operations.{signed_by, signed_operand, stack_entry};
-ghost use Rattle.cfi_programs.specs.Operations.{unsigned_by, unsigned_operand};
+ghost use Rattle.cfi_programs.specs.Operations.{arithmetic_entry, constant_entry, control_entry};
+ghost use Rattle.cfi_programs.specs.Operations.{operation_entry, logic_entry, operation_name_text};
+ghost use Rattle.cfi_programs.specs.Operations.{other_entry, stack_entry};
 
-use cfi_read_core::reader::read_register;
-use gimli_cfi::{Reader, Register, Result};
+use gimli_cfi::{Register, Result};
 use std::fmt;
 use std::fmt::{Display, Formatter};
 
@@ -48,28 +41,7 @@ pub(crate) enum Form {
     OffsetFrom(Register),
 }
 
-/// The operand of an operation.
-#[derive(Clone, Copy)]
-pub(crate) enum Operand {
-    /// The operation isn't in the table.
-    Unknown,
-    /// There is none.
-    Nothing,
-    Address(u64),
-    Unsigned(u64),
-    Signed(i64),
-    Register(Register),
-    RegisterOffset(Register, i64),
-}
-
-/// An operation: its opcode, and its operand.
-#[derive(Clone, Copy)]
-pub(crate) struct Operation {
-    pub(crate) opcode: u8,
-    pub(crate) operand: Operand,
-}
-
-/// The name of an operation: a text, and a number behind it where there is one.
+/// The name of an operation: a text, and a number after it where there is one.
 #[derive(Clone, Copy)]
 pub(crate) struct OperationName {
     text: &'static str,
@@ -77,7 +49,7 @@ pub(crate) struct OperationName {
 }
 
 impl Display for OperationName {
-    ghost output = { λ name. Some (name_text name) };
+    ghost output = { λ name. Some (operation_name_text name) };
 
     fn fmt<W: fmt::Write>(&self, f: &mut Formatter<W>) -> fmt::Result {
         f.write_str(self.text)?;
@@ -92,12 +64,12 @@ impl Display for OperationName {
 #[derive(Clone, Copy)]
 pub(crate) struct Entry {
     pub(crate) name: OperationName,
-    form: Form,
+    pub(crate) form: Form,
 }
 
 /// Returns an entry with this name.
 fn one(text: &'static str, form: Form) -> Entry
-    ensures name { name_text result.name ≡ text.now }
+    ensures name { operation_name_text result.name ≡ text.now }
     ensures form { result.form ≡ form }
 {
     let number = None;
@@ -107,9 +79,9 @@ fn one(text: &'static str, form: Form) -> Entry
     }
 }
 
-/// Returns an entry whose name is the text and the number behind it.
+/// Returns an entry whose name is the text and the number after it.
 fn counted(text: &'static str, number: u8, form: Form) -> Entry
-    ensures name { name_text result.name ≡ text.now ++ decimal number }
+    ensures name { operation_name_text result.name ≡ text.now ++ decimal number }
     ensures form { result.form ≡ form }
 {
     let number = Some(number);
@@ -121,8 +93,8 @@ fn counted(text: &'static str, number: u8, form: Form) -> Entry
 
 /// Returns what the table has for the opcode.
 pub(crate) fn entry_of(opcode: u8) -> Entry
-    ensures name { name_text result.name ≡ (entry_of opcode).name }
-    ensures form { result.form ≡ (entry_of opcode).form }
+    ensures name { operation_name_text result.name ≡ (operation_entry opcode).name }
+    ensures form { result.form ≡ (operation_entry opcode).form }
 {
     if opcode < 0x30 {
         constant_entry(opcode)
@@ -145,7 +117,7 @@ pub(crate) fn entry_of(opcode: u8) -> Entry
 /// another one.
 #[tactic(auto, unfolding(crate::specs::Operations::constant_entry))]
 fn constant_entry(opcode: u8) -> Entry
-    ensures name { name_text result.name ≡ (constant_entry opcode).name }
+    ensures name { operation_name_text result.name ≡ (constant_entry opcode).name }
     ensures form { result.form ≡ (constant_entry opcode).form }
 {
     match opcode {
@@ -167,7 +139,7 @@ fn constant_entry(opcode: u8) -> Entry
 /// The same for an operation of the stack (section 2.5.1.3), or another opcode.
 #[tactic(auto, unfolding(crate::specs::Operations::stack_entry))]
 fn stack_entry(opcode: u8) -> Entry
-    ensures name { name_text result.name ≡ (stack_entry opcode).name }
+    ensures name { operation_name_text result.name ≡ (stack_entry opcode).name }
     ensures form { result.form ≡ (stack_entry opcode).form }
 {
     match opcode {
@@ -188,7 +160,7 @@ fn stack_entry(opcode: u8) -> Entry
 /// The same for arithmetic (section 2.5.1.4), or another opcode.
 #[tactic(auto, unfolding(crate::specs::Operations::arithmetic_entry))]
 fn arithmetic_entry(opcode: u8) -> Entry
-    ensures name { name_text result.name ≡ (arithmetic_entry opcode).name }
+    ensures name { operation_name_text result.name ≡ (arithmetic_entry opcode).name }
     ensures form { result.form ≡ (arithmetic_entry opcode).form }
 {
     match opcode {
@@ -207,7 +179,7 @@ fn arithmetic_entry(opcode: u8) -> Entry
 /// The same for a logical operation (section 2.5.1.4), or another opcode.
 #[tactic(auto, unfolding(crate::specs::Operations::logic_entry))]
 fn logic_entry(opcode: u8) -> Entry
-    ensures name { name_text result.name ≡ (logic_entry opcode).name }
+    ensures name { operation_name_text result.name ≡ (logic_entry opcode).name }
     ensures form { result.form ≡ (logic_entry opcode).form }
 {
     match opcode {
@@ -225,7 +197,7 @@ fn logic_entry(opcode: u8) -> Entry
 /// The same for control flow (section 2.5.1.5), or another opcode.
 #[tactic(auto, unfolding(crate::specs::Operations::control_entry))]
 fn control_entry(opcode: u8) -> Entry
-    ensures name { name_text result.name ≡ (control_entry opcode).name }
+    ensures name { operation_name_text result.name ≡ (control_entry opcode).name }
     ensures form { result.form ≡ (control_entry opcode).form }
 {
     match opcode {
@@ -245,7 +217,7 @@ fn control_entry(opcode: u8) -> Entry
 /// 2.5.1.3), the one that does nothing (section 2.5.1.6), those that name a place (section 2.6.1).
 #[tactic(auto, unfolding(crate::specs::Operations::other_entry))]
 fn other_entry(opcode: u8) -> Entry
-    ensures name { name_text result.name ≡ (other_entry opcode).name }
+    ensures name { operation_name_text result.name ≡ (other_entry opcode).name }
     ensures form { result.form ≡ (other_entry opcode).form }
 {
     match opcode {
@@ -260,120 +232,4 @@ fn other_entry(opcode: u8) -> Entry
         0x9f => one("DW_OP_stack_value", Form::Nothing),
         _ => one("", Form::Unknown),
     }
-}
-
-/// Reads an operation: its opcode, and the operand that the table has for it, by the size of an
-/// address in bytes. The operand of an operation that isn't in the table isn't read.
-///
-/// Returns `Error::UnexpectedEof` where an operand is cut, and the error of a number in LEB128 that
-/// has no room, of a register's or of an address. Does not allocate.
-#[tactic(auto, unfolding(crate::specs::Operations::operation))]
-pub(crate) fn read_operation<R: Reader>(input: &mut R, size: u8) -> Result<Operation>
-    ensures { ReadsValue R.position (operation size) input.old result input.new }
-{
-    let opcode = input.read_u8()?;
-    let operand = read_operand(entry_of(opcode).form, input, size)?;
-    Ok(Operation { opcode, operand })
-}
-
-/// Reads an operand of the form.
-fn read_operand<R: Reader>(form: Form, input: &mut R, size: u8) -> Result<Operand>
-    ensures { ReadsValue R.position (operand size form) input.old result input.new }
-{
-    match form {
-        Form::Unknown => Ok(Operand::Unknown),
-        Form::Nothing => Ok(Operand::Nothing),
-        Form::Address => read_address(input, size),
-        Form::Unsigned(width) => read_unsigned_operand(width, input),
-        Form::Signed(width) => read_signed_operand(width, input),
-        Form::Register => read_register_operand(input),
-        Form::RegisterOffset => read_any_offset(input),
-        Form::Named(register) => Ok(Operand::Register(register)),
-        Form::OffsetFrom(register) => read_offset_from(register, input),
-    }
-}
-
-/// Reads an address.
-#[tactic(auto, unfolding(crate::specs::Operations::address_operand))]
-fn read_address<R: Reader>(input: &mut R, size: u8) -> Result<Operand>
-    ensures { ReadsValue R.position (address_operand size) input.old result input.new }
-{
-    Ok(Operand::Address(input.read_address(size)?))
-}
-
-/// Reads a number without a sign.
-#[tactic(auto, unfolding(crate::specs::Operations::unsigned_operand))]
-fn read_unsigned_operand<R: Reader>(width: Width, input: &mut R) -> Result<Operand>
-    ensures { ReadsValue R.position (unsigned_operand width) input.old result input.new }
-{
-    Ok(Operand::Unsigned(read_unsigned(width, input)?))
-}
-
-/// Reads a number with a sign.
-#[tactic(auto, unfolding(crate::specs::Operations::signed_operand))]
-fn read_signed_operand<R: Reader>(width: Width, input: &mut R) -> Result<Operand>
-    ensures { ReadsValue R.position (signed_operand width) input.old result input.new }
-{
-    Ok(Operand::Signed(read_signed(width, input)?))
-}
-
-/// Reads a register.
-#[tactic(auto, unfolding(crate::specs::Operations::register_operand))]
-fn read_register_operand<R: Reader>(input: &mut R) -> Result<Operand>
-    ensures { ReadsValue R.position register_operand input.old result input.new }
-{
-    Ok(Operand::Register(read_register(input)?))
-}
-
-/// Reads a register and an offset from its value.
-#[tactic(auto, unfolding(crate::specs::Operations::any_offset))]
-fn read_any_offset<R: Reader>(input: &mut R) -> Result<Operand>
-    ensures { ReadsValue R.position any_offset input.old result input.new }
-{
-    let register = read_register(input)?;
-    read_offset_from(register, input)
-}
-
-/// Reads an offset from the value of the register.
-#[tactic(auto, unfolding(crate::specs::Operations::offset_from))]
-fn read_offset_from<R: Reader>(register: Register, input: &mut R) -> Result<Operand>
-    ensures { ReadsValue R.position (offset_from register) input.old result input.new }
-{
-    Ok(Operand::RegisterOffset(register, input.read_sleb128()?))
-}
-
-/// Reads a number of the width, without a sign.
-#[tactic(auto, unfolding(crate::specs::Operations::unsigned_by))]
-fn read_unsigned<R: Reader>(width: Width, input: &mut R) -> Result<u64>
-    ensures { ReadsValue R.position (unsigned_by width) input.old result input.new }
-{
-    match width {
-        Width::One => Ok(u64::from(input.read_u8()?)),
-        Width::Two => Ok(u64::from(input.read_u16()?)),
-        Width::Four => Ok(u64::from(input.read_u32()?)),
-        Width::Eight => input.read_u64(),
-        Width::Leb128 => input.read_uleb128(),
-    }
-}
-
-/// Reads a number of the width, with a sign.
-#[tactic(auto, unfolding(crate::specs::Operations::signed_by))]
-fn read_signed<R: Reader>(width: Width, input: &mut R) -> Result<i64>
-    ensures { ReadsValue R.position (signed_by width) input.old result input.new }
-{
-    match width {
-        Width::One => Ok(i64::from(read_i8(input)?)),
-        Width::Two => Ok(i64::from(input.read_i16()?)),
-        Width::Four => Ok(i64::from(input.read_i32()?)),
-        Width::Eight => input.read_i64(),
-        Width::Leb128 => input.read_sleb128(),
-    }
-}
-
-/// Reads a number of one byte, in two's complement.
-#[tactic(auto, unfolding(cfi_read_core::specs::Numbers::signed))]
-fn read_i8<R: Reader>(input: &mut R) -> Result<i8>
-    ensures { ReadsValue R.position (two_complement w8) input.old result input.new }
-{
-    Ok(input.read_u8()?.cast_signed())
 }

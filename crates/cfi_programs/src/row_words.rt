@@ -1,12 +1,12 @@
 //! The line of a row with its expressions in words.
-ghost use Rattle.std.specs.Prelude.{◌≡◌, ◌≤◌, ◌++◌, [], ◌∷◌, OnOk, codes};
+ghost use Rattle.std.specs.Prelude.{◌≡◌, ◌++◌, [], ◌∷◌, OnOk, codes};
 ghost use Rattle.std.specs.Fmt.{decimal, signed_decimal};
 ghost use Rattle.cfi_read_core.specs.ReaderCalls.{map_ok};
-ghost use Rattle.cfi_entry.specs.Sections.{section_of};
 ghost use Rattle.gimli_cfi.specs.SectionSources.{given_section, source_view};
 ghost use Rattle.cfi_object.specs.RegisterNames.{register_text};
 ghost use Rattle.cfi_programs.specs.WriterOutput.{Prints, Writes};
-ghost use Rattle.cfi_programs.specs.AnswerLines.{answer_behind, answer_line, row_behind, row_in};
+ghost use Rattle.cfi_programs.specs.AnswerLines.{answer_end, answer_line, row_end};
+ghost use Rattle.cfi_programs.specs.AnswerLines.{row_by_format};
 ghost use Rattle.cfi_programs.specs.ExpressionWords.{in_words};
 ghost use Rattle.cfi_programs.specs.Lines.{address_text};
 ghost use Rattle.cfi_programs.specs.RowLines.{cfa_saying, frame_saying, row_saying, rule_saying};
@@ -15,10 +15,12 @@ ghost use Rattle.cfi_programs.specs.Wordings.{of_section, text_style, worded};
 
 use crate::expression_words::{RegisterOffset, write_in_words};
 use crate::json_row::{write_json_members, write_json_row};
-use crate::lines::{Address, write_part, write_refusal_behind, write_refusal_told, write_text};
-use crate::row_line::{HasRules, write_out};
+use crate::lines::{write_part, write_text};
+use crate::numbers::Address;
+use crate::refusals::{write_refusal_end, write_refusal_told};
+use crate::register_rules::HasRules;
 use crate::style::{Format, Style};
-use crate::text::Text;
+use crate::text::{Text, write_out};
 use cfi_object::register_names::RegisterNames;
 use gimli_cfi::{
     _UnwindSectionPrivate, ArrayLike, CallFrameSection, CfaRule, Error, Reader, Register,
@@ -79,16 +81,16 @@ pub(crate) fn write_answer<
     }
 }
 
-/// Prints the end of the line of an answer from the section, behind what was asked for, and returns
+/// Prints the end of the line of an answer from the section, after what was asked for, and returns
 /// the status: 0 for a row, 1 for an error. In JSON it is the end of an object that has begun.
-pub fn write_answer_behind<W: Write, A: ArrayLike<Item = (Register, RegisterRule<usize>)>>(
+pub fn write_answer_end<W: Write, A: ArrayLike<Item = (Register, RegisterRule<usize>)>>(
     output: &mut W,
     style: Style,
     source: &SectionSource<'_>,
     answer: Result<&UnwindTableRow<usize, A>, Error>,
 ) -> io::Result<u8>
     ensures { let from = given_section (source_view source.now) in
-        Prints (answer_behind (of_section style from) (map_ok (λ row. row.now) answer.entry))
+        Prints (answer_end (of_section style from) (map_ok (λ row. row.now) answer.entry))
         (W.contents output.old) (W.contents output.new) result }
 {
     match answer {
@@ -96,7 +98,7 @@ pub fn write_answer_behind<W: Write, A: ArrayLike<Item = (Register, RegisterRule
             write_row_of(output, style, source, row)?;
             Ok(0)
         }
-        Err(error) => write_refusal_behind(output, style.format, error),
+        Err(error) => write_refusal_end(output, style.format, error),
     }
 }
 
@@ -109,16 +111,16 @@ fn write_row_of<W: Write, A: ArrayLike<Item = (Register, RegisterRule<usize>)>>(
 ) -> io::Result<()>
     ensures { let from = given_section (source_view source.now) in
         Writes (W.contents output.old) (W.contents output.new) result
-        (row_behind style.format (of_section style from) row.now ++ 10 ∷ []) }
+        (row_end style.format (of_section style from) row.now ++ 10 ∷ []) }
 {
     match source.section() {
-        CallFrameSection::DebugFrame(frame) => write_row_behind(output, style, &frame, row),
-        CallFrameSection::EhFrame(frame) => write_row_behind(output, style, &frame, row),
+        CallFrameSection::DebugFrame(frame) => write_row_end(output, style, &frame, row),
+        CallFrameSection::EhFrame(frame) => write_row_end(output, style, &frame, row),
     }
 }
 
 /// Writes the end of the line of a row from the section, its registers in ascending order.
-fn write_row_behind<
+fn write_row_end<
     R: Reader<Offset = usize>,
     S: UnwindSection<R>,
     W: Write,
@@ -127,7 +129,7 @@ fn write_row_behind<
     ensures { let from = S.view section.now in
         let wording = worded style from.address_size from.position in
         Writes (W.contents output.old) (W.contents output.new) result
-        (row_behind style.format wording row.now ++ 10 ∷ []) }
+        (row_end style.format wording row.now ++ 10 ∷ []) }
 {
     match style.format {
         Format::Text => write_row(output, style.names, section, row),
@@ -145,7 +147,7 @@ fn write_row_in<
     ensures { let from = S.view section.now in
         let wording = worded style from.address_size from.position in
         Writes (W.contents output.old) (W.contents output.new) result
-        (row_in style.format wording row.now ++ 10 ∷ []) }
+        (row_by_format style.format wording row.now ++ 10 ∷ []) }
 {
     match style.format {
         Format::Text => write_row(output, style.names, section, row),

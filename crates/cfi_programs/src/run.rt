@@ -1,15 +1,17 @@
 //! The whole of a program that prints what its words ask for, over any reader and writer.
 ghost use Rattle.std.specs.Prelude.{◌≡◌, ℕ, List, Option, IfSome, IsNone};
 ghost use Rattle.std.specs.Process.{exit_status};
-ghost use Rattle.cfi_programs.specs.Input.{Bytes, ReadsSections, bytes_of};
+ghost use Rattle.cfi_programs.specs.Input.{Bytes, ReadsSections, bytes_of_sections};
 ghost use Rattle.cfi_programs.specs.Lines.{Line};
-ghost use Rattle.cfi_programs.specs.Runs.{IsAskedFor, IsPlain, PrintsAnswer, PrintsOwed};
-ghost use Rattle.cfi_programs.specs.Runs.{PrintsRun, asked_for, tool_of};
+ghost use Rattle.cfi_programs.specs.Runs.{IsAskedFor, IsNoWrongLine, PrintsAnswer, PrintsOwed};
+ghost use Rattle.cfi_programs.specs.Runs.{PrintsRun, requested, tool_of};
 ghost use Rattle.cfi_programs.specs.Words.{texts, texts_given};
 
+use crate::arguments::{texts_of, words_after_name};
 use crate::input::Sections;
-use crate::lines::{write_refusal, write_wrong_hexadecimal, write_wrong_input, write_wrong_words};
-use crate::words::{texts_of, words_after_name};
+use crate::refusals::{
+    write_refusal, write_wrong_hexadecimal, write_wrong_input, write_wrong_words,
+};
 use cfi_object::InputError;
 use gimli_cfi::Error;
 use std::alloc::Global;
@@ -40,12 +42,13 @@ pub trait ProgramRequest: Copy {
     /// Prints what a request that words ask for is owed, and returns its status.
     fn print<W: Write>(&self, alloc: Global, sections: &Sections, output: &mut W) -> io::Result<u8>
         requires { IsAskedFor request_of self.now }
-        ensures { PrintsAnswer (tool_of request_of meaning is_line) self.now (bytes_of sections.now)
+        ensures { PrintsAnswer (tool_of request_of meaning is_line) self.now
+            (bytes_of_sections sections.now)
             (W.contents output.old) (W.contents output.new) result };
 
     /// No answer is taken for a line that says that words or input are wrong.
     ghost plain: { (request : Self) (bytes : Bytes) (printed : Line) →
-        is_line request bytes printed → IsPlain printed };
+        is_line request bytes printed → IsNoWrongLine printed };
 }
 
 /// Runs the program as a process: its words are those of the process. Returns the status with which
@@ -97,7 +100,7 @@ pub fn run_program<Q: ProgramRequest, R: Read, W: Write>(
 ) -> u8
     ensures printed { PrintsRun (tool_of Q.request_of Q.meaning Q.is_line) (texts_given words.entry)
         (R.remaining input.old) (W.contents output.old) (W.contents output.new) result }
-    ensures unread { IsNone (asked_for (tool_of Q.request_of Q.meaning Q.is_line)
+    ensures unread { IsNone (requested (tool_of Q.request_of Q.meaning Q.is_line)
         (texts_given words.entry)) → input.new ≡ input.old }
 {
     let printed = print_line(alloc, requested::<Q>(words), input, output);
@@ -110,7 +113,7 @@ pub fn run_program<Q: ProgramRequest, R: Read, W: Write>(
 
 /// Returns what the words ask for; `None` for words that can't be read, and for wrong ones.
 fn requested<Q: ProgramRequest>(words: Option<&[&str]>) -> Option<Q>
-    ensures { result ≡ asked_for (tool_of Q.request_of Q.meaning Q.is_line)
+    ensures { result ≡ requested (tool_of Q.request_of Q.meaning Q.is_line)
         (texts_given words.entry) }
 {
     Q::parse(words?)

@@ -1,20 +1,15 @@
 //! The words of the command line that say what a section is and which addresses it has.
-ghost use Rattle.std.specs.Prelude.{◌≡◌, IfOk, map, option_map, string_bytes};
+ghost use Rattle.std.specs.Prelude.{◌≡◌, option_map};
 ghost use Rattle.cfi_object.specs.Numbers.{number};
-ghost use Rattle.cfi_programs.specs.Words.{texts};
-ghost use Rattle.cfi_programs.specs.Words.{first_words, kind_of, order_of, size_of};
-ghost use Rattle.cfi_programs.specs.Words.{once_given, section_word};
-ghost use Rattle.cfi_programs.specs.Words.{set_data_base, set_header, set_section};
-ghost use Rattle.cfi_programs.specs.Words.{set_text, set_vendor};
-ghost use Rattle.cfi_programs.specs.SectionOfWords.{given_by, header_of};
+ghost use Rattle.cfi_programs.specs.Words.{first_words, kind_named, order_named, size_named};
+ghost use Rattle.cfi_programs.specs.Words.{once_given, section_word, set_data_base, set_header};
+ghost use Rattle.cfi_programs.specs.Words.{set_section, set_text, set_vendor};
+ghost use Rattle.cfi_programs.specs.SectionOfWords.{given_by, header_of_words};
 ghost use Rattle.gimli_cfi.specs.SectionSources.{source_view};
 
 use cfi_object::numbers::after_prefix;
 use cfi_object::{bases_at, number_in};
 use gimli_cfi::{AddressSize, RunTimeEndian, SectionKind, SectionSource, Vendor};
-use std::alloc::{AllocError, Global};
-use std::rt::Env;
-use std::{env, io};
 
 /// What the words say of the section.
 #[derive(Clone, Copy)]
@@ -60,27 +55,13 @@ impl SectionWords {
 
     /// Returns the header of these bytes, where the words have its address.
     fn header_of<'input>(&self, header: &'input [u8]) -> Option<&'input [u8]>
-        ensures { option_map (λ bytes. bytes.now) result ≡ header_of self.now header.now }
+        ensures { option_map (λ bytes. bytes.now) result ≡ header_of_words self.now header.now }
     {
         match self.header {
             Some(_) => Some(header),
             None => None,
         }
     }
-}
-
-/// Returns the words after the program's name. An error where they can't be read, or memory is
-/// refused.
-pub fn words_after_name(rt: &(impl Env + AllocGlobal)) -> io::Result<Vec<String>> {
-    let words = env::args(rt)?.skip(1).collect(rt.alloc())?;
-    Ok(words)
-}
-
-/// Returns the words as texts, in their order.
-pub fn texts_of(alloc: Global, words: &[String]) -> Result<Vec<&str>, AllocError>
-    ensures { IfOk result (λ list. texts list.items ≡ map string_bytes words.now) }
-{
-    words.iter().map(|word| word.as_str()).collect(alloc)
 }
 
 /// Returns what the first three words say: `debug_frame` or `eh_frame`, `le` or `be`, and 1, 2, 4
@@ -102,7 +83,7 @@ pub fn first(kind: &str, order: &str, size: &str) -> Option<SectionWords>
 
 /// Returns the kind of section that a word names; `None` for other words.
 fn kind_named(word: &str) -> Option<SectionKind>
-    ensures { result ≡ kind_of word.now }
+    ensures { result ≡ kind_named word.now }
 {
     if word == "debug_frame" {
         Some(SectionKind::DebugFrame)
@@ -115,7 +96,7 @@ fn kind_named(word: &str) -> Option<SectionKind>
 
 /// Returns the byte order that a word names; `None` for other words.
 fn order_named(word: &str) -> Option<RunTimeEndian>
-    ensures { result ≡ order_of word.now }
+    ensures { result ≡ order_named word.now }
 {
     if word == "le" {
         Some(RunTimeEndian::Little)
@@ -128,7 +109,7 @@ fn order_named(word: &str) -> Option<RunTimeEndian>
 
 /// Returns the address size that a word names; `None` for other words.
 fn size_named(word: &str) -> Option<AddressSize>
-    ensures { result ≡ size_of word.now }
+    ensures { result ≡ size_named word.now }
 {
     if word == "1" {
         Some(AddressSize::new(1))

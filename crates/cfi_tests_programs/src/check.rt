@@ -1,7 +1,7 @@
 //! Verdicts over memory: faithful tables, each fault of others, other bases and byte orders, a
 //! failing output.
-use cfi_programs::check::output_line::write_verdict;
 use cfi_programs::style::Format;
+use cfi_programs::verdict_line::write_verdict;
 use cfi_programs::words::SectionWords;
 use cfi_tests_bytes::bytes_of;
 use gimli_cfi::{AddressSize, RunTimeEndian, SectionKind, Vendor, Verdict};

@@ -1,7 +1,7 @@
 //! What errors of call frames say in lines: the sentences of their `Display`, and what to do.
-use cfi_programs::check::output_line::write_verdict;
-use cfi_programs::lines::{write_refusal_behind, write_refusal_told};
+use cfi_programs::refusals::{write_refusal_end, write_refusal_told};
 use cfi_programs::style::Format;
+use cfi_programs::verdict_line::write_verdict;
 use gimli_cfi::{DwCfa, DwEhPe, Error, ReaderOffsetId, Unfaithful, Verdict};
 use std::process::Abort;
 use std::test::Fail;
@@ -97,7 +97,7 @@ const ADVICE: [(Error, &str); 6] = [
 fn advice_on_errors(rt: HostRuntime) -> Result<(), Fail> {
     for (error, end) in &ADVICE {
         let mut line = Vec::new(rt.alloc());
-        write_refusal_behind(&mut line, Format::Json, *error)?;
+        write_refusal_end(&mut line, Format::Json, *error)?;
         assert!(rt; line.as_slice().ends_with(end.as_bytes()));
     }
     Ok(())

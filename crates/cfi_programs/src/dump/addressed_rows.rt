@@ -1,34 +1,37 @@
 //! The rows of each FDE, or of those that contain one of some addresses, after a line with its
 //! addresses and the name of the function that begins there.
-ghost use Rattle.std.specs.Prelude.{◌≡◌, ◌++◌, option_map, [], ⊤, IfOk, OnOk, if◌then◌else◌};
+ghost use Rattle.std.specs.Prelude.{if◌then◌else◌};
+ghost use Rattle.std.specs.Prelude.{◌≡◌, ◌++◌, option_map, [], ⊤, IfOk, OnOk};
 ghost use Rattle.cfi_read_core.specs.ReaderCalls.{map_ok};
 ghost use Rattle.cfi_entry.specs.Sections.{section_of};
 ghost use Rattle.cfi_unwind.specs.CachedCie.{IsCacheOf};
 ghost use Rattle.cfi_unwind.specs.FdeViews.{HasCieOf, IsFdeOf, fde_view};
-ghost use Rattle.cfi_unwind.specs.WalkViews.{IsPartialOf, OfEither, cie_or_fde_view};
-ghost use Rattle.cfi_unwind.specs.WalkViews.{partial_view};
+ghost use Rattle.cfi_unwind.specs.WalkViews.{IsPartialOf, OfEither, cie_or_fde_view, partial_view};
 ghost use Rattle.cfi_unwind.specs.Scan.{read_fde};
 ghost use Rattle.cfi_elf.specs.FunctionNames.{name_in};
 ghost use Rattle.cfi_programs.specs.WriterOutput.{Writes};
 ghost use Rattle.cfi_programs.specs.DumpSectionTexts.{fde_rows, lines};
 ghost use Rattle.cfi_programs.specs.JsonLines.{json_addresses};
-ghost use Rattle.cfi_programs.specs.DumpRowTexts.{addresses_in, addresses_line, addresses_text};
-ghost use Rattle.cfi_programs.specs.DumpRowTexts.{contains_any, function_in, given_addresses};
-ghost use Rattle.cfi_programs.specs.DumpRowTexts.{entry_rows_text, fde_rows_text, is_asked_for};
+ghost use Rattle.cfi_programs.specs.DumpRowTexts.{fde_addresses_in, addresses_line};
+ghost use Rattle.cfi_programs.specs.DumpRowTexts.{fde_addresses_text, contains_any, function_end};
+ghost use Rattle.cfi_programs.specs.DumpRowTexts.{given_addresses, entry_rows_text, fde_rows_text};
+ghost use Rattle.cfi_programs.specs.DumpRowTexts.{is_asked_for};
 ghost use Rattle.cfi_programs.specs.ReadingTexts.{item_text};
 ghost use Rattle.cfi_programs.specs.Wordings.{of_section};
 
 use crate::dump::function_line::{end_line, push_end};
 use crate::dump::printed::AskedRows;
 use crate::dump::section::{whole, write_refused, write_rows};
-use crate::kept_rules::LineRoom;
+use crate::dump::walk::Walk;
 use crate::lines::write_text;
+use crate::numbers::push_address;
 use crate::style::{Format, Style};
-use crate::text::{Text, push, push_address};
+use crate::text::{Text, push};
 use cfi_elf::FunctionNames;
+use cfi_entry::in_section::InSection;
 use gimli_cfi::{
-    _UnwindSectionPrivate, BaseAddresses, CieCache, CieOrFde, FrameDescriptionEntry,
-    PartialFrameDescriptionEntry, Reader, Result, UnwindContext, UnwindSection,
+    _UnwindSectionPrivate, CieCache, CieOrFde, FrameDescriptionEntry, PartialFrameDescriptionEntry,
+    Reader, Result, UnwindSection,
 };
 use std::io::Write;
 use std::{fmt, io};
@@ -37,31 +40,29 @@ use std::{fmt, io};
 /// where some are given; or the error in place of an entry. A CIE has no text.
 pub(crate) fn write_entry_rows<R: Reader<Offset = usize>, S: UnwindSection<R>, W: Write>(
     output: &mut W,
-    room: &mut LineRoom,
+    walk: &mut Walk,
     cies: &mut CieCache<R>,
     style: Style,
     asked: AskedRows<'_>,
-    section: &S,
-    bases: &BaseAddresses,
-    context: &mut UnwindContext<usize>,
+    at: &InSection<'_, S>,
     entry: Result<CieOrFde<'_, S, R>>,
 ) -> io::Result<()>
-    requires entry { IfOk entry (OfEither (λ _. ⊤) (IsPartialOf section.now bases.now)) }
-    requires cies { IsCacheOf R.position (λ n. n) (S.view section.now) bases.now cies.old }
+    requires entry { IfOk entry (OfEither (λ _. ⊤) (IsPartialOf at.now.section at.now.bases.now)) }
+    requires cies { IsCacheOf R.position (λ n. n) (S.view at.now.section) at.now.bases.now
+        cies.old }
     ensures written { let found = map_ok (cie_or_fde_view R.position (λ n. n)) entry.entry in
         let function = name_in asked.entry.functions.now in
         Writes (W.contents output.old) (W.contents output.new) result
         (item_text style.format (λ e. entry_rows_text style function
         (given_addresses asked.entry.addresses)
-        (section_of (S.view section.now) bases.now) e) found) }
-    ensures cies { IsCacheOf R.position (λ n. n) (S.view section.now) bases.now cies.new }
+        (section_of (S.view at.now.section) at.now.bases.now) e) found) }
+    ensures cies { IsCacheOf R.position (λ n. n) (S.view at.now.section) at.now.bases.now
+        cies.new }
 {
     match entry {
         Ok(CieOrFde::Cie(_)) => Ok(()),
         Ok(CieOrFde::Fde(partial)) => {
-            write_partial_rows(
-                output, room, cies, style, asked, section, bases, context, &partial,
-            )
+            write_partial_rows(output, walk, cies, style, asked, at, &partial)
         }
         Err(error) => write_refused(output, style.format, error),
     }
@@ -70,26 +71,26 @@ pub(crate) fn write_entry_rows<R: Reader<Offset = usize>, S: UnwindSection<R>, W
 /// Writes the addresses and the rows of the FDE, if it is asked for; or why it can't be read whole.
 fn write_partial_rows<R: Reader<Offset = usize>, S: UnwindSection<R>, W: Write>(
     output: &mut W,
-    room: &mut LineRoom,
+    walk: &mut Walk,
     cies: &mut CieCache<R>,
     style: Style,
     asked: AskedRows<'_>,
-    section: &S,
-    bases: &BaseAddresses,
-    context: &mut UnwindContext<usize>,
+    at: &InSection<'_, S>,
     partial: &PartialFrameDescriptionEntry<'_, S, R>,
 ) -> io::Result<()>
-    requires of { IsPartialOf section.now bases.now partial.now }
-    requires cies { IsCacheOf R.position (λ n. n) (S.view section.now) bases.now cies.old }
-    ensures written { let from = section_of (S.view section.now) bases.now in
+    requires of { IsPartialOf at.now.section at.now.bases.now partial.now }
+    requires cies { IsCacheOf R.position (λ n. n) (S.view at.now.section) at.now.bases.now
+        cies.old }
+    ensures written { let from = section_of (S.view at.now.section) at.now.bases.now in
         let found = partial_view R.position (λ n. n) partial.now in
         Writes (W.contents output.old) (W.contents output.new) result
         (fde_rows_text style (name_in asked.entry.functions.now)
         (given_addresses asked.entry.addresses) from (read_fde from found)) }
-    ensures cies { IsCacheOf R.position (λ n. n) (S.view section.now) bases.now cies.new }
+    ensures cies { IsCacheOf R.position (λ n. n) (S.view at.now.section) at.now.bases.now
+        cies.new }
 {
-    match whole(cies, section, bases, partial) {
-        Ok(fde) => write_if_asked_for(output, room, style, asked, section, bases, context, &fde),
+    match whole(cies, &at.section, at.bases, partial) {
+        Ok(fde) => write_if_asked_for(output, walk, style, asked, at, &fde),
         Err(error) => write_refused(output, style.format, error),
     }
 }
@@ -97,34 +98,23 @@ fn write_partial_rows<R: Reader<Offset = usize>, S: UnwindSection<R>, W: Write>(
 /// Writes the addresses and the rows of the FDE, if it is asked for.
 fn write_if_asked_for<R: Reader<Offset = usize>, S: UnwindSection<R>, W: Write>(
     output: &mut W,
-    room: &mut LineRoom,
+    walk: &mut Walk,
     style: Style,
     asked: AskedRows<'_>,
-    section: &S,
-    bases: &BaseAddresses,
-    context: &mut UnwindContext<usize>,
+    at: &InSection<'_, S>,
     fde: &FrameDescriptionEntry<R>,
 ) -> io::Result<()>
-    requires own { IsFdeOf R.position (S.view section.now).position fde.now }
-    requires cie { HasCieOf R.position (S.view section.now).position fde.now }
+    requires own { IsFdeOf R.position (S.view at.now.section).position fde.now }
+    requires cie { HasCieOf R.position (S.view at.now.section).position fde.now }
     ensures { let read = fde_view R.position (λ n. n) fde.now in
-        let from = section_of (S.view section.now) bases.now in
+        let from = section_of (S.view at.now.section) at.now.bases.now in
         let rows = lines (of_section style from) (fde_rows from read) in
         Writes (W.contents output.old) (W.contents output.new) result
         (if is_asked_for (given_addresses asked.entry.addresses) read
         then addresses_line style.format (name_in asked.entry.functions.now) read ++ rows else []) }
 {
     if is_asked_for(asked.addresses, fde) {
-        write_addressed_rows(
-            output,
-            room,
-            style,
-            asked.functions,
-            section,
-            bases,
-            context,
-            fde,
-        )
+        write_addressed_rows(output, walk, style, asked.functions, at, fde)
     } else {
         Ok(())
     }
@@ -162,24 +152,22 @@ fn contains_any<R: Reader<Offset = usize>>(
 /// Writes the line of the FDE's addresses, and the lines of its rows.
 fn write_addressed_rows<R: Reader<Offset = usize>, S: UnwindSection<R>, W: Write>(
     output: &mut W,
-    room: &mut LineRoom,
+    walk: &mut Walk,
     style: Style,
     functions: &FunctionNames<'_>,
-    section: &S,
-    bases: &BaseAddresses,
-    context: &mut UnwindContext<usize>,
+    at: &InSection<'_, S>,
     fde: &FrameDescriptionEntry<R>,
 ) -> io::Result<()>
-    requires own { IsFdeOf R.position (S.view section.now).position fde.now }
-    requires cie { HasCieOf R.position (S.view section.now).position fde.now }
+    requires own { IsFdeOf R.position (S.view at.now.section).position fde.now }
+    requires cie { HasCieOf R.position (S.view at.now.section).position fde.now }
     ensures { let read = fde_view R.position (λ n. n) fde.now in
-        let from = section_of (S.view section.now) bases.now in
+        let from = section_of (S.view at.now.section) at.now.bases.now in
         let rows = lines (of_section style from) (fde_rows from read) in
         Writes (W.contents output.old) (W.contents output.new) result
         (addresses_line style.format (name_in functions.now) read ++ rows) }
 {
-    write_addresses(output, &mut room.text, style.format, functions, fde)?;
-    write_rows(output, room, style, section, bases, context, fde)
+    write_addresses(output, &mut walk.room.text, style.format, functions, fde)?;
+    write_rows(output, walk, style, at, fde)
 }
 
 /// Writes the line of the FDE's addresses, from the first up to the end, and of the name of the
@@ -209,8 +197,8 @@ fn write_line<W: Write>(
     name: Option<&[u8]>,
 ) -> io::Result<()>
     ensures { Writes (W.contents output.old) (W.contents output.new) result
-        (addresses_in format start end
-        ++ function_in format (option_map (λ name. name.now) name.entry)) }
+        (fde_addresses_in format start end
+        ++ function_end format (option_map (λ name. name.now) name.entry)) }
 {
     text.clear();
     push_addresses(text, format, start, end)?;
@@ -224,7 +212,7 @@ fn write_line<W: Write>(
 
 /// Appends the addresses.
 fn push_addresses(text: &mut Text, format: Format, start: u64, end: u64) -> fmt::Result
-    ensures { OnOk result (text.new.items ≡ text.old.items ++ addresses_in format start end) }
+    ensures { OnOk result (text.new.items ≡ text.old.items ++ fde_addresses_in format start end) }
 {
     match format {
         Format::Text => push_range(text, start, end),
@@ -234,7 +222,7 @@ fn push_addresses(text: &mut Text, format: Format, start: u64, end: u64) -> fmt:
 
 /// Appends the addresses to a line of text.
 fn push_range(text: &mut Text, start: u64, end: u64) -> fmt::Result
-    ensures { OnOk result (text.new.items ≡ text.old.items ++ addresses_text start end) }
+    ensures { OnOk result (text.new.items ≡ text.old.items ++ fde_addresses_text start end) }
 {
     push(text, b"fde ")?;
     push_address(text, start)?;

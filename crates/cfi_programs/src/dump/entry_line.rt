@@ -1,20 +1,20 @@
 //! The lines of entries.
-ghost use Rattle.std.specs.Prelude.{◌≡◌, ◌++◌, [], ◌∷◌, Some, IfSome};
+ghost use Rattle.std.specs.Prelude.{Some};
 ghost use Rattle.std.specs.Option.{option_map};
 ghost use Rattle.cfi_elf.specs.FunctionNames.{name_in};
 ghost use Rattle.cfi_entry.specs.EntryViews.{cie_view};
 ghost use Rattle.cfi_unwind.specs.FdeViews.{fde_view};
 ghost use Rattle.cfi_programs.specs.WriterOutput.{Writes};
-ghost use Rattle.cfi_programs.specs.DumpEntryLines.{addresses_text, b_key_text, lsda_encoding_text};
-ghost use Rattle.cfi_programs.specs.DumpEntryLines.{lsda_text};
+ghost use Rattle.cfi_programs.specs.DumpEntryLines.{address_encoding_text, b_key_text};
+ghost use Rattle.cfi_programs.specs.DumpEntryLines.{lsda_encoding_text, lsda_text};
 ghost use Rattle.cfi_programs.specs.DumpEntryLines.{cie_augmentation, cie_factors, cie_head};
-ghost use Rattle.cfi_programs.specs.DumpEntryLines.{cie_line};
-ghost use Rattle.cfi_programs.specs.DumpEntryLines.{fde_addresses, fde_head, fde_line};
-ghost use Rattle.cfi_programs.specs.DumpEntryLines.{partial_fde_line};
-ghost use Rattle.cfi_programs.specs.DumpEntryLines.{personality_text, signal_text, target_text};
+ghost use Rattle.cfi_programs.specs.DumpEntryLines.{cie_line, fde_addresses, fde_head, fde_line};
+ghost use Rattle.cfi_programs.specs.DumpEntryLines.{partial_fde_line, personality_text};
+ghost use Rattle.cfi_programs.specs.DumpEntryLines.{signal_flag_text, pointer_text};
 
 use crate::dump::function_line::end_line;
-use crate::lines::{Address, write_part};
+use crate::lines::{write_part, write_text};
+use crate::numbers::Address;
 use crate::style::Format;
 use cfi_elf::FunctionNames;
 use cfi_object::register_names::RegisterNames;
@@ -28,7 +28,7 @@ use std::{fmt, io};
 struct Target(Pointer);
 
 impl Display for Target {
-    ghost output = { λ target. Some (target_text target.0) };
+    ghost output = { λ target. Some (pointer_text target.0) };
 
     fn fmt<W: fmt::Write>(&self, f: &mut Formatter<W>) -> fmt::Result {
         match self.0 {
@@ -43,7 +43,7 @@ impl Display for Target {
 struct Addresses(Option<DwEhPe>);
 
 impl Display for Addresses {
-    ghost output = { λ it. Some (addresses_text (option_map (λ e. e.0) it.0)) };
+    ghost output = { λ it. Some (address_encoding_text (option_map (λ e. e.0) it.0)) };
 
     fn fmt<W: fmt::Write>(&self, f: &mut Formatter<W>) -> fmt::Result {
         match self.0 {
@@ -91,7 +91,7 @@ impl Display for Personality {
 struct Signal(bool);
 
 impl Display for Signal {
-    ghost output = { λ it. Some (signal_text it.0) };
+    ghost output = { λ it. Some (signal_flag_text it.0) };
 
     fn fmt<W: fmt::Write>(&self, f: &mut Formatter<W>) -> fmt::Result {
         match self.0 {
@@ -214,7 +214,7 @@ pub fn write_fde<R: Reader<Offset = usize>, W: Write>(
         Writes (W.contents output.old) (W.contents output.new) result
         (fde_line (name_in functions.now read.initial) read) }
 {
-    write_fde_head(output, fde)?;
+    write_fde_head(output, fde.offset(), fde.entry_len())?;
     write_fde_addresses(output, fde)?;
     let lsda = Lsda(fde.lsda());
     write_part(output, format_args!("{lsda}"))?;
@@ -226,15 +226,11 @@ pub fn write_fde<R: Reader<Offset = usize>, W: Write>(
 }
 
 /// Writes the offset and the length of an FDE.
-fn write_fde_head<R: Reader<Offset = usize>, W: Write>(
-    output: &mut W,
-    fde: &FrameDescriptionEntry<R>,
-) -> io::Result<()>
-    ensures { let f = fde_view R.position (λ n. n) fde.now in
-        Writes (W.contents output.old) (W.contents output.new) result (fde_head f.offset f.length) }
+fn write_fde_head<W: Write>(output: &mut W, offset: usize, length: usize) -> io::Result<()>
+    ensures { Writes (W.contents output.old) (W.contents output.new) result
+        (fde_head offset length) }
 {
-    let offset = Address(fde.offset() as u64);
-    let length = fde.entry_len();
+    let offset = Address(offset as u64);
     write_part(output, format_args!("fde {offset} length={length}"))
 }
 
@@ -257,6 +253,6 @@ pub fn write_partial_fde<W: Write>(output: &mut W, offset: usize, length: usize)
     ensures { Writes (W.contents output.old) (W.contents output.new) result
         (partial_fde_line offset length) }
 {
-    let offset = Address(offset as u64);
-    write_part(output, format_args!("fde {offset} length={length}\n"))
+    write_fde_head(output, offset, length)?;
+    write_text(output, b"\n")
 }

@@ -5,7 +5,7 @@ ghost use Rattle.cfi_names.specs.Names.{shown};
 ghost use Rattle.cfi_programs.specs.WriterOutput.{Writes};
 ghost use Rattle.cfi_programs.specs.FunctionLines.{function_text};
 ghost use Rattle.cfi_programs.specs.JsonLines.{json_function};
-ghost use Rattle.cfi_programs.specs.DumpRowTexts.{function_in};
+ghost use Rattle.cfi_programs.specs.DumpRowTexts.{function_end};
 
 use crate::lines::write_text;
 use crate::names::{write_json_name, write_name};
@@ -27,7 +27,7 @@ pub(crate) fn push_end(
     name: Option<&[u8]>,
 ) -> Result<bool, fmt::Error>
     ensures pushed { IfOk result (λ pushed. pushed ≡ true → text.new.items ≡ text.old.items
-        ++ function_in format (option_map (λ name. name.now) name.entry)) }
+        ++ function_end format (option_map (λ name. name.now) name.entry)) }
     ensures left { IfOk result (λ pushed. pushed ≡ false → text.new.items ≡ text.old.items) }
 {
     match (format, name) {
@@ -68,7 +68,7 @@ pub(crate) fn end_line<W: Write>(
     name: Option<&[u8]>,
 ) -> io::Result<()>
     ensures { Writes (W.contents output.old) (W.contents output.new) result
-        (function_in format (option_map (λ name. name.now) name.entry)) }
+        (function_end format (option_map (λ name. name.now) name.entry)) }
 {
     match format {
         Format::Text => end_text(output, name),

@@ -7,7 +7,8 @@ ghost use Rattle.cfi_programs.specs.DumpProgramOutput.{IsPrinted};
 
 use crate::dump::printed::Printed;
 use crate::dump::section::write_section;
-use crate::lines::write_refusal_in;
+use crate::refusals::write_refusal_in;
+use cfi_entry::in_section::InSection;
 use cfi_object::register_names::RegisterNames;
 use gimli_cfi::{
     BaseAddresses, CallFrameSection, Reader, SectionSource, UnwindContext, UnwindSection,
@@ -33,7 +34,7 @@ pub fn print_source<W: Write>(
         × IsPrinted names printed.entry (given_section (source_view source.now)) line }
 {
     match UnwindContext::<usize>::new(alloc) {
-        Ok(mut context) => print_either(output, names, printed, source, &mut context),
+        Ok(context) => print_either(output, names, printed, source, context),
         Err(error) => write_refusal_in(output, printed.format(), error),
     }
 }
@@ -44,7 +45,7 @@ fn print_either<W: Write>(
     names: RegisterNames,
     printed: Printed<'_>,
     source: &SectionSource<'_>,
-    context: &mut UnwindContext<usize>,
+    context: UnwindContext<usize>,
 ) -> io::Result<u8>
     ensures { (line : Line) × Prints line (W.contents output.old) (W.contents output.new) result
         × IsPrinted names printed.entry (given_section (source_view source.now)) line }
@@ -66,11 +67,15 @@ fn print_section<R: Reader<Offset = usize>, S: UnwindSection<R>, W: Write>(
     printed: Printed<'_>,
     section: &S,
     bases: &BaseAddresses,
-    context: &mut UnwindContext<usize>,
+    context: UnwindContext<usize>,
 ) -> io::Result<u8>
     ensures { (line : Line) × Prints line (W.contents output.old) (W.contents output.new) result
         × IsPrinted names printed.entry (section_of (S.view section.now) bases.now) line }
 {
-    write_section(output, names, printed, section, bases, context)?;
+    let at = InSection {
+        section: *section,
+        bases,
+    };
+    write_section(output, names, printed, &at, context)?;
     Ok(0)
 }

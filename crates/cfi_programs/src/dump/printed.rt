@@ -1,7 +1,7 @@
 //! What may be printed of a section.
 
 ghost use Rattle.std.specs.Prelude.{◌≡◌};
-ghost use Rattle.cfi_programs.specs.DumpProgramOutput.{format_of};
+ghost use Rattle.cfi_programs.specs.DumpProgramOutput.{printed_format};
 
 use crate::style::Format;
 use cfi_elf::FunctionNames;
@@ -31,7 +31,7 @@ pub enum Printed<'names> {
 impl Printed<'_> {
     /// Returns the form of the lines.
     pub fn format(self) -> Format
-        ensures { result ≡ format_of self.entry }
+        ensures { result ≡ printed_format self.entry }
     {
         match self {
             Printed::Rows(asked) => asked.format,

@@ -11,32 +11,32 @@ ghost use Rattle.cfi_entry.specs.Sections.{section_of};
 ghost use Rattle.cfi_elf.specs.FunctionNames.{name_in};
 ghost use Rattle.cfi_unwind.specs.CachedCie.{IsCacheOf};
 ghost use Rattle.cfi_unwind.specs.FdeViews.{HasCieOf, IsFdeOf, fde_view};
-ghost use Rattle.cfi_unwind.specs.WalkViews.{IsEntryOf, IsPartialOf, cie_or_fde_view};
-ghost use Rattle.cfi_unwind.specs.WalkViews.{partial_view};
+ghost use Rattle.cfi_unwind.specs.WalkViews.{IsEntryOf, IsPartialOf, cie_or_fde_view, partial_view};
 ghost use Rattle.cfi_unwind.specs.Scan.{read_fde};
 ghost use Rattle.cfi_unwind.specs.UnwindTableViews.{table_state};
 ghost use Rattle.cfi_programs.specs.Wordings.{of_section, text_style, worded};
-ghost use Rattle.cfi_programs.specs.Lines.{refusal_told};
+ghost use Rattle.cfi_programs.specs.Refusals.{refusal_told};
 ghost use Rattle.cfi_programs.specs.WriterOutput.{Writes};
 ghost use Rattle.cfi_programs.specs.DumpEntryLines.{fde_line, partial_fde_line};
-ghost use Rattle.cfi_programs.specs.DumpSectionTexts.{cie_text, entry_text};
-ghost use Rattle.cfi_programs.specs.DumpSectionTexts.{fde_instructions_text, fde_rows, fde_text};
-ghost use Rattle.cfi_programs.specs.DumpSectionTexts.{lines};
+ghost use Rattle.cfi_programs.specs.DumpSectionTexts.{cie_text, entry_text, fde_instructions_text};
+ghost use Rattle.cfi_programs.specs.DumpSectionTexts.{fde_rows, fde_text, lines};
 ghost use Rattle.cfi_programs.specs.ReadingTexts.{item_text};
-ghost use Rattle.cfi_programs.specs.DumpProgramOutput.{format_of, printed_entry, printed_text};
+ghost use Rattle.cfi_programs.specs.DumpProgramOutput.{printed_format, printed_entry, printed_text};
 
 use crate::dump::addressed_rows::write_entry_rows;
 use crate::dump::entry_line::{write_cie, write_fde, write_partial_fde};
 use crate::dump::instruction_line::write_instructions;
 use crate::dump::printed::Printed;
-use crate::kept_rules::{KeptRows, LineRoom};
-use crate::lines::{write_refusal_told, write_text};
-use crate::row_line::{FULL_OF_LINES, write_out};
+use crate::dump::walk::Walk;
+use crate::lines::write_text;
+use crate::plain_rows::{FULL_OF_LINES, KeptRows, LineRoom};
+use crate::refusals::write_refusal_told;
 use crate::row_words::{write_answer, write_apart};
 use crate::style::{Format, Style};
-use crate::text::Text;
+use crate::text::{Text, write_out};
 use cfi_elf::FunctionNames;
 use cfi_entry::cie::address_size_of;
+use cfi_entry::in_section::InSection;
 use cfi_object::register_names::RegisterNames;
 use gimli_cfi::{
     _UnwindSectionPrivate, BaseAddresses, CieCache, CieOrFde, CommonInformationEntry, Error,
@@ -56,19 +56,17 @@ pub fn write_section<R: Reader<Offset = usize>, S: UnwindSection<R>, W: Write>(
     output: &mut W,
     names: RegisterNames,
     printed: Printed<'_>,
-    section: &S,
-    bases: &BaseAddresses,
-    context: &mut UnwindContext<usize>,
+    at: &InSection<'_, S>,
+    context: UnwindContext<usize>,
 ) -> io::Result<()>
     ensures { Writes (W.contents output.old) (W.contents output.new) result
-        (printed_text names printed.entry (section_of (S.view section.now) bases.now)) }
+        (printed_text names printed.entry (section_of (S.view at.now.section) at.now.bases.now)) }
 {
-    let mut room = LineRoom::new(names);
+    let room = LineRoom::new(names);
+    let mut walk = Walk { room, context };
     let mut cies: CieCache<R> = CieCache::new();
-    for entry in section.entries(bases) {
-        write_printed(
-            output, &mut room, &mut cies, names, printed, section, bases, context, entry,
-        )?;
+    for entry in at.section.entries(at.bases) {
+        write_printed(output, &mut walk, &mut cies, names, printed, at, entry)?;
     }
     Ok(())
 }
@@ -76,33 +74,29 @@ pub fn write_section<R: Reader<Offset = usize>, S: UnwindSection<R>, W: Write>(
 /// Writes what is printed of an entry, or of the error in its place.
 fn write_printed<R: Reader<Offset = usize>, S: UnwindSection<R>, W: Write>(
     output: &mut W,
-    room: &mut LineRoom,
+    walk: &mut Walk,
     cies: &mut CieCache<R>,
     names: RegisterNames,
     printed: Printed<'_>,
-    section: &S,
-    bases: &BaseAddresses,
-    context: &mut UnwindContext<usize>,
+    at: &InSection<'_, S>,
     entry: Result<CieOrFde<'_, S, R>>,
 ) -> io::Result<()>
-    requires entry { IfOk entry (IsEntryOf S.view R.position section.now bases.now) }
-    requires cies { IsCacheOf R.position (λ n. n) (S.view section.now) bases.now cies.old }
+    requires entry { IfOk entry (IsEntryOf S.view R.position at.now.section at.now.bases.now) }
+    requires cies { IsCacheOf R.position (λ n. n) (S.view at.now.section) at.now.bases.now
+        cies.old }
     ensures written { let found = map_ok (cie_or_fde_view R.position (λ n. n)) entry.entry in
         Writes (W.contents output.old) (W.contents output.new) result
-        (item_text (format_of printed.entry) (λ e. printed_entry names printed.entry
-        (section_of (S.view section.now) bases.now) e) found) }
-    ensures cies { IsCacheOf R.position (λ n. n) (S.view section.now) bases.now cies.new }
+        (item_text (printed_format printed.entry) (λ e. printed_entry names printed.entry
+        (section_of (S.view at.now.section) at.now.bases.now) e) found) }
+    ensures cies { IsCacheOf R.position (λ n. n) (S.view at.now.section) at.now.bases.now
+        cies.new }
 {
     match printed {
-        Printed::Entries(functions) => write_entry(
-            output, room, cies, names, functions, section, bases, context, entry,
-        ),
+        Printed::Entries(functions) => write_entry(output, walk, cies, names, functions, at, entry),
         Printed::Rows(asked) => {
             let format = asked.format;
             let style = Style { names, format };
-            write_entry_rows(
-                output, room, cies, style, asked, section, bases, context, entry,
-            )
+            write_entry_rows(output, walk, cies, style, asked, at, entry)
         }
     }
 }
@@ -110,28 +104,28 @@ fn write_printed<R: Reader<Offset = usize>, S: UnwindSection<R>, W: Write>(
 /// Writes the lines of an entry, or of the error in its place.
 fn write_entry<R: Reader<Offset = usize>, S: UnwindSection<R>, W: Write>(
     output: &mut W,
-    room: &mut LineRoom,
+    walk: &mut Walk,
     cies: &mut CieCache<R>,
     names: RegisterNames,
     functions: &FunctionNames<'_>,
-    section: &S,
-    bases: &BaseAddresses,
-    context: &mut UnwindContext<usize>,
+    at: &InSection<'_, S>,
     entry: Result<CieOrFde<'_, S, R>>,
 ) -> io::Result<()>
-    requires entry { IfOk entry (IsEntryOf S.view R.position section.now bases.now) }
-    requires cies { IsCacheOf R.position (λ n. n) (S.view section.now) bases.now cies.old }
+    requires entry { IfOk entry (IsEntryOf S.view R.position at.now.section at.now.bases.now) }
+    requires cies { IsCacheOf R.position (λ n. n) (S.view at.now.section) at.now.bases.now
+        cies.old }
     ensures written { let found = map_ok (cie_or_fde_view R.position (λ n. n)) entry.entry in
         Writes (W.contents output.old) (W.contents output.new) result
         (item_text Format.Text
         (λ e. entry_text names (name_in functions.now)
-        (section_of (S.view section.now) bases.now) e) found) }
-    ensures cies { IsCacheOf R.position (λ n. n) (S.view section.now) bases.now cies.new }
+        (section_of (S.view at.now.section) at.now.bases.now) e) found) }
+    ensures cies { IsCacheOf R.position (λ n. n) (S.view at.now.section) at.now.bases.now
+        cies.new }
 {
     match entry {
-        Ok(CieOrFde::Cie(cie)) => write_whole_cie(output, names, section, bases, &cie),
+        Ok(CieOrFde::Cie(cie)) => write_whole_cie(output, names, at, &cie),
         Ok(CieOrFde::Fde(partial)) => write_fde_and_rows(
-            output, room, cies, names, functions, section, bases, context, &partial,
+            output, walk, cies, names, functions, at, &partial,
         ),
         Err(error) => write_refused(output, Format::Text, error),
     }
@@ -150,22 +144,21 @@ pub fn write_refused<W: Write>(output: &mut W, format: Format, error: Error) -> 
 fn write_whole_cie<R: Reader<Offset = usize>, S: UnwindSection<R>, W: Write>(
     output: &mut W,
     names: RegisterNames,
-    section: &S,
-    bases: &BaseAddresses,
+    at: &InSection<'_, S>,
     cie: &CommonInformationEntry<R>,
 ) -> io::Result<()>
-    requires { IsCieOf R.position (S.view section.now).position cie.now }
+    requires { IsCieOf R.position (S.view at.now.section).position cie.now }
     ensures { let read = cie_view R.position (λ n. n) cie.now in
         Writes (W.contents output.old) (W.contents output.new) result
-        (cie_text names (section_of (S.view section.now) bases.now) read) }
+        (cie_text names (section_of (S.view at.now.section) at.now.bases.now) read) }
 {
     write_cie(output, names, cie)?;
     let factor = cie.code_alignment_factor();
-    let instructions = cie.instructions(section, bases);
+    let instructions = cie.instructions(&at.section, at.bases);
     write_instructions(
         output,
         names,
-        section,
+        &at.section,
         factor,
         address_size_of(cie),
         None,
@@ -177,29 +170,25 @@ fn write_whole_cie<R: Reader<Offset = usize>, S: UnwindSection<R>, W: Write>(
 /// whole, what is known of it and why.
 fn write_fde_and_rows<R: Reader<Offset = usize>, S: UnwindSection<R>, W: Write>(
     output: &mut W,
-    room: &mut LineRoom,
+    walk: &mut Walk,
     cies: &mut CieCache<R>,
     names: RegisterNames,
     functions: &FunctionNames<'_>,
-    section: &S,
-    bases: &BaseAddresses,
-    context: &mut UnwindContext<usize>,
+    at: &InSection<'_, S>,
     partial: &PartialFrameDescriptionEntry<'_, S, R>,
 ) -> io::Result<()>
-    requires of { IsPartialOf section.now bases.now partial.now }
-    requires cies { IsCacheOf R.position (λ n. n) (S.view section.now) bases.now cies.old }
-    ensures written { let from = section_of (S.view section.now) bases.now in
+    requires of { IsPartialOf at.now.section at.now.bases.now partial.now }
+    requires cies { IsCacheOf R.position (λ n. n) (S.view at.now.section) at.now.bases.now
+        cies.old }
+    ensures written { let from = section_of (S.view at.now.section) at.now.bases.now in
         let found = partial_view R.position (λ n. n) partial.now in
         Writes (W.contents output.old) (W.contents output.new) result
         (fde_text names (name_in functions.now) from found (read_fde from found)) }
-    ensures cies { IsCacheOf R.position (λ n. n) (S.view section.now) bases.now cies.new }
+    ensures cies { IsCacheOf R.position (λ n. n) (S.view at.now.section) at.now.bases.now
+        cies.new }
 {
-    match whole(cies, section, bases, partial) {
-        Ok(fde) => {
-            write_whole_fde(
-                output, room, names, functions, section, bases, context, &fde,
-            )
-        }
+    match whole(cies, &at.section, at.bases, partial) {
+        Ok(fde) => { write_whole_fde(output, walk, names, functions, at, &fde) }
         Err(error) => write_refused_fde(output, partial.offset(), partial.entry_len(), error),
     }
 }
@@ -207,17 +196,15 @@ fn write_fde_and_rows<R: Reader<Offset = usize>, S: UnwindSection<R>, W: Write>(
 /// Writes the line of an FDE, those of its instructions and those of its rows.
 fn write_whole_fde<R: Reader<Offset = usize>, S: UnwindSection<R>, W: Write>(
     output: &mut W,
-    room: &mut LineRoom,
+    walk: &mut Walk,
     names: RegisterNames,
     functions: &FunctionNames<'_>,
-    section: &S,
-    bases: &BaseAddresses,
-    context: &mut UnwindContext<usize>,
+    at: &InSection<'_, S>,
     fde: &FrameDescriptionEntry<R>,
 ) -> io::Result<()>
-    requires own { IsFdeOf R.position (S.view section.now).position fde.now }
-    requires cie { HasCieOf R.position (S.view section.now).position fde.now }
-    ensures { let from = section_of (S.view section.now) bases.now in
+    requires own { IsFdeOf R.position (S.view at.now.section).position fde.now }
+    requires cie { HasCieOf R.position (S.view at.now.section).position fde.now }
+    ensures { let from = section_of (S.view at.now.section) at.now.bases.now in
         let read = fde_view R.position (λ n. n) fde.now in
         let instructions = fde_instructions_text names from read in
         Writes (W.contents output.old) (W.contents output.new) result
@@ -225,33 +212,32 @@ fn write_whole_fde<R: Reader<Offset = usize>, S: UnwindSection<R>, W: Write>(
         ++ (instructions ++ lines (of_section (text_style names) from) (fde_rows from read))) }
 {
     write_fde(output, functions, fde)?;
-    write_fde_instructions(output, names, section, bases, fde)?;
+    write_fde_instructions(output, names, at, fde)?;
     let format = Format::Text;
     let style = Style { names, format };
-    write_rows(output, room, style, section, bases, context, fde)
+    write_rows(output, walk, style, at, fde)
 }
 
 /// Writes the lines of an FDE's instructions.
 fn write_fde_instructions<R: Reader<Offset = usize>, S: UnwindSection<R>, W: Write>(
     output: &mut W,
     names: RegisterNames,
-    section: &S,
-    bases: &BaseAddresses,
+    at: &InSection<'_, S>,
     fde: &FrameDescriptionEntry<R>,
 ) -> io::Result<()>
-    requires own { IsFdeOf R.position (S.view section.now).position fde.now }
+    requires own { IsFdeOf R.position (S.view at.now.section).position fde.now }
     ensures { let read = fde_view R.position (λ n. n) fde.now in
         Writes (W.contents output.old) (W.contents output.new) result
-        (fde_instructions_text names (section_of (S.view section.now) bases.now) read) }
+        (fde_instructions_text names (section_of (S.view at.now.section) at.now.bases.now) read) }
 {
     let cie = fde.cie();
     let factor = cie.code_alignment_factor();
     let start = Some(fde.initial_address());
-    let instructions = fde.instructions(section, bases);
+    let instructions = fde.instructions(&at.section, at.bases);
     write_instructions(
         output,
         names,
-        section,
+        &at.section,
         factor,
         address_size_of(cie),
         start,
@@ -301,22 +287,20 @@ pub(crate) fn whole<R: Reader, S: UnwindSection<R>>(
 /// Writes a line for each row of the FDE, and for each error among them.
 pub(crate) fn write_rows<R: Reader<Offset = usize>, S: UnwindSection<R>, W: Write>(
     output: &mut W,
-    room: &mut LineRoom,
+    walk: &mut Walk,
     style: Style,
-    section: &S,
-    bases: &BaseAddresses,
-    context: &mut UnwindContext<usize>,
+    at: &InSection<'_, S>,
     fde: &FrameDescriptionEntry<R>,
 ) -> io::Result<()>
-    requires own { IsFdeOf R.position (S.view section.now).position fde.now }
-    requires cie { HasCieOf R.position (S.view section.now).position fde.now }
+    requires own { IsFdeOf R.position (S.view at.now.section).position fde.now }
+    requires cie { HasCieOf R.position (S.view at.now.section).position fde.now }
     ensures { Writes (W.contents output.old) (W.contents output.new) result
-        (lines (of_section style (section_of (S.view section.now) bases.now))
-        (fde_rows (section_of (S.view section.now) bases.now)
+        (lines (of_section style (section_of (S.view at.now.section) at.now.bases.now))
+        (fde_rows (section_of (S.view at.now.section) at.now.bases.now)
         (fde_view R.position (λ n. n) fde.now))) }
 {
-    match fde.rows(section, bases, context) {
-        Ok(mut table) => write_table(output, room, style, section, &mut table),
+    match fde.rows(&at.section, at.bases, &mut walk.context) {
+        Ok(mut table) => write_table(output, &mut walk.room, style, &at.section, &mut table),
         Err(error) => write_refused(output, style.format, error),
     }
 }

@@ -1,7 +1,7 @@
 //! The words of the command line.
 ghost use Rattle.std.specs.Prelude.{◌≡◌};
 ghost use Rattle.cfi_programs.specs.Words.{texts};
-ghost use Rattle.cfi_programs.specs.RowsCommandLine.{first_words, option_word, option_words};
+ghost use Rattle.cfi_programs.specs.RowsCommandLine.{first_four_words, option_word, option_words};
 ghost use Rattle.cfi_programs.specs.RowsCommandLine.{request_of, set_storage};
 
 use crate::words;
@@ -40,7 +40,7 @@ pub fn parse(words: &[&str]) -> Option<Request>
 
 /// Returns what the first four words ask for; `None` where one is wrong.
 fn first(kind: &str, order: &str, size: &str, address: &str) -> Option<Request>
-    ensures { result ≡ first_words kind.now order.now size.now address.now }
+    ensures { result ≡ first_four_words kind.now order.now size.now address.now }
 {
     Some(Request {
         words: words::first(kind, order, size)?,

@@ -1,11 +1,12 @@
 //! The row for the address that a request asks for.
 ghost use Rattle.cfi_read_core.specs.ReaderCalls.{map_ok};
-ghost use Rattle.cfi_programs.specs.RowsProgramOutput.{rows_tool, room, rows_in, IsAnswer};
-ghost use Rattle.cfi_programs.specs.Input.{bytes_of};
+ghost use Rattle.cfi_programs.specs.RowsProgramOutput.{rows_tool, room, rows_tool_with};
+ghost use Rattle.cfi_programs.specs.RowsProgramOutput.{IsRequestedRow};
+ghost use Rattle.cfi_programs.specs.Input.{bytes_of_sections};
 ghost use Rattle.cfi_programs.specs.Runs.{PrintsAnswer};
 
 use crate::input::Sections;
-use crate::lines::write_refusal;
+use crate::refusals::write_refusal;
 use crate::row_line::write_plain_answer;
 use crate::rows::command_line::{Request, Storage};
 use cfi_object::register_names::RegisterNames;
@@ -23,7 +24,7 @@ pub fn print_answer<W: Write>(
     sections: &Sections,
     output: &mut W,
 ) -> io::Result<u8>
-    ensures { PrintsAnswer rows_tool request.now (bytes_of sections.now)
+    ensures { PrintsAnswer rows_tool request.now (bytes_of_sections sections.now)
         (W.contents output.old) (W.contents output.new) result }
 {
     match request.storage {
@@ -39,8 +40,9 @@ fn print_row<S: UnwindContextStorage<usize>, W: Write>(
     sections: &Sections,
     output: &mut W,
 ) -> io::Result<u8>
-    ensures { PrintsAnswer (rows_in (λ _. room S.Rules.limit S.Stack.limit S.Rules.copies_free))
-        request.now (bytes_of sections.now)
+    ensures { PrintsAnswer
+        (rows_tool_with (λ _. room S.Rules.limit S.Stack.limit S.Rules.copies_free))
+        request.now (bytes_of_sections sections.now)
         (W.contents output.old) (W.contents output.new) result }
 {
     let mut context = match UnwindContext::<usize, S>::new_in(alloc) {
@@ -57,8 +59,8 @@ fn find_row<'ctx, S: UnwindContextStorage<usize>>(
     sections: &Sections,
     context: &'ctx mut UnwindContext<usize, S>,
 ) -> Result<&'ctx UnwindTableRow<usize, S::Rules>, Error>
-    ensures { IsAnswer (room S.Rules.limit S.Stack.limit S.Rules.copies_free)
-        request.now (bytes_of sections.now) (map_ok (λ row. row.now) result) }
+    ensures { IsRequestedRow (room S.Rules.limit S.Stack.limit S.Rules.copies_free)
+        request.now (bytes_of_sections sections.now) (map_ok (λ row. row.now) result) }
 {
     let header = sections.header.as_slice();
     let source = request.words.source(sections.section.as_slice(), header);

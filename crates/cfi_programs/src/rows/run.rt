@@ -3,7 +3,7 @@ ghost use Rattle.std.specs.Prelude.{◌≡◌, IsNone};
 ghost use Rattle.cfi_programs.specs.RowsProgramOutput.{rows_tool};
 ghost use Rattle.cfi_programs.specs.RowsCommandLine.{request_of};
 ghost use Rattle.cfi_programs.specs.RowsPlainLines.{plain};
-ghost use Rattle.cfi_programs.specs.Runs.{PrintsRun, asked_for};
+ghost use Rattle.cfi_programs.specs.Runs.{PrintsRun, requested};
 ghost use Rattle.cfi_programs.specs.Words.{texts_given};
 
 use crate::input::{Sections, read_sections};
@@ -59,7 +59,7 @@ pub fn run<R: Read, W: Write>(
 ) -> u8
     ensures printed { PrintsRun rows_tool (texts_given words.entry) (R.remaining input.old)
         (W.contents output.old) (W.contents output.new) result }
-    ensures unread { IsNone (asked_for rows_tool (texts_given words.entry)) →
+    ensures unread { IsNone (requested rows_tool (texts_given words.entry)) →
         input.new ≡ input.old }
 {
     run_program::<Request, R, W>(alloc, words, input, output)

@@ -16,4 +16,4 @@ returns-in_err-write_byte g c =
 pub returns : goal.returns
 returns g c =
     last_written _ _ _ _ (codes "DW_OP_0x") ((byte_text c.args.opcode) ++ (bytes_text (bytes_left (g.R.Reader.position c.args.input.now)))) c.in_ok-write_text.ensures
-    (last_written _ _ _ _ (byte_text c.args.opcode) (bytes_text (bytes_left (g.R.Reader.position c.args.input.now))) c.in_ok-write_byte.ensures c.write_behind.ensures)
+    (last_written _ _ _ _ (byte_text c.args.opcode) (bytes_text (bytes_left (g.R.Reader.position c.args.input.now))) c.in_ok-write_byte.ensures c.write_bytes_after.ensures)

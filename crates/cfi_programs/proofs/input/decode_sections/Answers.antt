@@ -1,6 +1,6 @@
 use Rattle.std.proofs.Common.{◌≡◌, Err, rules, subst, sym}
 use Rattle.cfi_read_core.specs.ReaderCalls.{map_ok}
-use Rattle.cfi_programs.specs.Input.{IsDecoded, bytes_of}
+use Rattle.cfi_programs.specs.Input.{IsDecoded, bytes_of_sections}
 use Rattle.cfi_programs.proofs.InputLemmas.{not_unreadable, whole_read, whole_refused}
 use Rattle.cfi_programs.proofs.input.decode_sections.Goals as goal
 
@@ -20,4 +20,4 @@ returns-in_err-decode-in-None-clause-refused c =
 
 pub returns-in-Some-clause-read : goal.returns-in-Some-clause-read
 returns-in-Some-clause-read c =
-    subst (λ header. IsDecoded header c.args.text.items (map_ok bytes_of c.decode_lines.result)) (sym c.in-Some.is) c.decode_lines.ensures.read
+    subst (λ header. IsDecoded header c.args.text.items (map_ok bytes_of_sections c.decode_lines.result)) (sym c.in-Some.is) c.decode_lines.ensures.read

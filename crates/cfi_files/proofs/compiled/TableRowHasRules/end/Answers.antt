@@ -19,9 +19,9 @@ loop-pair-preserved c =
     let items = c.registers-pair-items.result.now in
     let pair = get_or items c.loop-pair.pair-index nothing in
     let there = drop_more items c.loop-pair.pair-index nothing c.loop-pair-test.true in (
-      omega (arith, c.max-end.ensures, c.number_behind.ensures.within, c.loop-pair.invariant.0),
+      omega (arith, c.max-end.ensures, c.number_after.ensures.within, c.loop-pair.invariant.0),
       λ register above none.
-          let behind : pair.0.0 < register = omega (arith, c.max-end.ensures, c.number_behind.ensures.number, above) in
+          let behind : pair.0.0 < register = omega (arith, c.max-end.ensures, c.number_after.ensures.number, above) in
           c.loop-pair.invariant.1 register (omega (arith, c.max-end.ensures, above))
           (ap (λ (l : List (Register × RegisterRule ℕ)). map.get (rules_of l) register) there ∙ (get_behind pair (drop (c.loop-pair.pair-index + 1) items) register behind ∙ none)),
     )

@@ -12,14 +12,14 @@ returns-in_err-write_fde_head g c =
     let end = function_text (name_in c.args.functions.now fde.initial) ++ 10 ∷ [] in
     let rest = fde_addresses fde ++ (lsda_text fde.lsda ++ end) in
     writes_refused _ _ _ _ c.from_residual.ensures.0
-    (beginning_then _ _ _ (fde_head fde.offset fde.length) rest _ (given_first (g.W.Write.contents c.args.output.now) (fde_head fde.offset fde.length ++ rest)) c.in_err-write_fde_head.ensures)
+    (beginning_then _ _ _ (fde_head fde.offset fde.length) rest _ (given_first (g.W.Write.contents c.args.output.now) (fde_head fde.offset fde.length ++ rest)) (rw (c.offset.ensures, c.entry_len.ensures) at c.in_err-write_fde_head.ensures))
 
 pub returns-in_err-write_fde_addresses : goal.returns-in_err-write_fde_addresses
 returns-in_err-write_fde_addresses g c =
     let fde = fde_view g.R.Reader.position (λ n. n) c.args.fde.now in
     let end = function_text (name_in c.args.functions.now fde.initial) ++ 10 ∷ [] in
     let rest = fde_addresses fde ++ (lsda_text fde.lsda ++ end) in
-    let behind_head = given_then _ _ _ (fde_head fde.offset fde.length) rest _ (given_first (g.W.Write.contents c.args.output.now) (fde_head fde.offset fde.length ++ rest)) c.in_ok-write_fde_head.ensures in
+    let behind_head = given_then _ _ _ (fde_head fde.offset fde.length) rest _ (given_first (g.W.Write.contents c.args.output.now) (fde_head fde.offset fde.length ++ rest)) (rw (c.offset.ensures, c.entry_len.ensures) at c.in_ok-write_fde_head.ensures) in
     writes_refused _ _ _ _ c.from_residual-in_err-write_fde_addresses.ensures.0
     (beginning_then _ _ _ (fde_addresses fde) (lsda_text fde.lsda ++ end) _ behind_head c.in_err-write_fde_addresses.ensures)
 
@@ -28,7 +28,7 @@ returns-in_err-write_part g c =
     let fde = fde_view g.R.Reader.position (λ n. n) c.args.fde.now in
     let end = function_text (name_in c.args.functions.now fde.initial) ++ 10 ∷ [] in
     let rest = fde_addresses fde ++ (lsda_text fde.lsda ++ end) in
-    let behind_head = given_then _ _ _ (fde_head fde.offset fde.length) rest _ (given_first (g.W.Write.contents c.args.output.now) (fde_head fde.offset fde.length ++ rest)) c.in_ok-write_fde_head.ensures in
+    let behind_head = given_then _ _ _ (fde_head fde.offset fde.length) rest _ (given_first (g.W.Write.contents c.args.output.now) (fde_head fde.offset fde.length ++ rest)) (rw (c.offset.ensures, c.entry_len.ensures) at c.in_ok-write_fde_head.ensures) in
     let behind_addresses = given_then _ _ _ (fde_addresses fde) (lsda_text fde.lsda ++ end) _ behind_head c.in_ok-write_fde_addresses.ensures in
     writes_refused _ _ _ _ c.from_residual-in_err-write_part.ensures.0
     (beginning_then _ _ _ (lsda_text fde.lsda) end _ behind_addresses (rw c.lsda.ensures at c.in_err-write_part.ensures))
@@ -38,7 +38,7 @@ returns g c =
     let fde = fde_view g.R.Reader.position (λ n. n) c.args.fde.now in
     let end = function_text (name_in c.args.functions.now fde.initial) ++ 10 ∷ [] in
     let rest = fde_addresses fde ++ (lsda_text fde.lsda ++ end) in
-    let behind_head = given_then _ _ _ (fde_head fde.offset fde.length) rest _ (given_first (g.W.Write.contents c.args.output.now) (fde_head fde.offset fde.length ++ rest)) c.in_ok-write_fde_head.ensures in
+    let behind_head = given_then _ _ _ (fde_head fde.offset fde.length) rest _ (given_first (g.W.Write.contents c.args.output.now) (fde_head fde.offset fde.length ++ rest)) (rw (c.offset.ensures, c.entry_len.ensures) at c.in_ok-write_fde_head.ensures) in
     let behind_addresses = given_then _ _ _ (fde_addresses fde) (lsda_text fde.lsda ++ end) _ behind_head c.in_ok-write_fde_addresses.ensures in
     let behind_lsda = given_then _ _ _ (lsda_text fde.lsda) end _ behind_addresses (rw c.lsda.ensures at c.in_ok-write_part.ensures) in
     writes_last _ _ _ _ _ _ behind_lsda (rw (c.name_at.ensures, c.initial_address.ensures) at c.end_line.ensures)

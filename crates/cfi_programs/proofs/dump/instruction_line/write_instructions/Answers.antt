@@ -26,13 +26,13 @@ loop-instruction-init g c =
 pub returns-in_err-write_item : goal.returns-in_err-write_item
 returns-in_err-write_item g c =
     let wording = worded (text_style c.args.names) (g.S._UnwindSectionPrivate.view c.args.section.now).address_size (g.S._UnwindSectionPrivate.view c.args.section.now).position in
-    let left = to_write wording c.args.factor (size_in_bytes c.args.size) _ _ _ _ _ c.loop-instruction.invariant.given _ _ _ c.moved-at.ensures c.in-Some.ensures.steps in
+    let left = to_write wording c.args.factor (size_in_bytes c.args.size) _ _ _ _ _ c.loop-instruction.invariant.given _ _ _ c.address_after_item-at.ensures c.in-Some.ensures.steps in
     writes_refused _ _ _ _ c.from_residual.ensures.0 (beginning_then _ _ _ _ _ _ left c.in_err-write_item.ensures)
 
 pub loop-instruction-preserved : goal.loop-instruction-preserved
 loop-instruction-preserved g c =
     let wording = worded (text_style c.args.names) (g.S._UnwindSectionPrivate.view c.args.section.now).address_size (g.S._UnwindSectionPrivate.view c.args.section.now).position in
-    let left = to_write wording c.args.factor (size_in_bytes c.args.size) _ _ _ _ _ c.loop-instruction.invariant.given _ _ _ c.moved-at.ensures c.in-Some.ensures.steps in
+    let left = to_write wording c.args.factor (size_in_bytes c.args.size) _ _ _ _ _ c.loop-instruction.invariant.given _ _ _ c.address_after_item-at.ensures c.in-Some.ensures.steps in
     record {
       can_next = tt;
       is_finite = tt;

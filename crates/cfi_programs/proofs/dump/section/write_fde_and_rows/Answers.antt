@@ -9,14 +9,14 @@ use Rattle.cfi_programs.proofs.dump.section.write_fde_and_rows.Goals as goal
 
 pub returns-in-Ok-clause-written : goal.returns-in-Ok-clause-written
 returns-in-Ok-clause-written g c =
-    let section = section_of (g.S._UnwindSectionPrivate.view c.args.section.now) c.args.bases.now in
+    let section = section_of (g.S._UnwindSectionPrivate.view c.args.at.now.section) c.args.at.now.bases.now in
     let found = partial_of g.R.Reader.position (λ n. n) c.args.partial.now.prefix c.args.partial.now.cie_offset in
     let read : Ok (fde_view g.R.Reader.position (λ n. n) c.in-Ok.fde) ≡ read_fde section found = c.in-Ok.ensures.read in
     as_read _ _ _ c.args.names (name_in c.args.functions.now) section found _ read c.write_whole_fde.ensures
 
 pub returns-in-Err-clause-written : goal.returns-in-Err-clause-written
 returns-in-Err-clause-written g c =
-    let section = section_of (g.S._UnwindSectionPrivate.view c.args.section.now) c.args.bases.now in
+    let section = section_of (g.S._UnwindSectionPrivate.view c.args.at.now.section) c.args.at.now.bases.now in
     let found = partial_of g.R.Reader.position (λ n. n) c.args.partial.now.prefix c.args.partial.now.cie_offset in
     let read : Err c.in-Err.error ≡ read_fde section found = c.in-Err.ensures.read in
     as_read _ _ _ c.args.names (name_in c.args.functions.now) section found _ read (rw (c.offset.ensures, c.entry_len.ensures) at c.write_refused_fde.ensures)

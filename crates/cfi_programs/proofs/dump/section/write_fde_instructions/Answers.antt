@@ -8,6 +8,6 @@ use Rattle.cfi_programs.proofs.dump.section.write_fde_instructions.Goals as goal
 
 pub returns : goal.returns
 returns g c =
-    let section = section_of (g.S._UnwindSectionPrivate.view c.args.section.now) c.args.bases.now in
+    let section = section_of (g.S._UnwindSectionPrivate.view c.args.at.now.section) c.args.at.now.bases.now in
     let fde = fde_view g.R.Reader.position (λ n. n) c.args.fde.now in
     as_read (of_section (text_style c.args.names) section) fde.cie.code_alignment_factor fde.cie.address_size (Some fde.initial) _ (fde_instructions section fde) c.instructions-instructions.ensures.left _ _ _ (rw (c.code_alignment_factor-factor.ensures, c.address_size_of.ensures, c.initial_address.ensures, c.cie-cie.ensures) at c.write_instructions.ensures)

@@ -11,4 +11,4 @@ returns-in-Rows-clause-written g c = rw c.in-Rows.is c.write_entry_rows.ensures.
 
 pub write_entry_rows-requires-clause-entry : goal.write_entry_rows-requires-clause-entry
 write_entry_rows-requires-clause-entry g c =
-    of_fdes (λ cie. IsCieOf g.R.Reader.position (g.S._UnwindSectionPrivate.view c.args.section.now).position cie) (λ p. (p.section ≡ c.args.section.now) × (p.bases.now ≡ c.args.bases.now)) c.args.entry c.requires.entry
+    of_fdes (λ cie. IsCieOf g.R.Reader.position (g.S._UnwindSectionPrivate.view c.args.at.now.section).position cie) (λ p. (p.section ≡ c.args.at.now.section) × (p.bases.now ≡ c.args.at.now.bases.now)) c.args.entry c.requires.entry

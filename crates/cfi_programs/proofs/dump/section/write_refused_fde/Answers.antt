@@ -1,4 +1,4 @@
-use Rattle.cfi_programs.specs.Lines.{refusal_told}
+use Rattle.cfi_programs.specs.Refusals.{refusal_told}
 use Rattle.cfi_programs.specs.declared.style.Format.TheVariants.{Text}
 use Rattle.cfi_programs.specs.DumpEntryLines.{partial_fde_line}
 use Rattle.cfi_programs.proofs.DumpSectionWritten.{first_refused, last_written}

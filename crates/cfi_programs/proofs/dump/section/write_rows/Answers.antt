@@ -7,9 +7,9 @@ use Rattle.cfi_programs.proofs.dump.section.write_rows.Goals as goal
 
 pub returns-in-Ok : goal.returns-in-Ok
 returns-in-Ok g c =
-    rows_written (fde_view g.R.Reader.position (λ n. n) c.args.fde.now) (section_of (g.S._UnwindSectionPrivate.view c.args.section.now) c.args.bases.now) (of_section c.args.style (section_of (g.S._UnwindSectionPrivate.view c.args.section.now) c.args.bases.now)) _ _ _ _ _
+    rows_written (fde_view g.R.Reader.position (λ n. n) c.args.fde.now) (section_of (g.S._UnwindSectionPrivate.view c.args.at.now.section) c.args.at.now.bases.now) (of_section c.args.style (section_of (g.S._UnwindSectionPrivate.view c.args.at.now.section) c.args.at.now.bases.now)) _ _ _ _ _
     (c.in-Ok.ensures.setting (Some 192) (Some 4)) c.in-Ok.ensures.starts.kept c.in-Ok.ensures.starts.left c.in-Ok.ensures.starts.has_not_ended c.write_table.ensures
 
 pub returns-in-Err : goal.returns-in-Err
 returns-in-Err g c =
-    rw (← refused_rows (fde_view g.R.Reader.position (λ n. n) c.args.fde.now) (section_of (g.S._UnwindSectionPrivate.view c.args.section.now) c.args.bases.now) (of_section c.args.style (section_of (g.S._UnwindSectionPrivate.view c.args.section.now) c.args.bases.now)) _ c.in-Err.ensures.starts.kept) c.write_refused.ensures
+    rw (← refused_rows (fde_view g.R.Reader.position (λ n. n) c.args.fde.now) (section_of (g.S._UnwindSectionPrivate.view c.args.at.now.section) c.args.at.now.bases.now) (of_section c.args.style (section_of (g.S._UnwindSectionPrivate.view c.args.at.now.section) c.args.at.now.bases.now)) _ c.in-Err.ensures.starts.kept) c.write_refused.ensures

@@ -3,14 +3,14 @@ use Rattle.cfi_entry.specs.Entries.{entries_left}
 use Rattle.cfi_entry.specs.EntryViews.{IsCieOf}
 use Rattle.cfi_entry.specs.Sections.{section_of}
 use Rattle.cfi_programs.proofs.WrittenLemmas.{IsGiven, beginning_then, given_first, given_then, writes_refused}
-use Rattle.cfi_programs.specs.DumpProgramOutput.{format_of, printed_entry, printed_text}
+use Rattle.cfi_programs.specs.DumpProgramOutput.{printed_format, printed_entry, printed_text}
 use Rattle.cfi_programs.specs.ReadingTexts.{readings_text}
 use Rattle.cfi_programs.proofs.DumpSectionWritten.{all_written, of_section, to_write}
 use Rattle.cfi_programs.proofs.dump.section.write_section.Goals as goal
 
 pub loop-entry-init : goal.loop-entry-init
 loop-entry-init g c =
-    let section = section_of (g.S._UnwindSectionPrivate.view c.args.section.now) c.args.bases.now in
+    let section = section_of (g.S._UnwindSectionPrivate.view c.args.at.now.section) c.args.at.now.bases.now in
     let old = g.W.Write.contents c.args.output.now in
     let printed = c.args.printed in
     let names = c.args.names in
@@ -23,8 +23,8 @@ loop-entry-init g c =
       is_finite = tt;
       same_section = ap (λ it. it.section) is ∙ c.entries-entry-items.ensures.section;
       same_bases = ap (λ it. it.bases.now) is ∙ c.entries-entry-items.ensures.bases;
-      given = subst (λ (place : ℕ). IsGiven old old (readings_text (format_of printed) (λ entry. printed_entry names printed section entry) (entries_left section place)) (printed_text names printed section)) (sym at) (given_first old (printed_text names printed section));
-      cached = c.new-cies.ensures (g.S._UnwindSectionPrivate.view c.args.section.now) c.args.bases.now;
+      given = subst (λ (place : ℕ). IsGiven old old (readings_text (printed_format printed) (λ entry. printed_entry names printed section entry) (entries_left section place)) (printed_text names printed section)) (sym at) (given_first old (printed_text names printed section));
+      cached = c.new-cies.ensures (g.S._UnwindSectionPrivate.view c.args.at.now.section) c.args.at.now.bases.now;
     }
 
 pub write_printed-requires-clause-entry : goal.write_printed-requires-clause-entry

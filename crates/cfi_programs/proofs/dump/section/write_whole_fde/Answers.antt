@@ -11,14 +11,14 @@ use Rattle.cfi_programs.proofs.dump.section.write_whole_fde.Goals as goal
 
 pub returns-in_err-write_fde : goal.returns-in_err-write_fde
 returns-in_err-write_fde g c =
-    let section = section_of (g.S._UnwindSectionPrivate.view c.args.section.now) c.args.bases.now in
+    let section = section_of (g.S._UnwindSectionPrivate.view c.args.at.now.section) c.args.at.now.bases.now in
     let fde = fde_view g.R.Reader.position (λ n. n) c.args.fde.now in
     let line = fde_line (name_in c.args.functions.now fde.initial) fde in
     first_refused _ _ _ line (fde_instructions_text c.args.names section fde ++ lines (of_section (text_style c.args.names) section) (fde_rows section fde)) c.from_residual.ensures.0 c.in_err-write_fde.ensures
 
 pub returns-in_err-write_fde_instructions : goal.returns-in_err-write_fde_instructions
 returns-in_err-write_fde_instructions g c =
-    let section = section_of (g.S._UnwindSectionPrivate.view c.args.section.now) c.args.bases.now in
+    let section = section_of (g.S._UnwindSectionPrivate.view c.args.at.now.section) c.args.at.now.bases.now in
     let fde = fde_view g.R.Reader.position (λ n. n) c.args.fde.now in
     let line = fde_line (name_in c.args.functions.now fde.initial) fde in
     let instructions = fde_instructions_text c.args.names section fde in
@@ -29,7 +29,7 @@ returns-in_err-write_fde_instructions g c =
 
 pub returns : goal.returns
 returns g c =
-    let section = section_of (g.S._UnwindSectionPrivate.view c.args.section.now) c.args.bases.now in
+    let section = section_of (g.S._UnwindSectionPrivate.view c.args.at.now.section) c.args.at.now.bases.now in
     let fde = fde_view g.R.Reader.position (λ n. n) c.args.fde.now in
     let line = fde_line (name_in c.args.functions.now fde.initial) fde in
     let instructions = fde_instructions_text c.args.names section fde in
