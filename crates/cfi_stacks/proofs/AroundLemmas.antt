@@ -5,14 +5,16 @@ use Rattle.std.proofs.lemmas.Bool.{leb-true}
 use Rattle.std.proofs.lemmas.List.{length-drop, length-replicate, length-take, nil_from_length, take_all}
 use Rattle.std.specs.Prelude.{if◌then◌else◌, nat_le, nat_lt, not, slice_range}
 use Rattle.cfi_elf.specs.Fields.{part}
-use Rattle.cfi_object.specs.FileParts.{AreLeft, IsLength, IsPartRead}
+use Rattle.cfi_object.specs.FileInputs.{AreLeft, IsLength, IsPartRead}
 use Rattle.cfi_perf.specs.declared.error.PerfError.{PerfError}
 use Rattle.cfi_perf.specs.FileHeaders.{byte_order, file_header}
 use Rattle.cfi_perf.specs.Pipes.{is_pipe}
 use Rattle.cfi_perf.specs.Profiles.{Profile, profile}
 use Rattle.cfi_perf.specs.ProfilesAround.{IsAround, IsProfileAround, has_all, head_if, lies_between, profile_around, profile_of, sections_around}
 use Rattle.cfi_perf.specs.Results.{and_then}
-use Rattle.cfi_perf.specs.Sections.{ProfileHead, Sections, events_by, head_of}
+use Rattle.cfi_perf.specs.ProfileHeads.{ProfileHead, head_of}
+use Rattle.cfi_perf.specs.Sections.{Sections}
+use Rattle.cfi_perf.specs.EventSections.{events_by}
 use Rattle.cfi_perf.proofs.AroundLemmas.{is_around}
 use Rattle.cfi_perf.proofs.PlaceLemmas.{records_counted, records_placed}
 use Rattle.cfi_stacks.specs.ProfileIndexes.{AreBytesAt, HasRecordsAt, IsReadAround}

@@ -6,8 +6,9 @@ use Rattle.cfi_perf.specs.Events.{Event, Record, ForkEvent, LostEvent, MappingEv
 use Rattle.cfi_processes.specs.KnownFiles.{KnownFile}
 use Rattle.std.proofs.Common.{inl, inr}
 use Rattle.cfi_stacks.specs.Choices.{Choice, limited}
-use Rattle.cfi_stacks.specs.Foldings.{IsKnownAfter, IsTurn, is_left_out, left_after}
-use Rattle.cfi_stacks.specs.ProfileOutputs.{AreOfAll, Known, KnownSample, chosen, chosen_of, is_chosen, known_after, sample_at}
+use Rattle.cfi_stacks.specs.Turns.{IsKnownAfter, IsTurn, is_not_chosen, left_after}
+use Rattle.cfi_stacks.specs.KnownSamples.{Known, KnownSample, chosen, chosen_of, is_chosen, known_after, sample_at}
+use Rattle.cfi_stacks.specs.Sequences.{AreOfAll}
 
 follows : (files : List KnownFile) (event : Event) (before now : Known) → IsKnownAfter files event before now → now ≡ known_after files event before
 follows files event before now is_after = λ i. record { mapped = λ pid. is_after.0 pid i; names = λ tid. is_after.1 tid i }
@@ -49,7 +50,7 @@ module _ (files : List KnownFile) (choice : Choice) {A : Type 0} (IsOf : KnownSa
 
   -- ---- a sample that isn't chosen
 
-  left_out : (now : Known) (time : ℕ) (event : Event) (rest : List Record) → is_left_out choice now time event ≡ true
+  left_out : (now : Known) (time : ℕ) (event : Event) (rest : List Record) → is_not_chosen choice now time event ≡ true
       → chosen_of choice files now (record { time = time; event = event } ∷ rest) ≡ chosen_of choice files now rest
   left_out now time (SampleEvent s) rest out =
       dropped (is_chosen choice (record { known = now; time = time; sample = s })) (record { known = now; time = time; sample = s }) (chosen_of choice files now rest) out
@@ -59,7 +60,7 @@ module _ (files : List KnownFile) (choice : Choice) {A : Type 0} (IsOf : KnownSa
   left_out now time (LostEvent l) rest out = absurd (true≢false (sym out))
   left_out now time OtherEvent rest out = absurd (true≢false (sym out))
 
-  pub one_passed : (first all : List Record) (r : Record) (left : Option ℕ) (now : Known) (front : List A) → all ≡ first ++ r ∷ [] → is_left_out choice now r.time r.event ≡ true
+  pub one_passed : (first all : List Record) (r : Record) (left : Option ℕ) (now : Known) (front : List A) → all ≡ first ++ r ∷ [] → is_not_chosen choice now r.time r.event ≡ true
       → GoesOn first left now front → GoesOn all left now front
   one_passed first all r left now front is_all out so = subst (λ (records : List Record). GoesOn records left now front) (sym is_all) (record {
     goes_on = λ rest found are.
@@ -85,7 +86,7 @@ module _ (files : List KnownFile) (choice : Choice) {A : Type 0} (IsOf : KnownSa
   kept true left it more text found inside some is are = within left it more text found some is are
   kept false left it more text found inside some is are = absurd (true≢false inside)
 
-  followed : (before : Known) (time : ℕ) (event : Event) (left : Option ℕ) (text : List A) (rest : List Record) (found : List A) → is_left_out choice before time event ≡ false → option_eq nat_eq left (Some 0) ≡ false
+  followed : (before : Known) (time : ℕ) (event : Event) (left : Option ℕ) (text : List A) (rest : List Record) (found : List A) → is_not_chosen choice before time event ≡ false → option_eq nat_eq left (Some 0) ≡ false
       → AreOfAll IsOf (sample_at (known_after files event before) time event) text → AreLeft (left_after left event) (known_after files event before) rest found
       → AreLeft left before (record { time = time; event = event } ∷ rest) (text ++ found)
   followed before time (SampleEvent s) left text rest found inside some is are =
@@ -96,7 +97,7 @@ module _ (files : List KnownFile) (choice : Choice) {A : Type 0} (IsOf : KnownSa
   followed before time (LostEvent l) left text rest found inside some is are = subst (λ (front : List A). AreLeft left before (record { time = time; event = LostEvent l } ∷ rest) (front ++ found)) (sym is) are
   followed before time OtherEvent left text rest found inside some is are = subst (λ (front : List A). AreLeft left before (record { time = time; event = OtherEvent } ∷ rest) (front ++ found)) (sym is) are
 
-  pub one_more : (first all : List Record) (r : Record) (left : Option ℕ) (before now : Known) (front text : List A) → all ≡ first ++ r ∷ [] → is_left_out choice before r.time r.event ≡ false → option_eq nat_eq left (Some 0) ≡ false
+  pub one_more : (first all : List Record) (r : Record) (left : Option ℕ) (before now : Known) (front text : List A) → all ≡ first ++ r ∷ [] → is_not_chosen choice before r.time r.event ≡ false → option_eq nat_eq left (Some 0) ≡ false
       → GoesOn first left before front → IsKnownAfter files r.event before now → AreOfAll IsOf (sample_at now r.time r.event) text → GoesOn all (left_after left r.event) now (front ++ text)
   one_more first all r left before now front text is_all inside some so is_after is = subst (λ (records : List Record). GoesOn records (left_after left r.event) now (front ++ text)) (sym is_all) (record {
     goes_on = λ rest found are.

@@ -5,7 +5,8 @@ use Rattle.cfi_programs.specs.WriterOutput.{PrintsSome}
 use Rattle.cfi_processes.specs.declared.mappings.MappedCode.{MappedCode}
 use Rattle.cfi_processes.specs.declared.registers.SampleMachine.{SampleMachine}
 use Rattle.cfi_processes.specs.KnownFiles.{KnownFile}
-use Rattle.cfi_processes.specs.OpenedFiles.{AreFilesOf, Opened}
+use Rattle.cfi_processes.specs.OpenedFiles.{Opened}
+use Rattle.cfi_processes.specs.ProfileFiles.{AreProfileFilesOf}
 use Rattle.cfi_processes.specs.Wanted.{FilePlace}
 use Rattle.cfi_cores.specs.declared.core_file.Core.{Core as CoreOfCode}
 use Rattle.cfi_cores.specs.declared.error.CoreError.{CoreError}
@@ -16,11 +17,13 @@ use Rattle.cfi_cores.specs.CoreSegments.{CoreSegment}
 use Rattle.cfi_cores.specs.CoreThreads.{CoreThread}
 use Rattle.cfi_stacks.specs.declared.listing.ThreadListing.{ThreadListing}
 use Rattle.cfi_stacks.specs.ProfileOutputs.{no_memory}
-use Rattle.cfi_stacks.specs.CoreOutputs.{AreWindows, IsOfCore, IsOfFiles, IsOfOpened, IsOfRead, IsOutput, IsPrinted, IsThreadText, core_refusal, memory_of}
+use Rattle.cfi_stacks.specs.CoreWindows.{AreWindows}
+use Rattle.cfi_stacks.specs.CoreOutputs.{AreThreadsPrinted, IsCoreOfFiles, IsCoreOfOpened, IsCoreOutput, IsOfCore, IsOfRead, core_memory, core_refusal}
+use Rattle.cfi_stacks.specs.ThreadOutputs.{IsThreadText}
 
 module _ (listing : ThreadListing) {Handle : Type 0} (may_open : FilePlace → Option Handle → Type 0) (remaining : Handle → Option (List ℕ)) (bytes : List ℕ) (r : Result CoreOfCode CoreError) where
   abbrev IsOut : Line → Type 0
-  IsOut = IsOutput listing may_open remaining bytes
+  IsOut = IsCoreOutput listing may_open remaining bytes
 
   -- what is right for the core is right for the bytes
   of_core : (core : CoreOfCode) → r ≡ Ok core → (x : Result Core CoreError) → IsCoreOf x r → (line : Line) → IsOfCore listing may_open remaining (core_view core) line → IsOfRead listing may_open remaining x line
@@ -49,12 +52,12 @@ module _ (listing : ThreadListing) {Handle : Type 0} (may_open : FilePlace → O
       inr (ap (core_refusal listing.format) same)
 
 pub printed_in : {E : Type 0} (listing : ThreadListing) (core : Core) (opened : List Opened) (files : List KnownFile) (windows : List CoreSegment) (old new : Option (List ℕ)) (result : Result ℕ E) → AreWindows opened core.mapped windows
-    → PrintsSome (λ line. IsPrinted listing files (memory_of core windows) core line) old new result → PrintsSome (λ line. IsOfFiles listing core opened files line ⊎ (line ≡ no_memory listing.format)) old new result
+    → PrintsSome (λ line. AreThreadsPrinted listing files (core_memory core windows) core line) old new result → PrintsSome (λ line. IsCoreOfFiles listing core opened files line ⊎ (line ≡ no_memory listing.format)) old new result
 printed_in listing core opened files windows old new result are (printed, prints, is) = (printed, prints, inl (windows, are, is))
 
 -- by the files, which were opened so
-pub printed_by : {E : Type 0} (listing : ThreadListing) (core : Core) (opened : List Opened) (files : List KnownFile) (old new : Option (List ℕ)) (result : Result ℕ E) → AreFilesOf (not listing.raw) opened files
-    → PrintsSome (λ line. IsOfFiles listing core opened files line ⊎ (line ≡ no_memory listing.format)) old new result → PrintsSome (λ line. IsOfOpened listing core opened line ⊎ (line ≡ no_memory listing.format)) old new result
+pub printed_by : {E : Type 0} (listing : ThreadListing) (core : Core) (opened : List Opened) (files : List KnownFile) (old new : Option (List ℕ)) (result : Result ℕ E) → AreProfileFilesOf (not listing.raw) opened files
+    → PrintsSome (λ line. IsCoreOfFiles listing core opened files line ⊎ (line ≡ no_memory listing.format)) old new result → PrintsSome (λ line. IsCoreOfOpened listing core opened line ⊎ (line ≡ no_memory listing.format)) old new result
 printed_by listing core opened files old new result are (printed, prints, inl of) = (printed, prints, inl (files, are, of))
 printed_by listing core opened files old new result are (printed, prints, inr none) = (printed, prints, inr none)
 

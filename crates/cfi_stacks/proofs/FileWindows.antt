@@ -4,17 +4,17 @@ use Rattle.std.specs.List.{find}
 use Rattle.std.specs.Option.{option_and_then}
 use Rattle.std.specs.Str.{bytes_eq}
 use Rattle.cfi_processes.specs.declared.opened_file.OpenedFile.{OpenedFile}
-use Rattle.cfi_processes.specs.CodeParts.{first_of, is_whole}
+use Rattle.cfi_processes.specs.CodeParts.{beginning_in, is_whole}
 use Rattle.cfi_processes.specs.OpenedFiles.{AreOpenedAs, IsOpenedAs, Opened, are_whole}
 use Rattle.cfi_processes.proofs.CodeImages.{whole_first}
-use Rattle.cfi_stacks.specs.CoreOutputs.{bytes_named}
+use Rattle.cfi_stacks.specs.CoreWindows.{bytes_named}
 
 both : (a b : Bool) → (a && b) ≡ true → (a ≡ true) × (b ≡ true)
 both true b is = (refl, is)
 both false b is = absurd (cc)
 
 abbrev pub firsts : Option OpenedFile → Option (List ℕ)
-firsts found = option_and_then (λ (one : OpenedFile). first_of one.code) found
+firsts found = option_and_then (λ (one : OpenedFile). beginning_in one.code) found
 
 abbrev bytes_in : Option Opened → Option (List ℕ)
 bytes_in found = option_and_then (λ (one : Opened). one.bytes) found

@@ -24,9 +24,12 @@ use Rattle.cfi_processes.specs.KnownFiles.{KnownFile}
 use Rattle.cfi_stacks.specs.FoldedTexts.{frame_name, names_text}
 use Rattle.cfi_object.specs.declared.input.InputError.TheVariants.{OutOfMemory as InputMemory}
 use Rattle.cfi_stacks.specs.declared.folding.Unfolded.TheVariants.{Input, TooMany}
-use Rattle.cfi_stacks.specs.Foldings.{AddsAll, IsFollowed, IsNotFollowed, IsTurn}
+use Rattle.cfi_stacks.specs.Turns.{AddsAll, IsFollowed, IsNotFollowed, IsTurn}
 use Rattle.cfi_stacks.specs.Choices.{Choice}
-use Rattle.cfi_stacks.specs.ProfileOutputs.{AreFolded, AreOfAll, AreSamples, HasTooMany, IsFolded, IsFoldedText, IsSampleOf, IsUnfolded, Known, KnownSample, ended, in_kernel_of, weight}
+use Rattle.cfi_stacks.specs.ProfileOutputs.{AreFolded, HasTooMany, IsFolded, IsUnfolded, profile_ended}
+use Rattle.cfi_stacks.specs.KnownSamples.{Known, KnownSample, in_kernel_of}
+use Rattle.cfi_stacks.specs.Sequences.{AreOfAll}
+use Rattle.cfi_stacks.specs.ChosenStacks.{AreSamples, IsFoldedText, IsSampleOf, sample_weight}
 use Rattle.cfi_stacks.proofs.ChosenLemmas.{GoesOn, none_gone, so_far, so_many, turned}
 
 -- one more part of a text, and then the others
@@ -121,7 +124,7 @@ module _ (by_period : Bool) (machine : SampleMachine) (files : List KnownFile) (
 
   -- their lines were printed, or memory was refused
   pub counts_printed : {E : Type 0} (records : List Record) (folded : List Stack) (error : Option PerfError) (old new : Option (List ℕ)) (r : Result ℕ E) → AreFolded by_period machine files choice records folded
-      → PrintsSome (λ line. (line ≡ ended Text (flat_map line_text folded) error) ⊎ (line ≡ out_of_memory)) old new r → PrintsSome (λ line. IsFolded by_period machine files choice records error line) old new r
+      → PrintsSome (λ line. (line ≡ profile_ended Text (flat_map line_text folded) error) ⊎ (line ≡ out_of_memory)) old new r → PrintsSome (λ line. IsFolded by_period machine files choice records error line) old new r
   counts_printed records folded error old new r are (printed, prints, inl e) = (printed, prints, inl (folded, are, e))
   counts_printed records folded error old new r are (printed, prints, inr e) = (printed, prints, inr (Input InputMemory, tt, e))
 
@@ -132,7 +135,7 @@ module _ (by_period : Bool) (machine : SampleMachine) (files : List KnownFile) w
   alone it stack is = (stack ∷ [], [], is, refl, refl)
 
   pub sample_added : {T E : Type 0} (known : Known) (time : ℕ) (s : Sample) (text : List ℕ) (count : ℕ) (old new : List Stack) (r : Result T E) → IsFoldedText machine files (in_kernel_of files known) (known.mapped s.pid) (known.names s.tid) s text
-      → count ≡ weight by_period s → OnOk r (CountsMore text count old new) → OnOk r (IsFollowed by_period machine files known time (SampleEvent s) old new)
+      → count ≡ sample_weight by_period s → OnOk r (CountsMore text count old new) → OnOk r (IsFollowed by_period machine files known time (SampleEvent s) old new)
   sample_added known time s text count old new (Ok done) is counts more = (
     record { frames = text; count = count } ∷ [],
     alone (record { known = known; time = time; sample = s }) (record { frames = text; count = count }) (text, is, ap (λ (n : ℕ). record { frames = text; count = n } ∷ []) counts),
@@ -141,7 +144,7 @@ module _ (by_period : Bool) (machine : SampleMachine) (files : List KnownFile) w
   sample_added known time s text count old new (Err e) is counts more = tt
 
   pub sample_refused : {T : Type 0} (known : Known) (time : ℕ) (s : Sample) (text : List ℕ) (count : ℕ) (old : List Stack) (r : Result T FoldedError) → IsFoldedText machine files (in_kernel_of files known) (known.mapped s.pid) (known.names s.tid) s text
-      → count ≡ weight by_period s → IfErr r (IsNotAdded text count old) → IfErr r (IsNotFollowed by_period machine files known time (SampleEvent s) old)
+      → count ≡ sample_weight by_period s → IfErr r (IsNotAdded text count old) → IfErr r (IsNotFollowed by_period machine files known time (SampleEvent s) old)
   sample_refused known time s text count old (Ok done) is counts h = tt
   sample_refused known time s text count old (Err OutOfMemory) is counts h = tt
   sample_refused known time s text count old (Err (NotFolded number)) is counts h = h

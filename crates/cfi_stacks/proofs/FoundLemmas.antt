@@ -8,7 +8,7 @@ use Rattle.std.proofs.lemmas.Bool.{cases_lt}
 use Rattle.std.proofs.lemmas.List.{drop-append-le, drop-drop, drop-take, drop_all, length-drop, length-replicate, length-take, map-append, take-append-drop, take-append-le, take-take, drop_at}
 use Rattle.std.proofs.lemmas.List.Elements.{All-append, All-cons, All-nil, Contains-append_left, Contains-append_right}
 use Rattle.std.proofs.lemmas.Grind.{flat_map-append}
-use Rattle.cfi_object.specs.FileParts.{IsPartRead}
+use Rattle.cfi_object.specs.FileInputs.{IsPartRead}
 use Rattle.cfi_perf.specs.declared.error.PerfError.{PerfError}
 use Rattle.cfi_perf.specs.declared.index.PlaceKind.{PlaceKind}
 use Rattle.cfi_perf.specs.declared.index.PlaceKind.TheVariants.{InFile, Kept, Nothing}
@@ -18,15 +18,18 @@ use Rattle.cfi_perf.specs.declared.record.Record.{Record as RecordOfCode}
 use Rattle.cfi_perf.specs.declared.windows.RecordWalk.{RecordWalk}
 use Rattle.cfi_perf.specs.Events.{record_view, Event, OtherEvent, Record, SampleEvent, MappingEvent, ProgramEvent, ForkEvent, LostEvent}
 use Rattle.cfi_read_core.specs.ReaderCalls.{map_ok}
-use Rattle.cfi_perf.specs.Indexes.{AreAt, AreIndexed, IsOfBytes, kept_bytes, kept_of, kind_of, offset_for, place_for, places_of}
+use Rattle.cfi_perf.specs.Indexes.{AreAt, AreIndexed, IsOfBytes, kept_bytes, kept_of, offset_for, place_for, places_of}
+use Rattle.cfi_perf.specs.Indexes.{place_kind}
 use Rattle.cfi_perf.specs.Recordings.{is_sample}
-use Rattle.cfi_perf.specs.Records.{Meets, Records, no_records}
-use Rattle.cfi_perf.specs.Windows.{IsAlone, IsSameWalk, IsWithin, bytes_left, passed, place_in, record_alone, records_in}
+use Rattle.cfi_perf.specs.Records.{Records, no_records}
+use Rattle.cfi_perf.specs.Records.{IsNextRecord}
+use Rattle.cfi_perf.specs.Windows.{IsAlone, record_alone, records_in}
+use Rattle.cfi_perf.specs.Windows.{ReadsOn, PassesWithin, record_bytes_left, bytes_passed, next_place}
 use Rattle.cfi_perf.proofs.WindowSteps.{front_range}
-use Rattle.cfi_processes.specs.Replays.{has_kernel_frames}
+use Rattle.cfi_processes.specs.WantedFiles.{has_kernel_frames}
 use Rattle.cfi_stacks.specs.declared.profile_index.ProfileIndex.{ProfileIndex}
 use Rattle.cfi_stacks.specs.declared.profile_index.Tally.{Tally}
-use Rattle.cfi_stacks.specs.ProfileIndexes.{IsTallyOf, HasRecords, IsFoundOf, IsKernelAt, IsNextIn, IsPartOf, IsPieceOf, IsPlacedIn, IsWindowIn, Piece, all_bytes, kernel_after, place_of, record_of, records_bytes}
+use Rattle.cfi_stacks.specs.ProfileIndexes.{HasRecords, IsFoundOf, IsKernelAt, IsNextIn, IsPieceOf, IsPlacedIn, IsRecordsPart, IsTallyOf, IsWindowIn, Piece, all_bytes, kernel_after, piece_place, record_of, records_bytes}
 
 -- ---- parts of lists
 
@@ -69,15 +72,15 @@ module _ (o : Option RecordOfCode) (item : RecordOfCode) (is : o ≡ Some item) 
   pub alone_of : (walk : RecordWalk) (bytes : List ℕ) → IsAlone walk bytes (gave o) → record_alone walk bytes ≡ Ok (record_view item)
   alone_of walk bytes alone = subst (λ (o : Option RecordOfCode). IsAlone walk bytes (gave o)) is alone
 
-  pub within_of : (count many : ℕ) → IsWithin count many (gave o) → ((record_view item).event ≡ OtherEvent) ⊎ (count ≤ many)
-  within_of count many within = subst (λ (o : Option RecordOfCode). IsWithin count many (gave o)) is within
+  pub within_of : (count many : ℕ) → PassesWithin count many (gave o) → ((record_view item).event ≡ OtherEvent) ⊎ (count ≤ many)
+  within_of count many within = subst (λ (o : Option RecordOfCode). PassesWithin count many (gave o)) is within
 
-  pub walk_of : (old new : RecordWalk) → IsSameWalk old new (gave o) → (bytes : List ℕ) → records_in new bytes ≡ records_in old bytes
-  walk_of old new same = subst (λ (o : Option RecordOfCode). IsSameWalk old new (gave o)) is same
+  pub walk_of : (old new : RecordWalk) → ReadsOn old new (gave o) → (bytes : List ℕ) → records_in new bytes ≡ records_in old bytes
+  walk_of old new same = subst (λ (o : Option RecordOfCode). ReadsOn old new (gave o)) is same
 
-pub none_of : (o : Option RecordOfCode) (old new : Records) (error : Option PerfError) → o ≡ None → error ≡ None → Meets (gave o) old new → old ≡ no_records error
+pub none_of : (o : Option RecordOfCode) (old new : Records) (error : Option PerfError) → o ≡ None → error ≡ None → IsNextRecord (gave o) old new → old ≡ no_records error
 none_of o old new error is none meets =
-    let met = subst (λ (o : Option RecordOfCode). Meets (gave o) old new) is meets in
+    let met = subst (λ (o : Option RecordOfCode). IsNextRecord (gave o) old new) is meets in
     met.0 ∙ ap no_records (sym none)
 
 -- ---- a part that was read
@@ -86,12 +89,12 @@ read_if : (b : Bool) (x bytes : List ℕ) → ◌≡◌ {A = Option (List ℕ)} 
 read_if true x bytes is = cc
 read_if false x bytes is = absurd (cc)
 
-pub part_of : (known : Option (List ℕ)) (walk : RecordWalk) (offset size place : ℕ) (bytes : List ℕ) → place ≡ place_in walk + offset → IsPartRead known place size bytes → IsPartOf known walk offset size bytes
+pub part_of : (known : Option (List ℕ)) (walk : RecordWalk) (offset size place : ℕ) (bytes : List ℕ) → place ≡ next_place walk + offset → IsPartRead known place size bytes → IsRecordsPart known walk offset size bytes
 part_of None walk offset size place bytes at (long, read) = (long, tt)
 part_of (Some file) walk offset size place bytes at (long, read) = (
   long,
   λ within.
-      inner_range file (place_in walk) (bytes_left walk) offset size within
+      inner_range file (next_place walk) (record_bytes_left walk) offset size within
       ∙ (ap (λ (p : ℕ). slice_range file p (p + size)) (sym at) ∙ read_if (nat_le (place + size) (length file)) (slice_range file place (place + size)) bytes read),
 )
 
@@ -167,12 +170,12 @@ module _ (known : Option (List ℕ)) (walk : RecordWalk) (kept own bytes : List 
   in_known same None there = tt
   in_known same (Some file) there = there ∙ same
 
-  in_file : (event : Event) → own ≡ bytes → offset + length own ≤ bytes_left walk → IsThere → is_sample event ≡ true →
+  in_file : (event : Event) → own ≡ bytes → offset + length own ≤ record_bytes_left walk → IsThere → is_sample event ≡ true →
       IsPlacedIn InFile known walk (kept ++ []) (record { place = record { time = time; offset = offset; size = length own; kind = InFile }; bytes = bytes; found = timed event })
   in_file event same within there sampled = (ap length (sym same), within, sampled, in_known same known there)
 
-  placed_in : (event : Event) → IsTold event own bytes → record_alone walk bytes ≡ Ok (timed event) → offset + length own ≤ bytes_left walk → IsThere →
-      IsPlacedIn (kind_of event) known walk (kept ++ kept_bytes event own) (piece_for (timed event) offset (length own) (length kept) bytes)
+  placed_in : (event : Event) → IsTold event own bytes → record_alone walk bytes ≡ Ok (timed event) → offset + length own ≤ record_bytes_left walk → IsThere →
+      IsPlacedIn (place_kind event) known walk (kept ++ kept_bytes event own) (piece_for (timed event) offset (length own) (length kept) bytes)
   placed_in (MappingEvent m) told alone within there = at_kept (MappingEvent m) (own_of (MappingEvent m) own bytes told (λ none. absurd (cc))) alone refl
   placed_in (ProgramEvent p) told alone within there = at_kept (ProgramEvent p) (own_of (ProgramEvent p) own bytes told (λ none. absurd (cc))) alone refl
   placed_in (ForkEvent f) told alone within there = at_kept (ForkEvent f) (own_of (ForkEvent f) own bytes told (λ none. absurd (cc))) alone refl
@@ -180,13 +183,13 @@ module _ (known : Option (List ℕ)) (walk : RecordWalk) (kept own bytes : List 
   placed_in (LostEvent l) told alone within there = at_kept (LostEvent l) (own_of (LostEvent l) own bytes told (λ none. absurd (cc))) alone refl
   placed_in OtherEvent told alone within there = refl
 
-  new_piece : (event : Event) → IsTold event own bytes → record_alone walk bytes ≡ Ok (timed event) → offset + length own ≤ bytes_left walk → IsThere →
+  new_piece : (event : Event) → IsTold event own bytes → record_alone walk bytes ≡ Ok (timed event) → offset + length own ≤ record_bytes_left walk → IsThere →
       IsPieceOf known walk (kept ++ kept_bytes event own) (piece_for (timed event) offset (length own) (length kept) bytes)
   new_piece event told alone within there = record { alone = alone; time = refl; placed = placed_in event told alone within there }
 
 -- ---- the first with frames of the kernel
 
-kernel_in_file : (event : Event) (offset count : ℕ) → has_kernel_frames event ≡ true → (kind_of event ≡ InFile) × (offset_for (kind_of event) offset count ≡ offset)
+kernel_in_file : (event : Event) (offset count : ℕ) → has_kernel_frames event ≡ true → (place_kind event ≡ InFile) × (offset_for (place_kind event) offset count ≡ offset)
 kernel_in_file (MappingEvent m) offset count has = absurd (cc)
 kernel_in_file (ProgramEvent p) offset count has = absurd (cc)
 kernel_in_file (ForkEvent f) offset count has = absurd (cc)
@@ -220,8 +223,8 @@ module _ (index : ProfileIndex) (walk : RecordWalk) (pieces : List Piece) (windo
   AreBehind known others = IfSome known (λ file. records_bytes index.walk file ≡ all_bytes pieces ++ (window ++ others))
 
   pub others_of : (known : Option (List ℕ)) → HasRecords known index.walk → IsFoundOf known index walk pieces → IsWindowIn known index walk pieces window
-      → (others : List ℕ) × (length window + length others ≡ bytes_left walk) × AreBehind known others
-  others_of None has found (fits, none) = (replicate (bytes_left walk - length window) 0, omega (arith, fits, length-replicate {A = ℕ} (bytes_left walk - length window) 0), tt)
+      → (others : List ℕ) × (length window + length others ≡ record_bytes_left walk) × AreBehind known others
+  others_of None has found (fits, none) = (replicate (record_bytes_left walk - length window) 0, omega (arith, fits, length-replicate {A = ℕ} (record_bytes_left walk - length window) 0), tt)
   others_of (Some file) has found (fits, (behind, is)) =
       (behind, omega (arith, has, found.left, ap length is, length-append (all_bytes pieces) (window ++ behind), length-append window behind), is)
 
@@ -229,7 +232,7 @@ module _ (index : ProfileIndex) (walk : RecordWalk) (pieces : List Piece) (windo
 
 module _ (known : Option (List ℕ)) (old new : ProfileIndex) (walk walk' : RecordWalk) (pieces : List Piece) (window others : List ℕ) (r : Record) (place_now size : ℕ) where
   abbrev count : ℕ
-  count = passed walk walk'
+  count = bytes_passed walk walk'
 
   abbrev whole : List ℕ
   whole = window ++ others
@@ -243,7 +246,7 @@ module _ (known : Option (List ℕ)) (old new : ProfileIndex) (walk walk' : Reco
   abbrev now : List Piece
   now = pieces ++ added ∷ []
 
-  module _ (is_place : place_now ≡ bytes_left old.walk - bytes_left walk) (is_size : size ≡ min count (length window)) (all : length window + length others ≡ bytes_left walk) (fewer : bytes_left walk' ≤ bytes_left walk) where
+  module _ (is_place : place_now ≡ record_bytes_left old.walk - record_bytes_left walk) (is_size : size ≡ min count (length window)) (all : length window + length others ≡ record_bytes_left walk) (fewer : record_bytes_left walk' ≤ record_bytes_left walk) where
     -- the record's own bytes, and what it says of them
     own_length : length own ≡ size
     own_length = omega (arith, is_size, length-take size window)
@@ -273,13 +276,13 @@ module _ (known : Option (List ℕ)) (old new : ProfileIndex) (walk walk' : Reco
           ∙ (behind_range (all_bytes pieces) whole place_now (length own) at_end
           ∙ (ap (λ (k : ℕ). take k whole) own_length ∙ sym in_front))
 
-      within_all : place_now + length own ≤ bytes_left old.walk
+      within_all : place_now + length own ≤ record_bytes_left old.walk
       within_all = omega (arith, found.left, is_place, own_length, is_size, fewer, all)
 
       bytes_now : all_bytes now ≡ all_bytes pieces ++ take count whole
       bytes_now = flat_map-append (λ (p : Piece). p.bytes) pieces (added ∷ []) ∙ ap (λ (l : List ℕ). all_bytes pieces ++ l) (append-nil (take count whole))
 
-      left_now : length (all_bytes now) + bytes_left walk' ≡ bytes_left old.walk
+      left_now : length (all_bytes now) + record_bytes_left walk' ≡ record_bytes_left old.walk
       left_now = omega (arith, found.left, ap length bytes_now, length-append (all_bytes pieces) (take count whole), whole_length, fewer)
 
       -- what is behind it
@@ -340,14 +343,14 @@ module _ (known : Option (List ℕ)) (old new : ProfileIndex) (walk walk' : Reco
 
         found_now : IsFoundOf known new walk' now
         found_now = record {
-          places = map-append place_of pieces (added ∷ []) ∙ (ap (λ (l : List RecordPlace). l ++ added.place ∷ []) found.places ∙ sym places);
+          places = map-append piece_place pieces (added ∷ []) ∙ (ap (λ (l : List RecordPlace). l ++ added.place ∷ []) found.places ∙ sym places);
           each =
               subst (λ (w : RecordWalk). All (IsPieceOf known w (kept_of new.records)) now) (sym same_walk)
               (subst (λ (l : List ℕ). All (IsPieceOf known old.walk l) now) (sym kept) pieces_now);
           kernel = subst (λ (k : Option ℕ). IsKernelAt k now) (sym kernel) (kernel_added pieces r place_now (length own) (length (kept_of old.records)) (take count whole) old.kernel found.kernel);
           tally = subst (λ (l : List Record). IsTallyOf new.tally l) (sym (map-append record_of pieces (added ∷ []))) (tally (map record_of pieces) found.tally);
           no_error = error ∙ found.no_error;
-          left = left_now ∙ ap bytes_left (sym same_walk);
+          left = left_now ∙ ap record_bytes_left (sym same_walk);
           walk_on = λ bytes. walk_on bytes ∙ (found.walk_on bytes ∙ ap (λ (w : RecordWalk). records_in w bytes) (sym same_walk));
           alone = λ bytes. same_alone bytes ∙ (found.alone bytes ∙ ap (λ (w : RecordWalk). record_alone w bytes) (sym same_walk));
           indexed = subst (λ (w : RecordWalk). IfSome known (λ file. AreIndexed w (records_bytes w file) new.records (map record_of now))) (sym same_walk) (indexed_now known is found.indexed);
@@ -366,7 +369,7 @@ module _ (known : Option (List ℕ)) (old new : ProfileIndex) (walk walk' : Reco
 -- ---- no more
 
 module _ (known : Option (List ℕ)) (old new : ProfileIndex) (walk walk' : RecordWalk) (pieces : List Piece) (window others : List ℕ) where
-  pub all_found : IsFoundOf known old walk pieces → length window + length others ≡ bytes_left walk → AreBehind old walk pieces window known others → new.walk ≡ old.walk → new.records ≡ old.records → new.kernel ≡ old.kernel → new.tally ≡ old.tally
+  pub all_found : IsFoundOf known old walk pieces → length window + length others ≡ record_bytes_left walk → AreBehind old walk pieces window known others → new.walk ≡ old.walk → new.records ≡ old.records → new.kernel ≡ old.kernel → new.tally ≡ old.tally
       → records_in walk (window ++ others) ≡ no_records new.error → IsNextIn known new walk' window None
   all_found found all is same_walk records kernel tally ends = (
     pieces,
@@ -379,7 +382,7 @@ module _ (known : Option (List ℕ)) (old new : ProfileIndex) (walk walk' : Reco
       kernel = subst (λ (k : Option ℕ). IsKernelAt k pieces) (sym kernel) found.kernel;
       tally = subst (λ (t : Tally). IsTallyOf t (map record_of pieces)) (sym tally) found.tally;
       ends = ap (λ (w : RecordWalk). records_in w (window ++ others)) same_walk ∙ (sym (found.walk_on (window ++ others)) ∙ ends);
-      left = omega (arith, all, found.left, length-append window others, ap bytes_left same_walk);
+      left = omega (arith, all, found.left, length-append window others, ap record_bytes_left same_walk);
       file = in_file_too known is found.indexed;
     },
   )
@@ -396,12 +399,12 @@ module _ (known : Option (List ℕ)) (old new : ProfileIndex) (walk walk' : Reco
 -- ---- another window
 
 module _ (index : ProfileIndex) (walk : RecordWalk) (pieces : List Piece) (old window : List ℕ) (offset size : ℕ) where
-  pub read_on : (known : Option (List ℕ)) → IsFoundOf known index walk pieces → IsWindowIn known index walk pieces old → offset ≡ bytes_left index.walk - bytes_left walk → size ≤ bytes_left walk
-      → IsPartOf known index.walk offset size window → IsWindowIn known index walk pieces window
+  pub read_on : (known : Option (List ℕ)) → IsFoundOf known index walk pieces → IsWindowIn known index walk pieces old → offset ≡ record_bytes_left index.walk - record_bytes_left walk → size ≤ record_bytes_left walk
+      → IsRecordsPart known index.walk offset size window → IsWindowIn known index walk pieces window
   read_on None found (fits, none) at few (long, part) = (omega (arith, long, few), tt)
   read_on (Some file) found (fits, (behind, is)) at few (long, part) =
       let rest : List ℕ = old ++ behind in
-      let inside : offset + size ≤ bytes_left index.walk = omega (arith, found.left, at, few) in
+      let inside : offset + size ≤ record_bytes_left index.walk = omega (arith, found.left, at, few) in
       let here : offset ≡ length (all_bytes pieces) = omega (arith, found.left, at) in
       let same : take size rest ≡ window =
       sym (behind_range (all_bytes pieces) rest offset size here) ∙ (ap (λ (l : List ℕ). slice_range l offset (offset + size)) (sym is) ∙ part inside) in

@@ -8,7 +8,7 @@ use Rattle.std.proofs.lemmas.List.FromFn.{get_or-map-range_with_len, length-map-
 use Rattle.cfi_expression.specs.declared.error.FrameError.{FrameError}
 use Rattle.cfi_expression.specs.declared.error.FrameError.TheVariants.{UnknownRegister, UnreadableMemory}
 use Rattle.cfi_expression.specs.Frames.{known}
-use Rattle.cfi_expression.specs.Stacks.{map_value}
+use Rattle.cfi_read_core.specs.ReaderCalls.{map_ok}
 use Rattle.cfi_expression.proofs.LesserFrames.{AreKnown, is_lacking, lacks}
 use Rattle.cfi_step.specs.declared.step.Caller.{Caller}
 use Rattle.cfi_step.specs.declared.walk.End.{End}
@@ -88,8 +88,8 @@ module _ (f g : ℕ → Option ℕ) where
 -- ---- what may be known only where more is
 
 -- a caller by a number that is known
-pub by_mapped : (f : ℕ → Caller) (o o' : Option ℕ) (e : FrameError) → is_lacking e ≡ true → ((n : ℕ) → o ≡ Some n → o' ≡ Some n) → lacks (map_value f (ok_or o e)) ≡ false → map_value f (ok_or o e) ≡ map_value f (ok_or o' e)
-by_mapped f (Some n) o' e lacking more whole = ap (λ (o : Option ℕ). map_value f (ok_or o e)) (sym (more n refl))
+pub by_mapped : (f : ℕ → Caller) (o o' : Option ℕ) (e : FrameError) → is_lacking e ≡ true → ((n : ℕ) → o ≡ Some n → o' ≡ Some n) → lacks (map_ok f (ok_or o e)) ≡ false → map_ok f (ok_or o e) ≡ map_ok f (ok_or o' e)
+by_mapped f (Some n) o' e lacking more whole = ap (λ (o : Option ℕ). map_ok f (ok_or o e)) (sym (more n refl))
 by_mapped f None o' e lacking more whole = absurd (true≢false (sym lacking ∙ whole))
 
 -- the same where more follows

@@ -12,7 +12,7 @@ use Rattle.cfi_step.specs.Walks.{State, checked}
 use Rattle.cfi_step.proofs.LesserWalks.{AreMore, Goes, Stepped, lacks_end, lacks_step, state}
 use Rattle.cfi_processes.specs.declared.registers.SampleMachine.{SampleMachine}
 use Rattle.cfi_processes.specs.declared.registers.SampleMachine.TheVariants.{X86_64, AArch64}
-use Rattle.cfi_processes.specs.Registers.{abi_of}
+use Rattle.cfi_processes.specs.Registers.{machine_abi}
 use Rattle.cfi_stacks.specs.MissingFrames.{has_no_frames}
 use Rattle.cfi_stacks.specs.NullCalls.{IsNullOr, IsNullStep, by_link, by_pushed, called_from, caller_of, caller_registers, is_null, is_null_call, value_in_caller}
 use Rattle.cfi_stacks.proofs.MissingLemmas.{and_first, as_many_mapped, by_mapped, by_value, frames_whole, known_mapped, raw_whole}
@@ -38,7 +38,7 @@ module _ {m m' : ℕ → ℕ → Option ℕ} (more : Extends m m') where
     value_if false the_cfa k n is = are.each k n is
 
     value_more : (machine : SampleMachine) (the_cfa k n : ℕ) → value_in_caller machine rs the_cfa k ≡ Some n → value_in_caller machine rs' the_cfa k ≡ Some n
-    value_more machine the_cfa k n is = value_if (k == (abi_of machine).stack_pointer.0) the_cfa k n is
+    value_more machine the_cfa k n is = value_if (k == (machine_abi machine).stack_pointer.0) the_cfa k n is
 
     goes_called : (machine : SampleMachine) (raw : Result Caller FrameError) (at : Start) (result : Result Caller End) (count count' : ℕ) (left left' : List (Option ℕ)) → count ≡ count' → result ≡ checked at raw
         → Goes result (caller_registers machine rs raw count left) (caller_registers machine rs' raw count' left')

@@ -5,7 +5,7 @@ use Rattle.std.proofs.lemmas.List.{drop_all}
 use Rattle.std.specs.List.{flat_map}
 use Rattle.cfi_programs.specs.JsonLines.{separated}
 use Rattle.cfi_programs.proofs.WrittenLemmas.{IsGiven}
-use Rattle.cfi_stacks.specs.StackObjects.{comma, frame_object, is_nil}
+use Rattle.cfi_stacks.specs.FrameObjects.{comma_before, frame_object, is_nil}
 use Rattle.cfi_processes.specs.Sites.{Site}
 
 -- ---- a list, object by object
@@ -14,7 +14,7 @@ use Rattle.cfi_processes.specs.Sites.{Site}
 abbrev pub led : {X : Type 0} → (X → List ℕ) → X → List ℕ
 led object x = codes "," ++ object x
 
-one_object : (is_first : Bool) (object more : List ℕ) → separated is_first ((codes "," ++ object) ++ more) ≡ (comma is_first ++ object) ++ separated false more
+one_object : (is_first : Bool) (object more : List ℕ) → separated is_first ((codes "," ++ object) ++ more) ≡ (comma_before is_first ++ object) ++ separated false more
 one_object true object more = refl
 one_object false object more = refl
 
@@ -24,18 +24,18 @@ no_object false = refl
 
 module _ {X : Type 0} (object : X → List ℕ) (old now : Option (List ℕ)) (is_first : Bool) (whole : List ℕ) where
   -- the first of what is left
-  pub next_object : (left rest : List X) (x : X) (line : List ℕ) → left ≡ x ∷ rest → line ≡ comma is_first ++ object x → IsGiven old now (separated is_first (flat_map (led object) left)) whole
+  pub next_object : (left rest : List X) (x : X) (line : List ℕ) → left ≡ x ∷ rest → line ≡ comma_before is_first ++ object x → IsGiven old now (separated is_first (flat_map (led object) left)) whole
       → IsGiven old now (line ++ separated false (flat_map (led object) rest)) whole
   next_object left rest x line first is given =
       subst (λ (text : List ℕ). IsGiven old now text whole)
       (ap (λ (xs : List X). separated is_first (flat_map (led object) xs)) first ∙ (one_object is_first (object x) (flat_map (led object) rest) ∙ ap (λ (front : List ℕ). front ++ separated false (flat_map (led object) rest)) (sym is))) given
 
-  pub object_at : (xs : List X) (i : ℕ) (d : X) (line : List ℕ) → i < length xs → line ≡ comma is_first ++ object (get_or xs i d) → IsGiven old now (separated is_first (flat_map (led object) (drop i xs))) whole
+  pub object_at : (xs : List X) (i : ℕ) (d : X) (line : List ℕ) → i < length xs → line ≡ comma_before is_first ++ object (get_or xs i d) → IsGiven old now (separated is_first (flat_map (led object) (drop i xs))) whole
       → IsGiven old now (line ++ separated false (flat_map (led object) (drop (i + 1) xs))) whole
   object_at xs i d line inside is given = next_object (drop i xs) (drop (i + 1) xs) (get_or xs i d) line (rw (drop-cons xs i d, add-one) refl) is given
 
 -- the comma is a part of the beginning
-pub opened : (is_first raw : Bool) (before : List ℕ) (site : Site) (after : List ℕ) → frame_object raw (comma is_first ++ before) site after ≡ comma is_first ++ frame_object raw before site after
+pub opened : (is_first raw : Bool) (before : List ℕ) (site : Site) (after : List ℕ) → frame_object raw (comma_before is_first ++ before) site after ≡ comma_before is_first ++ frame_object raw before site after
 opened true raw before site after = refl
 opened false raw before site after = refl
 

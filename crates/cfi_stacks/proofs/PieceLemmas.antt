@@ -13,13 +13,13 @@ use Rattle.cfi_perf.specs.declared.index.PlaceKind.TheVariants.{InFile, Kept, No
 use Rattle.cfi_perf.specs.declared.index.RecordPlace.{RecordPlace}
 use Rattle.cfi_perf.specs.declared.windows.RecordWalk.{RecordWalk}
 use Rattle.cfi_perf.specs.Events.{OtherEvent, Record}
-use Rattle.cfi_perf.specs.Indexes.{AreAt, IsInTimeOrder, bytes_at, kept_of, places_of, record_by}
-use Rattle.cfi_perf.specs.Records.{Records, no_records, with_first}
-use Rattle.cfi_perf.specs.Windows.{bytes_left, record_alone, records_in}
+use Rattle.cfi_perf.specs.Indexes.{AreAt, IsInTimeOrder, record_bytes, kept_of, places_of, record_by}
+use Rattle.cfi_perf.specs.Records.{Records, no_records, with_record}
+use Rattle.cfi_perf.specs.Windows.{record_bytes_left, record_alone, records_in}
 use Rattle.cfi_perf.proofs.PieceSteps.{then_others}
-use Rattle.cfi_processes.specs.Replays.{has_kernel_frames}
+use Rattle.cfi_processes.specs.WantedFiles.{has_kernel_frames}
 use Rattle.cfi_stacks.specs.declared.profile_index.ProfileIndex.{ProfileIndex}
-use Rattle.cfi_stacks.specs.ProfileIndexes.{AreRecordsOf, IsIndexOf, IsKernelAt, IsKernelFit, IsPieceOf, IsPlacedIn, IsReadAt, IsReadBy, Piece, all_bytes, place_of, record_of, records_bytes}
+use Rattle.cfi_stacks.specs.ProfileIndexes.{AreRecordsOf, IsIndexOf, IsKernelAt, IsKernelFit, IsPieceOf, IsPlacedIn, IsReadAt, IsReadBy, Piece, all_bytes, piece_place, record_of, records_bytes}
 use Rattle.cfi_stacks.proofs.ReadLemmas.{behind_these}
 
 -- ---- one of a list in the place of another
@@ -66,19 +66,19 @@ module _ (known : Option (List ℕ)) (walk : RecordWalk) (kept : List ℕ) where
   all_read (p ∷ pieces) rest are =
       ap (records_in walk) (append_assoc p.bytes (all_bytes pieces) rest)
       ∙ (then_others walk p.bytes p.found (are 0 p (omega arith)).alone (all_bytes pieces ++ rest)
-      ∙ ap (with_first p.found) (all_read pieces rest (later p pieces are)))
+      ∙ ap (with_record p.found) (all_read pieces rest (later p pieces are)))
 
-  pub in_time : (pieces : List Piece) → ArePieces pieces → IsSortedByKey (λ p. p.time) nat_cmp (map place_of pieces) → IsSortedByKey (λ r. r.time) nat_cmp (map record_of pieces)
+  pub in_time : (pieces : List Piece) → ArePieces pieces → IsSortedByKey (λ p. p.time) nat_cmp (map piece_place pieces) → IsSortedByKey (λ r. r.time) nat_cmp (map record_of pieces)
   in_time pieces are sorted =
       λ k d low high.
       let e : RecordPlace = record { time = d.time; offset = 0; size = 0; kind = Nothing } in
       let q : Piece = record { place = e; bytes = []; found = d } in
       let inside : k + 1 < length pieces = omega (arith, high, length-map pieces record_of) in
-      let time_at : (j : ℕ) → j < length pieces → (get_or (map record_of pieces) j d).time ≡ (get_or (map place_of pieces) j e).time = λ j w.
-      ap (λ (r : Record). r.time) (get_or-map record_of pieces j q d w) ∙ (sym (are j q w).time ∙ ap (λ (p : RecordPlace). p.time) (sym (get_or-map place_of pieces j q e w))) in
+      let time_at : (j : ℕ) → j < length pieces → (get_or (map record_of pieces) j d).time ≡ (get_or (map piece_place pieces) j e).time = λ j w.
+      ap (λ (r : Record). r.time) (get_or-map record_of pieces j q d w) ∙ (sym (are j q w).time ∙ ap (λ (p : RecordPlace). p.time) (sym (get_or-map piece_place pieces j q e w))) in
       let later = time_at (k + 1) inside in
       let sooner = time_at k (omega (arith, inside)) in
-      (λ i. is_lt (nat_cmp (later i) (sooner i))) ∙ sorted k e low (omega (arith, inside, length-map pieces place_of))
+      (λ i. is_lt (nat_cmp (later i) (sooner i))) ∙ sorted k e low (omega (arith, inside, length-map pieces piece_place))
 
 -- ---- those of a file whose bytes are known
 
@@ -94,7 +94,7 @@ module _ (file : List ℕ) (walk : RecordWalk) (kept : List ℕ) where
       let e : record { time = p.place.time; event = OtherEvent } ≡ r = cc in
       sym e ∙ (λ i. record { time = time i; event = sym none i })
 
-  pub same_at : (pieces : List Piece) (records : List Record) → All (IsPieceOf (Some file) walk kept) pieces → AreAt walk (records_bytes walk file) kept (map place_of pieces) records → records ≡ map record_of pieces
+  pub same_at : (pieces : List Piece) (records : List Record) → All (IsPieceOf (Some file) walk kept) pieces → AreAt walk (records_bytes walk file) kept (map piece_place pieces) records → records ≡ map record_of pieces
   same_at [] records are at = at
   same_at (p ∷ pieces) records are (r, others, is, (time, found, within), rest) =
       let here = are 0 p (omega arith) in
@@ -136,8 +136,8 @@ module _ (known : Option (List ℕ)) (index : ProfileIndex) where
 
   -- at the end there is as much as before
   still_whole : (pieces : List Piece) (i : ℕ) (new d : Piece) → i < length pieces → length new.bytes ≡ length (get_or pieces i d).bytes
-      → (rest : List ℕ) × (records_in index.walk rest ≡ no_records index.error) × (length (all_bytes pieces) + length rest ≡ bytes_left index.walk)
-      → (rest : List ℕ) × (records_in index.walk rest ≡ no_records index.error) × (length (all_bytes (set pieces i new)) + length rest ≡ bytes_left index.walk)
+      → (rest : List ℕ) × (records_in index.walk rest ≡ no_records index.error) × (length (all_bytes pieces) + length rest ≡ record_bytes_left index.walk)
+      → (rest : List ℕ) × (records_in index.walk rest ≡ no_records index.error) × (length (all_bytes (set pieces i new)) + length rest ≡ record_bytes_left index.walk)
   still_whole pieces i new d inside same (rest, ends, left) = (rest, ends, omega (arith, left, set_bytes pieces i new d inside same))
 
   other_kernel : (pieces : List Piece) (i : ℕ) (new : Piece) (first : ℕ) → i < length pieces → (get_or pieces i new).place ≡ new.place → IsKernelFit (Some first) new.place.offset new.found.event → new.place.kind ≡ InFile
@@ -160,7 +160,7 @@ module _ (known : Option (List ℕ)) (index : ProfileIndex) where
   replaced : (pieces : List Piece) (i : ℕ) (new : Piece) → IsIndexOf known index pieces → i < length pieces → (get_or pieces i new).place ≡ new.place → IsPieceOf known index.walk kept new
       → length new.bytes ≡ length (get_or pieces i new).bytes → IsKernelFit index.kernel new.place.offset new.found.event → new.place.kind ≡ InFile → IsIndexOf known index (set pieces i new)
   replaced pieces i new is inside same piece long fit kind = record {
-    places = map_set_same place_of pieces i new new inside (sym same) ∙ is.places;
+    places = map_set_same piece_place pieces i new new inside (sym same) ∙ is.places;
     each = All-set (IsPieceOf known index.walk kept) pieces i new piece is.each;
     kernel = still_kernel index.kernel pieces i new inside same fit kind is.kernel;
     by_time = is.by_time;
@@ -204,15 +204,15 @@ module _ (known : Option (List ℕ)) (index : ProfileIndex) where
             ∙ ap (λ (p : Piece). take i (map record_of pieces) ++ p.found ∷ []) (get_or-set_same pieces i new new inside),
       )
     where
-      of_file : (known : Option (List ℕ)) → IfSome known (λ file. (get_or pieces i d).place.offset + (get_or pieces i d).place.size ≤ bytes_left index.walk → bytes_at (get_or pieces i d).place (records_bytes index.walk file) ≡ bytes)
-          → IfSome known (λ file. bytes_at (get_or pieces i d).place (records_bytes index.walk file) ≡ bytes)
+      of_file : (known : Option (List ℕ)) → IfSome known (λ file. (get_or pieces i d).place.offset + (get_or pieces i d).place.size ≤ record_bytes_left index.walk → record_bytes (get_or pieces i d).place (records_bytes index.walk file) ≡ bytes)
+          → IfSome known (λ file. record_bytes (get_or pieces i d).place (records_bytes index.walk file) ≡ bytes)
       of_file None part = tt
       of_file (Some file) part = part within
 
   pub next_piece : (pieces : List Piece) (i : ℕ) (place : RecordPlace) (r : Record) → IsIndexOf known index pieces → i < length (places_of index.records) → place ≡ get_or (places_of index.records) i place → IsReadAt known index place r → IsNext pieces i r
   next_piece pieces i place r is inside at read =
       let d : Piece = record { place = place; bytes = []; found = r } in
-      let within : i < length pieces = omega (arith, inside, ap length is.places, length-map pieces place_of) in
-      let here : (get_or pieces i d).place ≡ place = sym (get_or-map place_of pieces i d place within) ∙ (ap (λ (l : List RecordPlace). get_or l i place) is.places ∙ sym at) in
+      let within : i < length pieces = omega (arith, inside, ap length is.places, length-map pieces piece_place) in
+      let here : (get_or pieces i d).place ≡ place = sym (get_or-map piece_place pieces i d place within) ∙ (ap (λ (l : List RecordPlace). get_or l i place) is.places ∙ sym at) in
       let piece = is.each i d within in
       next_by (get_or pieces i d).place.kind pieces i d r is within refl piece.placed (subst (λ (p : RecordPlace). IsReadAt known index p r) (sym here) read)

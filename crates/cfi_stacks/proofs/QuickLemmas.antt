@@ -1,22 +1,22 @@
 -- A core file of which parts were read: what is printed of it is what is printed of the whole file.
-use Rattle.std.proofs.Common.{◌≡◌, ◌∙◌, ◌==◌, ◌&&◌, ◌||◌, ◌⊎◌, ℕ, Bool, true, false, not, List, [], ◌∷◌, map, cond, length, Option, Some, None, Result, Ok, Err, IfOk, IfSome, refl, sym, ap, ap₂, subst, inl, inr, take, arith}
+use Rattle.std.proofs.Common.{◌≡◌, ◌∙◌, ◌==◌, ◌&&◌, ◌||◌, ◌⊎◌, ℕ, Bool, true, false, not, List, [], ◌∷◌, map, cond, Option, Some, None, Result, Ok, Err, IfOk, IfSome, refl, sym, ap, ap₂, subst, inl, inr, take, arith}
 use Rattle.std.specs.Prelude.{if◌then◌else◌}
 use borrow.Author.Tests.{eqb-true}
 use Rattle.std.proofs.lemmas.Bool.Decides.{nat_tests}
-use Rattle.cfi_processes.specs.Wanted.{id_of}
+use Rattle.cfi_processes.specs.FileBuilds.{id_of}
 use Rattle.std.specs.List.{find, fold}
 use Rattle.std.specs.List.Sorted.{IsNonDecreasingBy}
 use Rattle.std.specs.Option.{option_and_then, option_map}
 use Rattle.std.specs.Str.{bytes_eq}
-use Rattle.cfi_read_core.specs.declared.endianity.RunTimeEndian.{RunTimeEndian}
 use Rattle.cfi_read_core.specs.ByteOrder.{is_big}
 use Rattle.cfi_read_core.specs.ReadFunctions.{Position}
-use Rattle.cfi_read_core.specs.SliceReaders.{EndianSlice, slice_over, slice_position}
+use Rattle.cfi_read_core.specs.SliceReaders.{slice_over, slice_position}
 use Rattle.cfi_elf.specs.Options.{or_else}
 use Rattle.cfi_elf.specs.declared.program_header.ProgramHeader.{ProgramHeader}
 use Rattle.cfi_expression.specs.Windows.{number_in}
 use Rattle.cfi_expression.proofs.LesserFrames.{Extends}
 use Rattle.cfi_step.specs.declared.module.LoadedModule.{LoadedModule}
+use Rattle.cfi_step.specs.declared.walk.StackFrame.{StackFrame}
 use Rattle.cfi_step.specs.declared.walk.Walk.{Walk}
 use Rattle.cfi_step.specs.declared.step.Caller.{Caller}
 use Rattle.cfi_step.specs.declared.walk.End.{End}
@@ -25,45 +25,50 @@ use Rattle.cfi_step.proofs.LesserWalks.{IsAll, IsLess, steps_more, walk_by_more}
 use Rattle.cfi_processes.specs.declared.mappings.MappedCode.{MappedCode}
 use Rattle.cfi_processes.specs.declared.registers.SampleMachine.{SampleMachine}
 use Rattle.cfi_processes.specs.declared.sample_stack.NoFrames.{NoFrames}
-use Rattle.cfi_processes.specs.KnownFiles.{KnownFile, modules_in}
+use Rattle.cfi_processes.specs.KnownFiles.{KnownFile}
 use Rattle.cfi_processes.specs.Mappings.{mapped_over}
 use Rattle.cfi_processes.specs.OpenedFiles.{Opened}
-use Rattle.cfi_processes.specs.Registers.{abi_of, pc_number, register_count}
-use Rattle.cfi_processes.specs.Replays.{with_file}
+use Rattle.cfi_processes.specs.Registers.{pc_number}
+use Rattle.cfi_processes.specs.Registers.{machine_abi}
+use Rattle.cfi_processes.specs.WantedFiles.{with_file}
 use Rattle.cfi_processes.specs.SampleStacks.{Room}
 use Rattle.cfi_processes.specs.Wanted.{Wanted}
-use Rattle.cfi_cores.specs.Builds.{build_of, image_of, start_of}
+use Rattle.cfi_cores.specs.Builds.{build_of, image_of}
+use Rattle.cfi_cores.specs.Builds.{mapped_start}
 use Rattle.cfi_cores.specs.CoreFiles.{Core}
 use Rattle.cfi_cores.specs.CoreMemories.{CoreMemory}
-use Rattle.cfi_cores.specs.CoreParts.{bytes_if, head_in, is_head, segment_at, with_all}
+use Rattle.cfi_cores.specs.PartialCores.{bytes_if, head_in, is_head, segment_at, with_all}
 use Rattle.cfi_cores.specs.CoreSegments.{CoreSegment, bytes_at}
 use Rattle.cfi_cores.specs.CoreThreads.{CoreThread, register_of}
 use Rattle.cfi_cores.specs.MappedFiles.{CoreMapping}
 use Rattle.cfi_cores.specs.Vdso.{vdso_name}
 use Rattle.cfi_elf.specs.Images.{Image, IsImageOf}
+use Rattle.cfi_object.specs.declared.input.InputError.{InputError}
 use Rattle.cfi_object.specs.FileParts.{AreOfInput}
+use Rattle.cfi_inputs.specs.Refusals.{input_refusal}
 use Rattle.cfi_programs.specs.Lines.{Line}
 use Rattle.cfi_programs.specs.WriterOutput.{Prints, PrintsSome}
-use Rattle.cfi_processes.specs.Modules.{module_view}
 use Rattle.cfi_processes.specs.declared.opened_file.OpenedFile.{OpenedFile}
-use Rattle.cfi_processes.specs.OpenedFiles.{AreOpened, AreOpenedAs}
-use Rattle.cfi_processes.specs.SampleStacks.{HasRoom}
+use Rattle.cfi_processes.specs.OpenedFiles.{AreOpenedAs}
+use Rattle.cfi_processes.specs.FileReads.{AreOpened}
 use Rattle.cfi_processes.specs.Wanted.{FilePlace}
-use Rattle.cfi_cores.specs.declared.core_parts.PartialCore.{PartialCore}
+use Rattle.cfi_cores.specs.declared.partial_cores.PartialCore.{PartialCore}
 use Rattle.cfi_cores.specs.declared.error.CoreError.{CoreError}
 use Rattle.cfi_cores.specs.CoreFiles.{core_view}
-use Rattle.cfi_cores.specs.CoreParts.{IsPartial, IsStackOf}
+use Rattle.cfi_cores.specs.PartialCores.{IsPartial}
+use Rattle.cfi_cores.specs.StackWindows.{IsStackOf}
 use Rattle.cfi_cores.specs.CoreSegments.{number_among}
 use Rattle.cfi_stacks.specs.declared.listing.ThreadListing.{ThreadListing}
-use Rattle.cfi_stacks.specs.CoreOutputs.{AreOpenedFor, IsOfCore, IsOfLacking, IsOfOpened, IsOfRead, IsOwed, IsThreadText, PrintsOwed, lacks_thread, no_thread, thread_in}
-use Rattle.cfi_stacks.specs.CoreOutputs.{and_file, code_file, code_files, is_code, mapped_code, mappings_of, with_vdso}
-use Rattle.cfi_stacks.specs.CoreOutputs.{IsPrinted, ended}
-use Rattle.cfi_stacks.specs.ProfileOutputs.{no_memory, wrong_input_in}
+use Rattle.cfi_stacks.specs.CoreCode.{AreOpenedFor, and_file, core_code_file, core_code_files, core_mapped_code, core_mappings, is_code, with_vdso_file}
+use Rattle.cfi_stacks.specs.CoreOutputs.{AreThreadsPrinted, IsCoreOfOpened, IsCoreOwed, IsOfCore, IsOfLacking, IsOfRead, PrintsCoreOwed, core_ended, no_thread}
+use Rattle.cfi_stacks.specs.AskedThreads.{lacks_thread}
+use Rattle.cfi_stacks.specs.ProfileOutputs.{no_memory}
 use Rattle.cfi_stacks.specs.QuickStacks.{IsStackIn, end_lacks, memory_by, walk_lacks}
 use Rattle.cfi_stacks.proofs.ThreadLemmas.{Printed, printed}
 use Rattle.cfi_stacks.specs.NullCalls.{IsNullStep}
 use Rattle.cfi_stacks.proofs.NullLemmas.{nulls_more}
 use Rattle.cfi_stacks.proofs.SignalLemmas.{signals_more}
+use Rattle.cfi_stacks.specs.StackWalks.{IsThreadWalked}
 use Rattle.cfi_stacks.specs.ThreadStacks.{IsThreadStep, IsUnwound, IsUnwoundFrom, thread_registers}
 
 -- ---- segments that have their bytes only where the first byte of a file is mapped
@@ -96,11 +101,11 @@ eqb_self : (a : ℕ) → (a == a) ≡ true
 eqb_self a = grind (arith, nat_tests)
 
 -- where a file's first byte is mapped is a head
-head_of : (mapped : List CoreMapping) (name : List ℕ) (a : ℕ) → start_of mapped name ≡ Some a → is_head mapped a ≡ true
+head_of : (mapped : List CoreMapping) (name : List ℕ) (a : ℕ) → mapped_start mapped name ≡ Some a → is_head mapped a ≡ true
 head_of [] name a is = absurd (cc)
 head_of (m ∷ mapped) name a is = by (m.offset == 0) (bytes_eq m.name name) refl (head_of mapped name a) is
   where
-    by : (zeroth named : Bool) → (m.offset == 0) ≡ zeroth → (start_of mapped name ≡ Some a → is_head mapped a ≡ true) → option_map (λ m. m.start) (cond (zeroth && named) (Some m) (find (λ m. (m.offset == 0) && bytes_eq m.name name) mapped)) ≡ Some a
+    by : (zeroth named : Bool) → (m.offset == 0) ≡ zeroth → (mapped_start mapped name ≡ Some a → is_head mapped a ≡ true) → option_map (λ m. m.start) (cond (zeroth && named) (Some m) (find (λ m. (m.offset == 0) && bytes_eq m.name name) mapped)) ≡ Some a
         → ((m.offset == 0) && (m.start == a)) || is_head mapped a ≡ true
     by true true first rest is =
         let same : m.start ≡ a = cc in
@@ -116,30 +121,30 @@ module _ (bytes : List ℕ) (core : Core) (places : List ProgramHeader) (heads :
   same_code m = ap (λ (segments : List CoreSegment). is_code segments m) heads ∙ all_same bytes core.mapped m places
 
   same_image : (name : List ℕ) → image_of core.segments core.mapped name ≡ image_of whole.segments core.mapped name
-  same_image name = by (start_of core.mapped name) refl
+  same_image name = by (mapped_start core.mapped name) refl
     where
-      by : (o : Option ℕ) → start_of core.mapped name ≡ o → option_and_then (bytes_at core.segments) o ≡ option_and_then (bytes_at whole.segments) o
+      by : (o : Option ℕ) → mapped_start core.mapped name ≡ o → option_and_then (bytes_at core.segments) o ≡ option_and_then (bytes_at whole.segments) o
       by (Some a) is = ap (λ (segments : List CoreSegment). bytes_at segments a) heads ∙ same_bytes bytes core.mapped a (head_of core.mapped name a is) places
       by None is = refl
 
   same_build : (name : List ℕ) → build_of core.segments core.mapped name ≡ build_of whole.segments core.mapped name
   same_build name = ap (option_and_then id_of) (same_image name)
 
-  same_file : (m : CoreMapping) → code_file core.segments core.mapped m ≡ code_file whole.segments core.mapped m
+  same_file : (m : CoreMapping) → core_code_file core.segments core.mapped m ≡ core_code_file whole.segments core.mapped m
   same_file m =
       ap₂ (λ (b : Bool) (id : Option (List ℕ)). if b && not (bytes_eq m.name vdso_name) then Some (record { name = m.name; build_id = id; process = None }) else None) (same_code m) (same_build m.name)
 
-  pub same_files : code_files core.segments core.mapped ≡ code_files whole.segments core.mapped
+  pub same_files : core_code_files core.segments core.mapped ≡ core_code_files whole.segments core.mapped
   same_files = ap (λ (file : CoreMapping → Option Wanted). fold (λ files m. with_file files (file m)) [] core.mapped) (λ i m. same_file m i)
 
-  pub same_vdso : (opened : List Opened) → with_vdso core opened ≡ with_vdso whole opened
+  pub same_vdso : (opened : List Opened) → with_vdso_file core opened ≡ with_vdso_file whole opened
   same_vdso opened =
       ap₂ (λ (image : Option (List ℕ)) (id : Option (List ℕ)). and_file opened (option_map (λ image. record { name = vdso_name; build_id = id; bytes = Some image; debug = None; process = None; map_name = None }) image))
       (same_image vdso_name) (same_build vdso_name)
 
-  pub same_mappings : (files : List KnownFile) → mappings_of files core.segments core.mapped ≡ mappings_of files whole.segments core.mapped
+  pub same_mappings : (files : List KnownFile) → core_mappings files core.segments core.mapped ≡ core_mappings files whole.segments core.mapped
   same_mappings files =
-      ap (λ (code : CoreMapping → Bool). fold (λ list m. if code m then mapped_over (mapped_code files m) list else list) [] core.mapped) (λ i m. same_code m i)
+      ap (λ (code : CoreMapping → Bool). fold (λ list m. if code m then mapped_over (core_mapped_code files m) list else list) [] core.mapped) (λ i m. same_code m i)
 
 -- ---- a walk over a part of the stack that lacks nothing
 
@@ -158,15 +163,15 @@ module _ {R T : Type 0} (position : R → Position) (number : T → ℕ) (rule_l
 
   -- by call frames alone
   abbrev plain : State → Result Caller End → List (Option ℕ) → Type 0
-  plain = IsLess position number more 8 (abi_of machine) rule_limit stack_limit copies_free modules
+  plain = IsLess position number more 8 (machine_abi machine) rule_limit stack_limit copies_free modules
 
   abbrev plain' : State → Result Caller End → List (Option ℕ) → Type 0
-  plain' = IsAll position number more 8 (abi_of machine) rule_limit stack_limit copies_free modules
+  plain' = IsAll position number more 8 (machine_abi machine) rule_limit stack_limit copies_free modules
 
   by_pc : (pc : Option ℕ) → IsUnwoundFrom position number rule_limit stack_limit copies_free modules machine m thread old result new pc → UnwoundFrom pc
   by_pc (Some pc) (walk, is, (walks, written)) =
       let w = walk_by_more (end_lacks machine) (IsThreadStep position number rule_limit stack_limit copies_free modules machine m) (IsThreadStep position number rule_limit stack_limit copies_free modules machine m')
-      (signals_more more machine (IsNullStep machine m plain) (IsNullStep machine m' plain') (nulls_more more machine plain plain' (steps_more position number more 8 (abi_of machine) rule_limit stack_limit copies_free modules)))
+      (signals_more more machine (IsNullStep machine m plain) (IsNullStep machine m' plain') (nulls_more more machine plain plain' (steps_more position number more 8 (machine_abi machine) rule_limit stack_limit copies_free modules)))
       (record { at = record { pc = pc; is_interrupted = true; callee_cfa = None }; registers = thread_registers machine thread; caller = old.caller })
       (take walk.count new.frames) walk.end new.registers new.caller (ap (walk_lacks machine) (sym is) ∙ whole) walks in
       record {
@@ -202,15 +207,13 @@ each_some None P Q each has = tt
 
 -- ---- a thread whose stack is in a part of the memory
 
-module _ (listing : ThreadListing) (machine : SampleMachine) (files : List KnownFile) (list : List MappedCode) (name : Option (List ℕ)) (thread : CoreThread) where
-  pub text_by_part : (stack : CoreSegment) (view : Position) → view ≡ slice_over stack.bytes false → (memory : ℕ → ℕ → Option ℕ) → IsStackIn memory stack
-      → (modules : List (LoadedModule (EndianSlice RunTimeEndian))) (old : Room) (result : Result Walk NoFrames) (new : Room) → map module_view modules ≡ modules_in files list → HasRoom old.frames → length old.caller ≡ register_count machine
-      → IsUnwound (slice_position is_big) (λ n. n) (Some 192) (Some 4) true modules machine (λ a size. number_in view stack.start a size) thread old result new
-      → walk_lacks machine result ≡ false → IsThreadText listing machine files list memory name thread (thread_in listing files list name thread result new.frames)
-  text_by_part stack view same memory within modules old result new are room registers unwound whole =
+module _ (machine : SampleMachine) (files : List KnownFile) (list : List MappedCode) (thread : CoreThread) where
+  pub walked_by_part : (stack : CoreSegment) (view : Position) → view ≡ slice_over stack.bytes false → (memory : ℕ → ℕ → Option ℕ) → IsStackIn memory stack → (result : Result Walk NoFrames) (frames : List StackFrame)
+      → IsThreadWalked machine files list (λ a size. number_in view stack.start a size) thread result frames → walk_lacks machine result ≡ false → IsThreadWalked machine files list memory thread result frames
+  walked_by_part stack view same memory within result frames (modules, old, new, are, room, registers, unwound, left, has) whole =
       let u = unwound_more (slice_position is_big) (λ n. n) (Some 192) (Some 4) true modules machine (λ a size. number_in view stack.start a size) memory
       (record { numbers = λ a size n is. within a size n (subst (λ (v : Position). number_in v stack.start a size ≡ Some n) same is) }) thread old result new whole unwound in
-      (modules, old, result, u.room, are, room, registers, u.unwound, ap (thread_in listing files list name thread result) (sym u.frames))
+      (modules, old, u.room, are, room, registers, u.unwound, u.frames ∙ left, has)
 
 -- numbers of the segments are those of the memory, whatever else it has
 pub in_memory : (segments lent : List CoreSegment) (stack : CoreSegment) → IsStackOf segments stack → IsStackIn (memory_by segments lent) stack
@@ -229,22 +232,20 @@ memory_same bytes lent hs places same = ap (λ (hs : List ProgramHeader). record
 
 module _ (listing : ThreadListing) {Handle : Type 0} (may_open : FilePlace → Option Handle → Type 0) (remaining : Handle → Option (List ℕ)) where
   -- by files that were opened
-  of_opened : (core : Core) (all : List Opened) (line : Line) → AreOpenedFor may_open remaining core all → lacks_thread listing core ≡ false → IsOfOpened listing core all line → IsOfCore listing may_open remaining core line
+  of_opened : (core : Core) (all : List Opened) (line : Line) → AreOpenedFor may_open remaining core all → lacks_thread listing core ≡ false → IsCoreOfOpened listing core all line → IsOfCore listing may_open remaining core line
   of_opened core all line (opened, are, same) lacks of =
       subst (λ (b : Bool). IsOfLacking listing may_open remaining b core line) (sym lacks)
-      (opened, are, subst (λ (files : List Opened). IsOfOpened listing core files line) same of)
+      (opened, are, subst (λ (files : List Opened). IsCoreOfOpened listing core files line) same of)
 
   pub printed_opened : {E : Type 0} (core : Core) (all : List Opened) (old new : Option (List ℕ)) (result : Result ℕ E) → AreOpenedFor may_open remaining core all → lacks_thread listing core ≡ false
-      → PrintsSome (λ line. IsOfOpened listing core all line ⊎ (line ≡ no_memory listing.format)) old new result
+      → PrintsSome (λ line. IsCoreOfOpened listing core all line ⊎ (line ≡ no_memory listing.format)) old new result
       → PrintsSome (λ line. IsOfCore listing may_open remaining core line ⊎ (line ≡ no_memory listing.format)) old new result
   printed_opened core all old new result are lacks (line, prints, inl of) = (line, prints, inl (of_opened core all line are lacks of))
   printed_opened core all old new result are lacks (line, prints, inr none) = (line, prints, inr none)
 
   -- of an input that isn't read
-  pub unread : {E : Type 0} (bytes : List ℕ) (old new : Option (List ℕ)) (result : Result ℕ E) → PrintsSome (λ line. (line ≡ no_memory listing.format) ⊎ (line ≡ wrong_input_in listing.format)) old new result
-      → PrintsSome (λ line. IsOwed listing may_open remaining bytes line) old new result
-  unread bytes old new result (line, prints, inl none) = (line, prints, inl (inr none))
-  unread bytes old new result (line, prints, inr wrong) = (line, prints, inr wrong)
+  pub unread : {E : Type 0} (bytes : List ℕ) (why : InputError) (old new : Option (List ℕ)) (result : Result ℕ E) → Prints (input_refusal listing.format why) old new result → PrintsSome (λ line. IsCoreOwed listing may_open remaining bytes line) old new result
+  unread bytes why old new result prints = (input_refusal listing.format why, prints, inr (why, refl))
 
   module _ (partial : PartialCore) (image : Image) (each : (bytes : List ℕ) → IsImageOf image bytes → IsPartial bytes partial) where
     abbrev core_in : Core
@@ -264,8 +265,8 @@ module _ (listing : ThreadListing) {Handle : Type 0} (may_open : FilePlace → O
     -- by files that were opened, of which the code has these parts
     pub quick_owed : {E : Type 0} (known : Option (List ℕ)) (opened : List OpenedFile) (line : Line) (old new : Option (List ℕ)) (result : Result ℕ E) → AreOfInput known image
         → (all : List Opened) × AreOpenedFor may_open remaining core_in all × AreOpenedAs opened all → lacks_thread listing core_in ≡ false
-        → ((bytes : List ℕ) → IsImageOf image bytes → IsPartial bytes partial → (all : List Opened) → AreOpenedAs opened all → IsOfOpened listing (core_whole bytes) all line)
-        → Prints line old new result → PrintsOwed listing may_open remaining known old new result
+        → ((bytes : List ℕ) → IsImageOf image bytes → IsPartial bytes partial → (all : List Opened) → AreOpenedAs opened all → IsCoreOfOpened listing (core_whole bytes) all line)
+        → Prints line old new result → PrintsCoreOwed listing may_open remaining known old new result
     quick_owed known opened line old new result (bytes, left, is) (all, are, hold) lacks of prints =
         let p = each bytes is in
         let right = of_opened (core_whole bytes) all line (opened_whole bytes p all are) lacks (of bytes is p all hold) in (
@@ -275,7 +276,7 @@ module _ (listing : ThreadListing) {Handle : Type 0} (may_open : FilePlace → O
         )
 
     pub printed_lacking : {E : Type 0} (known old new : Option (List ℕ)) (result : Result ℕ E) → AreOfInput known image → lacks_thread listing core_in ≡ true
-        → Prints (no_thread listing.format) old new result → PrintsOwed listing may_open remaining known old new result
+        → Prints (no_thread listing.format) old new result → PrintsCoreOwed listing may_open remaining known old new result
     printed_lacking known old new result (bytes, left, is) lacks prints =
         let p = each bytes is in
         let lacking : IsOfCore listing may_open remaining (core_whole bytes) (no_thread listing.format) = subst (λ (b : Bool). IsOfLacking listing may_open remaining b (core_whole bytes) (no_thread listing.format)) (sym lacks) refl in (
@@ -291,7 +292,7 @@ places_in_order known image partial (bytes, left, is) each = (each bytes is).in_
 
 -- memory is refused for an input of which parts were read
 pub refused_of_parts : {E : Type 0} (listing : ThreadListing) {Handle : Type 0} (may_open : FilePlace → Option Handle → Type 0) (remaining : Handle → Option (List ℕ)) (image : Image) (known old new : Option (List ℕ)) (result : Result ℕ E)
-    → AreOfInput known image → Prints (no_memory listing.format) old new result → PrintsOwed listing may_open remaining known old new result
+    → AreOfInput known image → Prints (no_memory listing.format) old new result → PrintsCoreOwed listing may_open remaining known old new result
 refused_of_parts listing may_open remaining image known old new result (bytes, left, is) prints = (bytes, left, (no_memory listing.format, prints, inl (inr refl)))
 
 -- ---- the texts of all threads
@@ -300,7 +301,7 @@ line_is : (text texts : List ℕ) (n m : ℕ) → text ≡ texts → n ≡ m →
 line_is text texts n m a b = ap (λ (t : List ℕ). record { text = t; status = n }) a ∙ ap (λ (k : ℕ). record { text = texts; status = k }) b
 
 pub quick_printed : (listing : ThreadListing) (files : List KnownFile) (memory : ℕ → ℕ → Option ℕ) (core : Core) (first : List CoreThread) (mid new : List ℕ) (status : ℕ) → first ≡ core.threads → Printed listing files memory core first (Some []) (Some mid)
-    → Prints {E = Unit {0}} (ended listing.format [] core.error) (Some mid) (Some new) (Ok status) → IsPrinted listing files memory core (record { text = new; status = status })
+    → Prints {E = Unit {0}} (core_ended listing.format [] core.error) (Some mid) (Some new) (Ok status) → AreThreadsPrinted listing files memory core (record { text = new; status = status })
 quick_printed listing files memory core first mid new status all out end =
     let (line, (written, same), is) = printed listing files memory core {E = Unit {0}} first (Some []) (Some mid) (Some new) (Ok status) all out end in
-    subst (IsPrinted listing files memory core) (sym (line_is new line.text status line.status written same)) is
+    subst (AreThreadsPrinted listing files memory core) (sym (line_is new line.text status line.status written same)) is

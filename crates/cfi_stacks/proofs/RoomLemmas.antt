@@ -1,5 +1,5 @@
--- The rows that are kept for the files of a profile.
-use Rattle.std.proofs.Common.{◌≡◌, ◌∙◌, ◌++◌, ℕ, true, List, Option, Some, length, get_or, take, drop, ap, sym, subst, true≢false}
+-- The room that stacks are walked in: the rows that are kept for the files, and the frames.
+use Rattle.std.proofs.Common.{◌≡◌, ◌∙◌, ◌≤◌, ◌++◌, ℕ, true, List, Option, Some, None, Result, Ok, Err, IfOk, length, get_or, take, drop, ap, sym, subst, true≢false}
 use Rattle.std.specs.List.{length_refill, refill, slice_get}
 use Rattle.std.proofs.Math.Seq.{take-append_seam}
 use Rattle.cfi_read_core.specs.declared.endianity.RunTimeEndian.{RunTimeEndian}
@@ -8,12 +8,20 @@ use Rattle.cfi_read_core.specs.ByteOrder.{is_big}
 use Rattle.cfi_read_core.specs.SliceReaders.{EndianSlice, slice_position}
 use Rattle.cfi_step.specs.declared.cached_rows.CachedRow.{CachedRow}
 use Rattle.cfi_step.specs.declared.walk.StackFrame.{StackFrame}
+use Rattle.cfi_step.specs.declared.walk.Walk.{Walk}
 use Rattle.cfi_step.specs.CachedRows.{AreAlike, AreCachedFor, AreNumbered, KeepsFor}
 use Rattle.cfi_processes.specs.declared.file_code.FileCode.{FileCode}
 use Rattle.cfi_processes.specs.declared.profile_files.ProfileFile.{ProfileFile}
-use Rattle.cfi_processes.specs.FileModules.{AreOfFiles, IsOfFiles}
-use Rattle.cfi_processes.specs.SampleStacks.{HasRoom}
-use Rattle.cfi_stacks.specs.declared.sample_text.Room.{Room}
+use Rattle.cfi_processes.specs.FileModules.{AreModulesOfFiles, IsModuleOfFiles}
+use Rattle.cfi_processes.specs.SampleStacks.{Beginning, HasRoom, IsUnwoundFrom, Room as WalkRoom, beginning_of}
+use Rattle.cfi_processes.specs.SampleStacks.{IsSampleUnwound}
+use Rattle.cfi_perf.specs.Samples.{UserState}
+use Rattle.cfi_processes.specs.declared.registers.SampleMachine.{SampleMachine}
+use Rattle.cfi_processes.specs.declared.sample_stack.NoFrames.{NoFrames}
+use Rattle.cfi_processes.specs.Registers.{pc_number}
+use Rattle.cfi_cores.specs.CoreThreads.{CoreThread, register_of}
+use Rattle.cfi_stacks.specs.ThreadStacks.{IsUnwound as IsThreadUnwound, IsUnwoundFrom as IsThreadUnwoundFrom}
+use Rattle.cfi_stacks.specs.declared.room.Room.{Room}
 use Rattle.cfi_stacks.specs.Rooms.{AreKeptFor, IsRoomFor, KeepsNoRows}
 
 -- a room without rows is one for any files
@@ -37,7 +45,7 @@ one_value {A} {x} {y} o is also = let same : Some x ≡ Some y = sym is ∙ also
 
 module _ (files : List ProfileFile) where
   -- a number has one file
-  alike : (m n : LoadedModule (EndianSlice RunTimeEndian)) → IsOfFiles files m → IsOfFiles files n → AreAlike m n
+  alike : (m n : LoadedModule (EndianSlice RunTimeEndian)) → IsModuleOfFiles files m → IsModuleOfFiles files n → AreAlike m n
   alike m n is_m is_n same =
       let one_file : is_m.0 ≡ is_n.0 = one_value (slice_get files m.file) is_m.1 (ap (slice_get files) same ∙ is_n.1) in
       let one_code : is_m.2.0 ≡ is_n.2.0 = one_value is_m.0.code is_m.2.1 (ap (λ (file : ProfileFile). file.code) one_file ∙ is_n.2.1) in (
@@ -46,13 +54,13 @@ module _ (files : List ProfileFile) where
         is_m.2.2.3 ∙ (ap (λ (code : FileCode). code.object.bases) one_code ∙ sym is_n.2.2.3),
       )
 
-  numbered : (modules : Modules) → AreOfFiles files modules → AreNumbered modules
+  numbered : (modules : Modules) → AreModulesOfFiles files modules → AreNumbered modules
   numbered modules are i d inside j e within = alike (get_or modules j e) (get_or modules i d) (are j e within) (are i d inside)
 
-  rows_of_files : (modules : Modules) (rows : List CachedRow) → AreOfFiles files modules → AreKeptFor files rows → AreRowsFor modules rows
+  rows_of_files : (modules : Modules) (rows : List CachedRow) → AreModulesOfFiles files modules → AreKeptFor files rows → AreRowsFor modules rows
   rows_of_files modules rows are kept i d inside = kept (get_or modules i d) (are i d inside)
 
-  kept_for_files : (modules : Modules) (old new : List CachedRow) → AreOfFiles files modules → KeepsRowsFor modules old new → AreKeptFor files old → AreKeptFor files new
+  kept_for_files : (modules : Modules) (old new : List CachedRow) → AreModulesOfFiles files modules → KeepsRowsFor modules old new → AreKeptFor files old → AreKeptFor files new
   kept_for_files modules old new are keeps kept loaded is = keeps loaded (λ j e within. alike (get_or modules j e) loaded (are j e within) is) (kept loaded is)
 
 -- ---- a walk of a sample
@@ -61,13 +69,13 @@ module _ (files : List ProfileFile) where
 pub room_after : (n : ℕ) (before frames : List StackFrame) → n ≡ length before → HasRoom before → HasRoom (refill n before frames)
 room_after n before frames long has = sym (length_refill n before frames long) ∙ (long ∙ has)
 
-refill-same : (n : ℕ) (before rows : List CachedRow) → n ≡ length rows → refill n before rows ≡ rows
+pub refill-same : {A : Type 0} (n : ℕ) (before rows : List A) → n ≡ length rows → refill n before rows ≡ rows
 refill-same n before rows same = ap (λ k. take k (rows ++ drop (length rows) before)) same ∙ take-append_seam rows _
 
 -- the modules are those that were checked, and the rows those that are lent
-module _ (files : List ProfileFile) (modules checked : Modules) (same : checked ≡ modules) (are : AreOfFiles files modules) where
-  are_checked : AreOfFiles files checked
-  are_checked = subst (AreOfFiles files) (sym same) are
+module _ (files : List ProfileFile) (modules checked : Modules) (same : checked ≡ modules) (are : AreModulesOfFiles files modules) where
+  are_checked : AreModulesOfFiles files checked
+  are_checked = subst (AreModulesOfFiles files) (sym same) are
 
   pub numbered_before : AreNumbered checked
   numbered_before = numbered files checked are_checked
@@ -83,3 +91,27 @@ module _ (files : List ProfileFile) (modules checked : Modules) (same : checked 
 -- the files are the same
 pub still_room_for : (files now : List ProfileFile) (room : Room) → now ≡ files → IsRoomFor files room → IsRoomFor now room
 still_room_for files now room same is = subst (λ (known : List ProfileFile). IsRoomFor known room) (sym same) is
+
+-- ---- the frames of a walk are in the room for them
+
+module _ (modules : Modules) (machine : SampleMachine) (old : WalkRoom) (result : Result Walk NoFrames) (new : WalkRoom) where
+  abbrev Fits : List StackFrame → Result Walk NoFrames → Type 0
+  Fits frames r = IfOk r (λ (walk : Walk). walk.count ≤ length frames)
+
+  refilled : (n : ℕ) (before : List StackFrame) → n ≡ length new.frames → Fits new.frames result → Fits (refill n before new.frames) result
+  refilled n before long fits = subst (λ (frames : List StackFrame). Fits frames result) (sym (refill-same n before new.frames long)) fits
+
+  by_beginning : (stack : List ℕ) (start : Result Beginning NoFrames) → IsUnwoundFrom (slice_position is_big) (λ n. n) (Some 192) (Some 4) true modules machine stack old result new start → Fits new.frames result
+  by_beginning stack (Ok start) (walk, is, (walks, (same, fits, full))) = subst (Fits new.frames) (sym is) fits
+  by_beginning stack (Err reason) (is, same) = subst (Fits new.frames) (sym is) tt
+
+  pub sample_fits : (user : UserState) (n : ℕ) (before : List StackFrame) → n ≡ length new.frames → IsSampleUnwound (slice_position is_big) (λ n. n) (Some 192) (Some 4) true modules machine user old result new → Fits (refill n before new.frames) result
+  sample_fits user n before long is = refilled n before long (by_beginning user.stack (beginning_of machine user) is)
+
+  by_pc : (memory : ℕ → ℕ → Option ℕ) (thread : CoreThread) (pc : Option ℕ) → IsThreadUnwoundFrom (slice_position is_big) (λ n. n) (Some 192) (Some 4) true modules machine memory thread old result new pc → Fits new.frames result
+  by_pc memory thread (Some pc) (walk, is, (walks, (same, fits, full))) = subst (Fits new.frames) (sym is) fits
+  by_pc memory thread None (is, same) = subst (Fits new.frames) (sym is) tt
+
+  pub thread_fits : (memory : ℕ → ℕ → Option ℕ) (thread : CoreThread) (n : ℕ) (before : List StackFrame) → n ≡ length new.frames → IsThreadUnwound (slice_position is_big) (λ n. n) (Some 192) (Some 4) true modules machine memory thread old result new
+      → Fits (refill n before new.frames) result
+  thread_fits memory thread n before long is = refilled n before long (by_pc memory thread (register_of machine thread (pc_number machine)) is)

@@ -19,12 +19,15 @@ use Rattle.cfi_processes.specs.declared.registers.SampleMachine.{SampleMachine}
 use Rattle.cfi_processes.specs.KnownFiles.{KnownFile}
 use Rattle.cfi_stacks.specs.declared.listing.StackStyle.{StackStyle}
 use Rattle.cfi_stacks.specs.Choices.{Choice}
-use Rattle.cfi_stacks.specs.Foldings.{AreTexts, IsTurn}
-use Rattle.cfi_stacks.specs.ProfileOutputs.{AreOfAll, AreStacks, IsPrinted, IsTextOf, Known, KnownSample, behind_text, ended}
+use Rattle.cfi_stacks.specs.Turns.{AreTexts, IsTurn}
+use Rattle.cfi_stacks.specs.KnownSamples.{Known, KnownSample}
+use Rattle.cfi_stacks.specs.Sequences.{AreOfAll}
+use Rattle.cfi_stacks.specs.ChosenStacks.{AreStackTexts, IsTextOf}
+use Rattle.cfi_stacks.specs.ProfileOutputs.{AreStacksPrinted, after_text, profile_ended}
 use Rattle.cfi_stacks.proofs.ChosenLemmas.{GoesOn, limited_none, none_gone, so_far, so_many, turned}
 
 -- a text, and the error that ended the records behind it
-pub behind : (format : Format) (front : List ℕ) (error : Option PerfError) → record { text = front ++ (ended format [] error).text; status = (ended format [] error).status } ≡ ended format front error
+pub behind : (format : Format) (front : List ℕ) (error : Option PerfError) → record { text = front ++ (profile_ended format [] error).text; status = (profile_ended format [] error).status } ≡ profile_ended format front error
 behind format front None = ap (λ (text : List ℕ). record { text = text; status = 0 }) (append-nil front)
 behind format front (Some e) = refl
 
@@ -51,27 +54,27 @@ module _ (style : StackStyle) (machine : SampleMachine) (files : List KnownFile)
       (front ++ text, appends_then old mid new front text given goes, turned files choice (IsTextOf style machine files) first all r left more before now front text is_all some so turn)
 
   pub refused : {E : Type 0} (n : ℕ) (records : List Record) (left : Option ℕ) (now : Known) (old mid new : Option (List ℕ)) (error : Option PerfError) (why : InputError) (r : Result ℕ E) → Followed (take n records) left now old mid
-      → Prints (input_refusal style.format why) mid new r → PrintsSome (λ line. IsPrinted style machine files choice records error line) old new r
+      → Prints (input_refusal style.format why) mid new r → PrintsSome (λ line. AreStacksPrinted style machine files choice records error line) old new r
   refused n records left now old mid new error why r (front, given, so) (written, status) = (
-    behind_text front (input_refusal style.format why),
+    after_text front (input_refusal style.format why),
     (last_written old mid new r front (input_refusal style.format why).text given written, status),
     inr (n, front, so_far files choice (IsTextOf style machine files) (take n records) left now front so, why, refl),
   )
 
   -- or before all of them
-  pub before_all : (records : List Record) (error : Option PerfError) (why : InputError) → IsPrinted style machine files choice records error (input_refusal style.format why)
+  pub before_all : (records : List Record) (error : Option PerfError) (why : InputError) → AreStacksPrinted style machine files choice records error (input_refusal style.format why)
   before_all records error why = inr (0, [], subst (λ (samples : List KnownSample). AreOfAll (IsTextOf style machine files) samples []) (sym (limited_none choice.limit)) refl, why, refl)
 
   -- the text of the next record was begun
   pub broken : {E : Type 0} (n : ℕ) (records : List Record) (r : Record) (left more : Option ℕ) (before now : Known) (old mid new : Option (List ℕ)) (error : Option PerfError) (result : Result ℕ E) (text : List ℕ) → IsErr result
       → take (n + 1) records ≡ take n records ++ r ∷ [] → option_eq nat_eq left (Some 0) ≡ false → Followed (take n records) left before old mid → IsTurn (IsTextOf style machine files) files choice before left r now more text
-      → ((begun : List ℕ) × Appends mid new begun × IsBeginning begun text) → PrintsSome (λ line. IsPrinted style machine files choice records error line) old new result
+      → ((begun : List ℕ) × Appends mid new begun × IsBeginning begun text) → PrintsSome (λ line. AreStacksPrinted style machine files choice records error line) old new result
   broken n records r left more before now old mid new error result text err is_next some (front, given, so) turn begun =
       let refusal : Line = input_refusal style.format OutOfMemory in
       let whole : List ℕ = (front ++ text) ++ refusal.text in
       let are = so_far files choice (IsTextOf style machine files) (take (n + 1) records) more now (front ++ text)
       (turned files choice (IsTextOf style machine files) (take n records) (take (n + 1) records) r left more before now front text is_next some so turn) in (
-        behind_text (front ++ text) refusal,
+        after_text (front ++ text) refusal,
         (
           writes_refused old new result whole err
               (beginning_then old mid new text refusal.text whole (record { front = front; given = given; whole = sym (append_assoc front text refusal.text) }) begun),
@@ -81,26 +84,26 @@ module _ (style : StackStyle) (machine : SampleMachine) (files : List KnownFile)
       )
 
   -- all that are printed were
-  ended_with : {E : Type 0} (records : List Record) (old mid new : Option (List ℕ)) (error : Option PerfError) (r : Result ℕ E) (front : List ℕ) → Appends old mid front → AreStacks style machine files choice records front
-      → Prints (ended style.format [] error) mid new r → PrintsSome (λ line. IsPrinted style machine files choice records error line) old new r
+  ended_with : {E : Type 0} (records : List Record) (old mid new : Option (List ℕ)) (error : Option PerfError) (r : Result ℕ E) (front : List ℕ) → Appends old mid front → AreStackTexts style machine files choice records front
+      → Prints (profile_ended style.format [] error) mid new r → PrintsSome (λ line. AreStacksPrinted style machine files choice records error line) old new r
   ended_with records old mid new error r front given are (written, status) = (
-    record { text = front ++ (ended style.format [] error).text; status = (ended style.format [] error).status },
-    (last_written old mid new r front (ended style.format [] error).text given written, status),
+    record { text = front ++ (profile_ended style.format [] error).text; status = (profile_ended style.format [] error).status },
+    (last_written old mid new r front (profile_ended style.format [] error).text given written, status),
     inl (front, are, behind style.format front error),
   )
 
   pub printed : {E : Type 0} (first records : List Record) (left : Option ℕ) (now : Known) (old mid new : Option (List ℕ)) (error : Option PerfError) (r : Result ℕ E) → first ≡ records → Followed first left now old mid
-      → Prints (ended style.format [] error) mid new r → PrintsSome (λ line. IsPrinted style machine files choice records error line) old new r
+      → Prints (profile_ended style.format [] error) mid new r → PrintsSome (λ line. AreStacksPrinted style machine files choice records error line) old new r
   printed first records left now old mid new error r all (front, given, so) prints =
       ended_with records old mid new error r front given
-      (subst (λ (of : List Record). AreStacks style machine files choice of front) all (so_far files choice (IsTextOf style machine files) first left now front so)) prints
+      (subst (λ (of : List Record). AreStackTexts style machine files choice of front) all (so_far files choice (IsTextOf style machine files) first left now front so)) prints
 
   -- no more may be printed
   pub printed_many : {E : Type 0} (n : ℕ) (records : List Record) (left : Option ℕ) (now : Known) (old mid new : Option (List ℕ)) (error : Option PerfError) (r : Result ℕ E) → option_eq nat_eq left (Some 0) ≡ true → Followed (take n records) left now old mid
-      → Prints (ended style.format [] error) mid new r → PrintsSome (λ line. IsPrinted style machine files choice records error line) old new r
+      → Prints (profile_ended style.format [] error) mid new r → PrintsSome (λ line. AreStacksPrinted style machine files choice records error line) old new r
   printed_many n records left now old mid new error r full (front, given, so) prints =
       ended_with records old mid new error r front given
-      (subst (λ (of : List Record). AreStacks style machine files choice of front) (take-append-drop n records) (so_many files choice (IsTextOf style machine files) (take n records) (drop n records) left now front full so)) prints
+      (subst (λ (of : List Record). AreStackTexts style machine files choice of front) (take-append-drop n records) (so_many files choice (IsTextOf style machine files) (take n records) (drop n records) left now front full so)) prints
 
 -- the text of a sample alone
 pub text_alone : (style : StackStyle) (machine : SampleMachine) (files : List KnownFile) (known : Known) (time : ℕ) (s : Sample) (text : List ℕ) → IsTextOf style machine files (record { known = known; time = time; sample = s }) text

@@ -18,9 +18,10 @@ use Rattle.cfi_processes.specs.KnownFiles.{KnownFile}
 use Rattle.cfi_stacks.specs.declared.listing.StackStyle.{StackStyle}
 use Rattle.cfi_stacks.specs.declared.profile_index.ProfileIndex.{ProfileIndex}
 use Rattle.cfi_stacks.specs.Choices.{Choice}
-use Rattle.cfi_stacks.specs.Foldings.{AddsAll, CountsTurn, IsKnownAfter, IsTurn, PrintsRecord, PrintsTurn}
+use Rattle.cfi_stacks.specs.Turns.{AddsAll, CountsTurn, IsKnownAfter, IsTurn, PrintsRecord, PrintsTurn}
 use Rattle.cfi_stacks.specs.ProfileIndexes.{IsReadAt}
-use Rattle.cfi_stacks.specs.ProfileOutputs.{IsSampleOf, IsTextOf, Known, KnownSample}
+use Rattle.cfi_stacks.specs.ChosenStacks.{IsSampleOf, IsTextOf}
+use Rattle.cfi_stacks.specs.KnownSamples.{Known, KnownSample}
 
 pub no_sample : (e : EventOfCode) → ((s : SampleOfCode) → e ≡ events.Sample s → ⊥) → is_sample (event_view e) ≡ false
 no_sample (events.Mapping m) not = refl

@@ -2,24 +2,27 @@
 use Rattle.std.proofs.Common.{◌≡◌, ◌∙◌, ◌⊎◌, ◌+◌, ℕ, Bool, List, Option, Some, None, Result, Ok, Err, ap, inl, inr, map, refl, replicate, subst, sym}
 use Rattle.std.proofs.lemmas.List.{length-replicate}
 use Rattle.std.specs.Prelude.{slice_range}
-use Rattle.cfi_object.specs.FileParts.{AreLeft}
+use Rattle.cfi_object.specs.FileInputs.{AreLeft}
 use Rattle.cfi_perf.specs.declared.error.PerfError.{PerfError}
 use Rattle.cfi_perf.specs.declared.windows.RecordWalk.{RecordWalk}
 use Rattle.cfi_perf.specs.Events.{Record}
 use Rattle.cfi_perf.specs.Profiles.{Profile, profile, records_by}
 use Rattle.cfi_perf.specs.ProfilesAround.{IsProfileAround, profile_around}
 use Rattle.cfi_perf.specs.Records.{Records}
-use Rattle.cfi_perf.specs.Sections.{ProfileHead}
-use Rattle.cfi_perf.specs.Windows.{bytes_left, place_in, records_in}
+use Rattle.cfi_perf.specs.ProfileHeads.{ProfileHead}
+use Rattle.cfi_perf.specs.Windows.{records_in}
+use Rattle.cfi_perf.specs.Windows.{record_bytes_left, next_place}
 use Rattle.cfi_perf.proofs.AroundLemmas.{is_around}
 use Rattle.cfi_programs.specs.declared.style.Format.{Format}
 use Rattle.cfi_programs.specs.Lines.{Line}
 use Rattle.cfi_programs.specs.WriterOutput.{Prints, PrintsSome}
 use Rattle.cfi_processes.specs.declared.registers.SampleMachine.{SampleMachine}
 use Rattle.cfi_processes.specs.KnownFiles.{KnownFile}
-use Rattle.cfi_processes.specs.OpenedFiles.{AreFilesOf, AreOpened, Opened}
+use Rattle.cfi_processes.specs.OpenedFiles.{Opened}
+use Rattle.cfi_processes.specs.ProfileFiles.{AreProfileFilesOf}
+use Rattle.cfi_processes.specs.FileReads.{AreOpened}
 use Rattle.cfi_processes.specs.Registers.{machine_named}
-use Rattle.cfi_processes.specs.Replays.{wanted_of}
+use Rattle.cfi_processes.specs.WantedFiles.{wanted_of}
 use Rattle.cfi_processes.specs.Wanted.{FilePlace, Wanted}
 use Rattle.cfi_stacks.specs.declared.listing.Listing.{Listing}
 use Rattle.cfi_stacks.specs.declared.listing.Listing.TheVariants.{Frames, Json}
@@ -27,7 +30,7 @@ use Rattle.cfi_stacks.specs.declared.profile_index.ProfileIndex.{ProfileIndex}
 use Rattle.cfi_stacks.specs.Choices.{Choice}
 use Rattle.cfi_stacks.specs.ProfileIndexes.{AreBytesAt, AreBytesOf, AreRecordsOf, HasRecords, HasRecordsAt, HoldsOf, IsIndexOf, IsReadAround, Piece, record_of}
 use Rattle.cfi_stacks.specs.ProfileErrors.{perf_refusal}
-use Rattle.cfi_stacks.specs.ProfileOutputs.{IsListed, IsListingOwed, IsOfArchitecture, IsOfMachine, IsOfOpened, IsOfProfile, IsOfRecords, IsOfSorted, IsOfWanted, IsOutput, IsPrinted, IsRefused, format_of, names_functions, unknown_machine}
+use Rattle.cfi_stacks.specs.ProfileOutputs.{AreStacksPrinted, IsInputRefused, IsListingOwed, IsListingPrinted, IsOfArchitecture, IsOfMachine, IsOfProfile, IsOfRecords, IsProfileOfOpened, IsProfileOfSorted, IsProfileOfWanted, IsProfileOutput, listing_format, names_functions, unknown_machine}
 use Rattle.cfi_stacks.proofs.AroundLemmas.{own_records, whole_of}
 use Rattle.cfi_stacks.proofs.PieceLemmas.{records_of_index}
 
@@ -48,18 +51,18 @@ module _ (known : Option (List ℕ)) (index : ProfileIndex) where
 
 -- as they are to be listed: one after the other, of either form
 module _ (choice : Choice) (machine : SampleMachine) (files : List KnownFile) where
-  is_listed : (listing : Listing) (raw : Bool) (format : Format) (sorted : List Record) (error : Option PerfError) (line : Line) → (listing ≡ Frames raw) ⊎ (listing ≡ Json raw) → format ≡ format_of listing
-      → IsPrinted (record { raw = raw; format = format }) machine files choice sorted error line → IsListed listing choice machine files sorted error line
+  is_listed : (listing : Listing) (raw : Bool) (format : Format) (sorted : List Record) (error : Option PerfError) (line : Line) → (listing ≡ Frames raw) ⊎ (listing ≡ Json raw) → format ≡ listing_format listing
+      → AreStacksPrinted (record { raw = raw; format = format }) machine files choice sorted error line → IsListingPrinted listing choice machine files sorted error line
   is_listed listing raw format sorted error line (inl is) same of =
-      subst (λ (l : Listing). IsListed l choice machine files sorted error line) (sym is)
-      (subst (λ (f : Format). IsPrinted (record { raw = raw; format = f }) machine files choice sorted error line) (same ∙ ap format_of is) of)
+      subst (λ (l : Listing). IsListingPrinted l choice machine files sorted error line) (sym is)
+      (subst (λ (f : Format). AreStacksPrinted (record { raw = raw; format = f }) machine files choice sorted error line) (same ∙ ap listing_format is) of)
   is_listed listing raw format sorted error line (inr is) same of =
-      subst (λ (l : Listing). IsListed l choice machine files sorted error line) (sym is)
-      (subst (λ (f : Format). IsPrinted (record { raw = raw; format = f }) machine files choice sorted error line) (same ∙ ap format_of is) of)
+      subst (λ (l : Listing). IsListingPrinted l choice machine files sorted error line) (sym is)
+      (subst (λ (f : Format). AreStacksPrinted (record { raw = raw; format = f }) machine files choice sorted error line) (same ∙ ap listing_format is) of)
 
-  pub in_frames : {E : Type 0} (known : Option (List ℕ)) (index : ProfileIndex) (listing : Listing) (raw : Bool) (format : Format) (old new : Option (List ℕ)) (r : Result ℕ E) → (listing ≡ Frames raw) ⊎ (listing ≡ Json raw) → format ≡ format_of listing
-      → PrintsSome (λ line. HoldsOf known index (λ sorted. IsPrinted (record { raw = raw; format = format }) machine files choice sorted index.error line)) old new r
-      → PrintsSome (λ line. HoldsOf known index (λ sorted. IsListed listing choice machine files sorted index.error line)) old new r
+  pub in_frames : {E : Type 0} (known : Option (List ℕ)) (index : ProfileIndex) (listing : Listing) (raw : Bool) (format : Format) (old new : Option (List ℕ)) (r : Result ℕ E) → (listing ≡ Frames raw) ⊎ (listing ≡ Json raw) → format ≡ listing_format listing
+      → PrintsSome (λ line. HoldsOf known index (λ sorted. AreStacksPrinted (record { raw = raw; format = format }) machine files choice sorted index.error line)) old new r
+      → PrintsSome (λ line. HoldsOf known index (λ sorted. IsListingPrinted listing choice machine files sorted index.error line)) old new r
   in_frames known index listing raw format old new r is same (line, prints, (pieces, are, of)) =
       (line, prints, (pieces, are, is_listed listing raw format (map record_of pieces) index.error line is same of))
 
@@ -70,48 +73,48 @@ some_bytes None place size has = (replicate size 0, (length-replicate {A = ℕ} 
 some_bytes (Some file) place size has = (slice_range file place (place + size), (has, refl))
 
 -- by the files, which were opened so
-pub by_files : (known : Option (List ℕ)) (index : ProfileIndex) (listing : Listing) (choice : Choice) (machine : SampleMachine) (opened : List Opened) (files : List KnownFile) → AreFilesOf (names_functions listing) opened files
-    → (line : Line) → HoldsOf known index (λ sorted. IsListed listing choice machine files sorted index.error line)
-    → Shown known index (λ sorted line. IsOfOpened listing choice machine opened sorted index.error line) (IsRefused (format_of listing)) line
+pub by_files : (known : Option (List ℕ)) (index : ProfileIndex) (listing : Listing) (choice : Choice) (machine : SampleMachine) (opened : List Opened) (files : List KnownFile) → AreProfileFilesOf (names_functions listing) opened files
+    → (line : Line) → HoldsOf known index (λ sorted. IsListingPrinted listing choice machine files sorted index.error line)
+    → Shown known index (λ sorted line. IsProfileOfOpened listing choice machine opened sorted index.error line) (IsInputRefused (listing_format listing)) line
 by_files known index listing choice machine opened files are line (pieces, is, of) = inl (pieces, is, (files, are, of))
 
 module _ (listing : Listing) (choice : Choice) {Handle : Type 0} (may_open : FilePlace → Option Handle → Type 0) (remaining : Handle → Option (List ℕ)) where
   -- ---- by the files that were opened
 
   pub of_opened : (known : Option (List ℕ)) (index : ProfileIndex) (machine : SampleMachine) (wanted : List Wanted) (opened : List Opened) → AreOpened may_open remaining wanted opened
-      → (line : Line) → Shown known index (λ sorted line. IsOfOpened listing choice machine opened sorted index.error line) (IsRefused (format_of listing)) line
-      → Shown known index (λ sorted line. IsOfWanted listing choice may_open remaining machine wanted sorted index.error line) (IsRefused (format_of listing)) line
+      → (line : Line) → Shown known index (λ sorted line. IsProfileOfOpened listing choice machine opened sorted index.error line) (IsInputRefused (listing_format listing)) line
+      → Shown known index (λ sorted line. IsProfileOfWanted listing choice may_open remaining machine wanted sorted index.error line) (IsInputRefused (listing_format listing)) line
   of_opened known index machine wanted opened are =
-      says_more known index (λ sorted line. IsOfOpened listing choice machine opened sorted index.error line) (λ sorted line. IsOfWanted listing choice may_open remaining machine wanted sorted index.error line)
-      (IsRefused (format_of listing)) (λ pieces is line of. (opened, are, of))
+      says_more known index (λ sorted line. IsProfileOfOpened listing choice machine opened sorted index.error line) (λ sorted line. IsProfileOfWanted listing choice may_open remaining machine wanted sorted index.error line)
+      (IsInputRefused (listing_format listing)) (λ pieces is line of. (opened, are, of))
 
   -- ---- the files that are wanted are those of the records
 
   pub of_wanted : (known : Option (List ℕ)) (index : ProfileIndex) (machine : SampleMachine) (wanted : List Wanted) → ((pieces : List Piece) → IsIndexOf known index pieces → wanted ≡ wanted_of (map record_of pieces))
-      → (line : Line) → Shown known index (λ sorted line. IsOfWanted listing choice may_open remaining machine wanted sorted index.error line) (IsRefused (format_of listing)) line
-      → Shown known index (λ sorted line. IsOfSorted listing choice may_open remaining machine sorted index.error line) (IsRefused (format_of listing)) line
+      → (line : Line) → Shown known index (λ sorted line. IsProfileOfWanted listing choice may_open remaining machine wanted sorted index.error line) (IsInputRefused (listing_format listing)) line
+      → Shown known index (λ sorted line. IsProfileOfSorted listing choice may_open remaining machine sorted index.error line) (IsInputRefused (listing_format listing)) line
   of_wanted known index machine wanted are =
-      says_more known index (λ sorted line. IsOfWanted listing choice may_open remaining machine wanted sorted index.error line) (λ sorted line. IsOfSorted listing choice may_open remaining machine sorted index.error line)
-      (IsRefused (format_of listing))
-      (λ pieces is line of. subst (λ (files : List Wanted). IsOfWanted listing choice may_open remaining machine files (map record_of pieces) index.error line) (are pieces is) of)
+      says_more known index (λ sorted line. IsProfileOfWanted listing choice may_open remaining machine wanted sorted index.error line) (λ sorted line. IsProfileOfSorted listing choice may_open remaining machine sorted index.error line)
+      (IsInputRefused (listing_format listing))
+      (λ pieces is line of. subst (λ (files : List Wanted). IsProfileOfWanted listing choice may_open remaining machine files (map record_of pieces) index.error line) (are pieces is) of)
 
   -- ---- the records of some bytes
 
   abbrev pub IsOfBytes : Option (List ℕ) → RecordWalk → SampleMachine → Line → Type 0
   IsOfBytes known walk machine line = (all : List ℕ) × AreBytesOf known walk all × IsOfRecords listing choice may_open remaining machine (records_in walk all) line
 
-  of_records : (known : Option (List ℕ)) (index : ProfileIndex) (machine : SampleMachine) (sorted : List Record) (line : Line) → AreRecordsOf known index sorted → IsOfSorted listing choice may_open remaining machine sorted index.error line
+  of_records : (known : Option (List ℕ)) (index : ProfileIndex) (machine : SampleMachine) (sorted : List Record) (line : Line) → AreRecordsOf known index sorted → IsProfileOfSorted listing choice may_open remaining machine sorted index.error line
       → IsOfBytes known index.walk machine line
   of_records known index machine sorted line (all, records, are, reads, order) of =
       (all, are, subst (λ (found : Records). IsOfRecords listing choice may_open remaining machine found line) (sym reads) (inl (sorted, order, of)))
 
   -- or the input can't be read
-  pub refused_bytes : (known : Option (List ℕ)) (walk : RecordWalk) (machine : SampleMachine) (line : Line) → HasRecords known walk → IsRefused (format_of listing) line → IsOfBytes known walk machine line
+  pub refused_bytes : (known : Option (List ℕ)) (walk : RecordWalk) (machine : SampleMachine) (line : Line) → HasRecords known walk → IsInputRefused (listing_format listing) line → IsOfBytes known walk machine line
   refused_bytes known walk machine line has refused =
-      let (all, are) = some_bytes known (place_in walk) (bytes_left walk) has in (all, are, inr refused)
+      let (all, are) = some_bytes known (next_place walk) (record_bytes_left walk) has in (all, are, inr refused)
 
   pub of_index : (known : Option (List ℕ)) (index : ProfileIndex) (walk : RecordWalk) (machine : SampleMachine) → HasRecords known walk → index.walk ≡ walk
-      → (line : Line) → Shown known index (λ sorted line. IsOfSorted listing choice may_open remaining machine sorted index.error line) (IsRefused (format_of listing)) line → IsOfBytes known walk machine line
+      → (line : Line) → Shown known index (λ sorted line. IsProfileOfSorted listing choice may_open remaining machine sorted index.error line) (IsInputRefused (listing_format listing)) line → IsOfBytes known walk machine line
   of_index known index walk machine has same line (inl (pieces, is, of)) =
       subst (λ (w : RecordWalk). IsOfBytes known w machine line) same (of_records known index machine (map record_of pieces) line (records_of_index known index pieces is) of)
   of_index known index walk machine has same line (inr refused) = refused_bytes known walk machine line has refused
@@ -129,10 +132,10 @@ module _ (listing : Listing) (choice : Choice) {Handle : Type 0} (may_open : Fil
       let (all, are) = some_bytes known head.place head.size has in (all, are, each (records_by head all))
 
   pub of_walk : (known : Option (List ℕ)) (head : ProfileHead) (walk : RecordWalk) (machine : SampleMachine) → ((found : Records) (line : Line) → IsOfRecords listing choice may_open remaining machine found line → IsOfArchitecture listing choice may_open remaining head.architecture found line)
-      → ((all : List ℕ) → records_in walk all ≡ records_by head all) → bytes_left walk ≡ head.size → place_in walk ≡ head.place → (line : Line) → IsOfBytes known walk machine line → IsOfHead known head line
+      → ((all : List ℕ) → records_in walk all ≡ records_by head all) → record_bytes_left walk ≡ head.size → next_place walk ≡ head.place → (line : Line) → IsOfBytes known walk machine line → IsOfHead known head line
   of_walk known head walk machine named same left place line (all, are, of) = (
     all,
-    subst (λ (n : ℕ). AreBytesAt known head.place n all) left (subst (λ (n : ℕ). AreBytesAt known n (bytes_left walk) all) place are),
+    subst (λ (n : ℕ). AreBytesAt known head.place n all) left (subst (λ (n : ℕ). AreBytesAt known n (record_bytes_left walk) all) place are),
     named (records_by head all) line (subst (λ (found : Records). IsOfRecords listing choice may_open remaining machine found line) (same all) of),
   )
 
@@ -144,22 +147,22 @@ module _ (listing : Listing) (choice : Choice) {Handle : Type 0} (may_open : Fil
       (subst (λ (m : Option SampleMachine). IsOfMachine listing choice may_open remaining m found line) (sym named) of)
 
   pub no_machine : (architecture : Result (Option (List ℕ)) PerfError) (name : List ℕ) → architecture ≡ Ok (Some name) → machine_named name ≡ None → (found : Records)
-      → IsOfArchitecture listing choice may_open remaining architecture found (unknown_machine (format_of listing))
+      → IsOfArchitecture listing choice may_open remaining architecture found (unknown_machine (listing_format listing))
   no_machine architecture name is named found =
-      subst (λ (a : Result (Option (List ℕ)) PerfError). IsOfArchitecture listing choice may_open remaining a found (unknown_machine (format_of listing))) (sym is)
-      (subst (λ (m : Option SampleMachine). IsOfMachine listing choice may_open remaining m found (unknown_machine (format_of listing))) (sym named) refl)
+      subst (λ (a : Result (Option (List ℕ)) PerfError). IsOfArchitecture listing choice may_open remaining a found (unknown_machine (listing_format listing))) (sym is)
+      (subst (λ (m : Option SampleMachine). IsOfMachine listing choice may_open remaining m found (unknown_machine (listing_format listing))) (sym named) refl)
 
-  pub no_name : (architecture : Result (Option (List ℕ)) PerfError) → architecture ≡ Ok None → (found : Records) → IsOfArchitecture listing choice may_open remaining architecture found (unknown_machine (format_of listing))
-  no_name architecture is found = subst (λ (a : Result (Option (List ℕ)) PerfError). IsOfArchitecture listing choice may_open remaining a found (unknown_machine (format_of listing))) (sym is) refl
+  pub no_name : (architecture : Result (Option (List ℕ)) PerfError) → architecture ≡ Ok None → (found : Records) → IsOfArchitecture listing choice may_open remaining architecture found (unknown_machine (listing_format listing))
+  no_name architecture is found = subst (λ (a : Result (Option (List ℕ)) PerfError). IsOfArchitecture listing choice may_open remaining a found (unknown_machine (listing_format listing))) (sym is) refl
 
-  pub name_refused : (architecture : Result (Option (List ℕ)) PerfError) (e : PerfError) → architecture ≡ Err e → (found : Records) → IsOfArchitecture listing choice may_open remaining architecture found (perf_refusal (format_of listing) e)
+  pub name_refused : (architecture : Result (Option (List ℕ)) PerfError) (e : PerfError) → architecture ≡ Err e → (found : Records) → IsOfArchitecture listing choice may_open remaining architecture found (perf_refusal (listing_format listing) e)
   name_refused architecture e is found =
-      subst (λ (a : Result (Option (List ℕ)) PerfError). IsOfArchitecture listing choice may_open remaining a found (perf_refusal (format_of listing) e)) (sym is) refl
+      subst (λ (a : Result (Option (List ℕ)) PerfError). IsOfArchitecture listing choice may_open remaining a found (perf_refusal (listing_format listing) e)) (sym is) refl
 
   -- ---- the bytes of the file
 
   -- all of them
-  pub of_parsed : (bytes : List ℕ) (p : Profile) (head : ProfileHead) → profile bytes ≡ Ok p → head ≡ p.head → (line : Line) → IsOfHead (Some bytes) head line → IsOutput listing choice may_open remaining bytes line
+  pub of_parsed : (bytes : List ℕ) (p : Profile) (head : ProfileHead) → profile bytes ≡ Ok p → head ≡ p.head → (line : Line) → IsOfHead (Some bytes) head line → IsProfileOutput listing choice may_open remaining bytes line
   of_parsed bytes p head is same line of =
       let (all, are, by_architecture) = subst (λ (h : ProfileHead). IsOfHead (Some bytes) h line) same of in
       let by_records = subst (λ (l : List ℕ). IsOfArchitecture listing choice may_open remaining p.head.architecture (records_by p.head l) line) (own_records bytes p is all are) by_architecture in
@@ -177,7 +180,7 @@ module _ (listing : Listing) (choice : Choice) {Handle : Type 0} (may_open : Fil
 
   -- the first error
   pub error_around : {E : Type 0} (known : Option (List ℕ)) (before behind : List ℕ) (count : ℕ) (e : PerfError) (old new : Option (List ℕ)) (r : Result ℕ E) → IsReadAround known before behind count
-      → profile_around before behind count ≡ Err e → Prints (perf_refusal (format_of listing) e) old new r → IsOfFile known old new r
+      → profile_around before behind count ≡ Err e → Prints (perf_refusal (listing_format listing) e) old new r → IsOfFile known old new r
   error_around known before behind count e old new r (bytes, left, of) read prints =
       let is : profile bytes ≡ Err e = subst (λ (r : Result (Option ProfileHead) PerfError). IsProfileAround bytes r) read (is_around before behind count bytes of) in
-      (bytes, left, (perf_refusal (format_of listing) e, prints, inl (subst (λ (r : Result Profile PerfError). IsOfProfile listing choice may_open remaining r (perf_refusal (format_of listing) e)) (sym is) refl)))
+      (bytes, left, (perf_refusal (listing_format listing) e, prints, inl (subst (λ (r : Result Profile PerfError). IsOfProfile listing choice may_open remaining r (perf_refusal (listing_format listing) e)) (sym is) refl)))

@@ -16,11 +16,11 @@ use Rattle.cfi_step.specs.Walks.{IsStepAmong, IsWalkBy, State, checked, written}
 use Rattle.cfi_step.proofs.LesserWalks.{AreMore, Goes, Stepped, lacks_by, lacks_end, lacks_step, state}
 use Rattle.cfi_processes.specs.declared.registers.SampleMachine.{SampleMachine}
 use Rattle.cfi_processes.specs.declared.registers.SampleMachine.TheVariants.{X86_64, AArch64}
-use Rattle.cfi_processes.specs.Registers.{abi_of}
+use Rattle.cfi_processes.specs.Registers.{machine_abi}
 use Rattle.cfi_stacks.specs.MissingFrames.{has_no_frames, lacks_frames}
 use Rattle.cfi_stacks.specs.NullCalls.{IsNullStep}
 use Rattle.cfi_stacks.specs.QuickStacks.{end_lacks, may_be_signal, misses_value}
-use Rattle.cfi_stacks.specs.SignalTrampolines.{IsSignalOr, IsSignalStep, calls_sigreturn, interrupted, interrupted_at, is_signal, is_trampoline, pc_saved, place_in, registers_by, saved_in, sigcontext_at}
+use Rattle.cfi_stacks.specs.SignalTrampolines.{IsSignalOr, IsSignalStep, calls_sigreturn, interrupted, interrupted_at, interrupted_registers, is_signal, is_signal_trampoline, pc_saved, register_place, saved_in, sigcontext_at}
 use Rattle.cfi_stacks.specs.ThreadStacks.{IsThreadStep}
 use Rattle.cfi_stacks.proofs.MissingLemmas.{and_first, and_none, and_second, as_many_mapped, by_mapped, by_value, frames_whole, known_mapped, or_first, or_second, raw_whole, same_misses}
 
@@ -29,10 +29,10 @@ step_whole machine (Ok c) whole = refl
 step_whole machine (Err end) whole = same_misses end ∙ or_first (misses_value end) (may_be_signal machine end) whole
 
 -- where a trampoline isn't seen, and nothing is lacking, none is there
-not_signal : (machine : SampleMachine) (memory : ℕ → ℕ → Option ℕ) (pc : ℕ) (step : Result Caller End) → lacks_by (end_lacks machine) step ≡ false → (has_no_frames step && is_trampoline machine memory pc) ≡ false
+not_signal : (machine : SampleMachine) (memory : ℕ → ℕ → Option ℕ) (pc : ℕ) (step : Result Caller End) → lacks_by (end_lacks machine) step ≡ false → (has_no_frames step && is_signal_trampoline machine memory pc) ≡ false
 not_signal X86_64 memory pc step whole = and_none (has_no_frames step)
 not_signal AArch64 memory pc (Ok c) whole = refl
-not_signal AArch64 memory pc (Err end) whole = ap (λ (b : Bool). b && is_trampoline AArch64 memory pc) (or_second (misses_value end) (lacks_frames end) whole)
+not_signal AArch64 memory pc (Err end) whole = ap (λ (b : Bool). b && is_signal_trampoline AArch64 memory pc) (or_second (misses_value end) (lacks_frames end) whole)
 
 -- ---- the kernel's frame, of which more is known
 
@@ -42,18 +42,18 @@ module _ {m m' : ℕ → ℕ → Option ℕ} (more : Extends m m') where
   saved_if false a n is = absurd (cc)
 
   saved_more : (context k n : ℕ) → saved_in m context k ≡ Some n → saved_in m' context k ≡ Some n
-  saved_more context k n is = saved_if (nat_lt k 33) (place_in context k) n is
+  saved_more context k n is = saved_if (nat_lt k 33) (register_place context k) n is
 
   code_more : (o o' : Option ℕ) → ((n : ℕ) → o ≡ Some n → o' ≡ Some n) → calls_sigreturn o ≡ true → calls_sigreturn o' ≡ true
   code_more (Some n) o' same is = ap calls_sigreturn (same n refl) ∙ is
   code_more None o' same is = absurd (true≢false (sym is))
 
-  trampoline_more : (machine : SampleMachine) (pc : ℕ) → is_trampoline machine m pc ≡ true → is_trampoline machine m' pc ≡ true
+  trampoline_more : (machine : SampleMachine) (pc : ℕ) → is_signal_trampoline machine m pc ≡ true → is_signal_trampoline machine m' pc ≡ true
   trampoline_more X86_64 pc is = is
   trampoline_more AArch64 pc is = code_more (m pc 8) (m' pc 8) (more.numbers pc 8) is
 
   same_pc : (context : ℕ) → lacks (pc_saved m context) ≡ false → pc_saved m context ≡ pc_saved m' context
-  same_pc context whole = by_mapped (interrupted_at context) (saved_in m context 32) (saved_in m' context 32) (UnreadableMemory (place_in context 32)) refl (saved_more context 32) whole
+  same_pc context whole = by_mapped (interrupted_at context) (saved_in m context 32) (saved_in m' context 32) (UnreadableMemory (register_place context 32)) refl (saved_more context 32) whole
 
   same_interrupted : (rs rs' : List (Option ℕ)) → AreKnown rs rs' → lacks (interrupted m rs) ≡ false → interrupted m rs ≡ interrupted m' rs'
   same_interrupted rs rs' are whole =
@@ -62,7 +62,7 @@ module _ {m m' : ℕ → ℕ → Option ℕ} (more : Extends m m') where
   -- ---- its registers
 
   goes_saved : (raw : Result Caller FrameError) (at : Start) (result : Result Caller End) (count count' : ℕ) (left left' : List (Option ℕ)) → count ≡ count' → result ≡ checked at raw
-      → Goes result (registers_by m raw count left) (registers_by m' raw count' left')
+      → Goes result (interrupted_registers m raw count left) (interrupted_registers m' raw count' left')
   goes_saved (Ok c) at (Ok d) count count' left left' same is = (
     as_many_mapped (saved_in m c.cfa) (saved_in m' c.cfa) count count' same,
     known_mapped (saved_in m c.cfa) (saved_in m' c.cfa) (saved_more c.cfa) count count' same,
@@ -76,27 +76,27 @@ module _ {m m' : ℕ → ℕ → Option ℕ} (more : Extends m m') where
   module _ (machine : SampleMachine) (IsLess IsAll : State → Result Caller End → List (Option ℕ) → Type 0) (plain : AreMore lacks_end IsLess IsAll) where
     by_kernel : (at : Start) (rs rs' room room' : List (Option ℕ)) → AreKnown rs rs' → length room ≡ length room' → (result step : Result Caller End) (found left : List (Option ℕ)) → lacks_by (end_lacks machine) result ≡ false
         → IsLess (state at rs room) step left → is_signal machine m (state at rs room) step ≡ true
-        → result ≡ checked at (interrupted m rs) → found ≡ registers_by m (interrupted m rs) (length room) left
+        → result ≡ checked at (interrupted m rs) → found ≡ interrupted_registers m (interrupted m rs) (length room) left
         → Stepped (IsSignalStep machine m' IsAll (state at rs' room') result) result found
     by_kernel at rs rs' room room' are same result step found left whole is signal checks registers =
-        let none = and_first (has_no_frames step) (is_trampoline machine m at.pc) signal in
-        let there = trampoline_more machine at.pc (and_second (has_no_frames step) (is_trampoline machine m at.pc) signal) in
+        let none = and_first (has_no_frames step) (is_signal_trampoline machine m at.pc) signal in
+        let there = trampoline_more machine at.pc (and_second (has_no_frames step) (is_signal_trampoline machine m at.pc) signal) in
         let p = plain at rs rs' room room' are same step left (frames_whole step none) is in
         let raw_same = same_interrupted rs rs' are (raw_whole at (interrupted m rs) result checks (step_whole machine result whole)) in
         let raw = interrupted m rs in
-        let seen : is_signal machine m' (state at rs' room') step ≡ true = ap (λ (b : Bool). b && is_trampoline machine m' at.pc) none ∙ there in
+        let seen : is_signal machine m' (state at rs' room') step ≡ true = ap (λ (b : Bool). b && is_signal_trampoline machine m' at.pc) none ∙ there in
         record {
-          written = registers_by m' raw (length room') p.written;
+          written = interrupted_registers m' raw (length room') p.written;
           is_step = (
             step,
             p.written,
             p.is_step,
-            subst (λ (b : Bool). IsSignalOr machine m' b (state at rs' room') step p.written result (registers_by m' raw (length room') p.written)) (sym seen) (
+            subst (λ (b : Bool). IsSignalOr machine m' b (state at rs' room') step p.written result (interrupted_registers m' raw (length room') p.written)) (sym seen) (
               checks ∙ ap (checked at) raw_same,
-              ap (λ (r : Result Caller FrameError). registers_by m' r (length room') p.written) raw_same,
+              ap (λ (r : Result Caller FrameError). interrupted_registers m' r (length room') p.written) raw_same,
             ),
           );
-          goes = subst (λ (c : List (Option ℕ)). Goes result c (registers_by m' raw (length room') p.written)) (sym registers) (goes_saved raw at result (length room) (length room') left p.written same checks);
+          goes = subst (λ (c : List (Option ℕ)). Goes result c (interrupted_registers m' raw (length room') p.written)) (sym registers) (goes_saved raw at result (length room) (length room') left p.written same checks);
         }
 
     by_frames : (at : Start) (rs rs' room room' : List (Option ℕ)) → AreKnown rs rs' → length room ≡ length room' → (result step : Result Caller End) (found left : List (Option ℕ)) → lacks_by (end_lacks machine) step ≡ false
@@ -125,8 +125,8 @@ module _ {R T : Type 0} (position : R → Position) (number : T → ℕ) (rule_l
   WalkOver size abi = IsWalkBy written (IsSignalStep machine memory (IsNullStep machine memory (IsStepAmong position number memory size abi rule_limit stack_limit copies_free modules)))
 
   -- of 64 bits, with the ABI of the machine
-  pub of_thread : (size : ℕ) (abi : Abi) → size ≡ 8 → abi ≡ abi_of machine → (s : State) (frames : List StackFrame) (end : End) (registers caller : List (Option ℕ)) → WalkOver size abi s frames end registers caller
+  pub of_thread : (size : ℕ) (abi : Abi) → size ≡ 8 → abi ≡ machine_abi machine → (s : State) (frames : List StackFrame) (end : End) (registers caller : List (Option ℕ)) → WalkOver size abi s frames end registers caller
       → IsWalkBy written (IsThreadStep position number rule_limit stack_limit copies_free modules machine memory) s frames end registers caller
   of_thread size abi sizes abis s frames end registers caller is =
-      subst (λ (n : ℕ). WalkOver n (abi_of machine) s frames end registers caller) sizes
+      subst (λ (n : ℕ). WalkOver n (machine_abi machine) s frames end registers caller) sizes
       (subst (λ (a : Abi). WalkOver size a s frames end registers caller) abis is)

@@ -14,9 +14,9 @@ use Rattle.cfi_perf.specs.Events.{Record}
 use Rattle.cfi_perf.specs.Indexes.{AreIndexed, AreIndexedSorted, kept_of, places_of}
 use Rattle.cfi_perf.specs.Records.{Records, no_records}
 use Rattle.cfi_perf.specs.Windows.{records_in}
-use Rattle.cfi_processes.specs.Replays.{has_kernel_frames}
+use Rattle.cfi_processes.specs.WantedFiles.{has_kernel_frames}
 use Rattle.cfi_stacks.specs.declared.profile_index.ProfileIndex.{ProfileIndex}
-use Rattle.cfi_stacks.specs.ProfileIndexes.{IsTallyOf, IsToldOf, IsIndexOf, IsKernelAt, IsOfFile, IsPieceOf, IsWholeOf, Piece, all_bytes, place_of, record_of, records_bytes}
+use Rattle.cfi_stacks.specs.ProfileIndexes.{IsIndexOf, IsIndexOfFile, IsKernelAt, IsPieceOf, IsTallyOf, IsToldOf, IsWholeOf, Piece, all_bytes, piece_place, record_of, records_bytes}
 use Rattle.cfi_stacks.proofs.PieceLemmas.{all_read}
 use Rattle.cfi_stacks.proofs.ReadLemmas.{behind_these}
 
@@ -29,16 +29,16 @@ map_swap f (d ∷ l) i j =
 
 -- where the places go, the pieces go
 abbrev AreMoved : List Piece → List RecordPlace → Type 0
-AreMoved pieces places = (moved : List Piece) × (map place_of moved ≡ places) × IsPermutation pieces moved
+AreMoved pieces places = (moved : List Piece) × (map piece_place moved ≡ places) × IsPermutation pieces moved
 
-pieces_moved : (pieces : List Piece) (places : List RecordPlace) → IsPermutation (map place_of pieces) places → AreMoved pieces places
+pieces_moved : (pieces : List Piece) (places : List RecordPlace) → IsPermutation (map piece_place pieces) places → AreMoved pieces places
 pieces_moved pieces places =
-    IsPermutation-keeps (map place_of pieces) (AreMoved pieces) (pieces, refl, IsPermutation-refl pieces) (λ l i j p q h.
+    IsPermutation-keeps (map piece_place pieces) (AreMoved pieces) (pieces, refl, IsPermutation-refl pieces) (λ l i j p q h.
     let (moved, same, is) = h in
-    let long = length-map moved place_of in
+    let long = length-map moved piece_place in
     let first : i < length moved = omega (arith, p, ap length same, long) in
     let second : j < length moved = omega (arith, q, ap length same, long) in
-    (swap moved i j, map_swap place_of moved i j ∙ ap (λ (l : List RecordPlace). swap l i j) same, IsPermutation-trans pieces moved (swap moved i j) is (IsPermutation-swap moved (swap moved i j) i j first second refl))) places
+    (swap moved i j, map_swap piece_place moved i j ∙ ap (λ (l : List RecordPlace). swap l i j) same, IsPermutation-trans pieces moved (swap moved i j) is (IsPermutation-swap moved (swap moved i j) i j first second refl))) places
 
 kernel_moved : (kernel : Option ℕ) (pieces moved : List Piece) → IsPermutation pieces moved → IsKernelAt kernel pieces → IsKernelAt kernel moved
 kernel_moved None pieces moved is at = All-permutation (λ piece. has_kernel_frames piece.found.event ≡ false) pieces moved is at
@@ -57,7 +57,7 @@ module _ (old : ProfileIndex) (records : RecordIndex) where
 
   module _ (pieces : List Piece) (rest : List ℕ) (moves : IsPermutation (places_of old.records) (places_of records)) (by_time : IsSortedByKey (λ p. p.time) nat_cmp (places_of records)) (kept : kept_of records ≡ kept_of old.records)
       (indexed : (walk : RecordWalk) (all : List ℕ) (l : List Record) → AreIndexed walk all old.records l → AreIndexedSorted walk all records l) where
-    of_file : (known : Option (List ℕ)) → IsWholeOf known old pieces rest → IfSome known (IsOfFile sorted_index)
+    of_file : (known : Option (List ℕ)) → IsWholeOf known old pieces rest → IfSome known (IsIndexOfFile sorted_index)
     of_file None is = tt
     of_file (Some file) is =
         let (bytes, are) = is.file in (

@@ -7,7 +7,8 @@ use Rattle.cfi_names.specs.Names.{shown}
 use Rattle.cfi_programs.proofs.WrittenLemmas.{IsGiven}
 use Rattle.cfi_perf.specs.Samples.{Sample}
 use Rattle.cfi_processes.specs.Sites.{Site}
-use Rattle.cfi_stacks.specs.StackTexts.{file_text, function_text, numbers_text}
+use Rattle.cfi_stacks.specs.FrameLines.{file_text, frame_function}
+use Rattle.cfi_stacks.specs.SampleHeads.{numbers_text}
 
 -- ---- the parts of a sample's first line, each from its place on
 
@@ -35,7 +36,7 @@ abbrev pub from_opening : Site → List ℕ
 from_opening site = codes "(" ++ from_file site
 
 abbrev pub from_function : Site → List ℕ
-from_function site = function_text site.function ++ from_parenthesis site
+from_function site = frame_function site.function ++ from_parenthesis site
 
 -- ---- the lines of frames
 

@@ -8,7 +8,7 @@ use Rattle.cfi_perf.specs.declared.record.Event.TheVariants as events
 use Rattle.cfi_perf.specs.declared.record.Lost.{Lost}
 use Rattle.cfi_perf.specs.declared.sample.Sample.{Sample as SampleOfCode}
 use Rattle.cfi_perf.specs.Events.{Record, event_view}
-use Rattle.cfi_perf.specs.Recordings.{copies_stack, has_samples, has_stacks, is_sample, lost_of, total}
+use Rattle.cfi_perf.specs.Recordings.{is_stack_sample, has_samples, has_stacks, is_sample, lost_of, total}
 use Rattle.cfi_stacks.specs.declared.profile_index.Tally.{Tally}
 use Rattle.cfi_stacks.specs.ProfileIndexes.{IsTallyOf}
 
@@ -59,7 +59,7 @@ module _ (old : Tally) (records : List Record) (is : IsTallyOf old records) (tim
       subst (λ (e : EventOfCode). IsTallyOf (record { has_samples = true; has_stacks = stacks; lost_records = old.lost_records; lost_samples = old.lost_samples }) (more e)) (sym at)
       (record {
         samples = sym (any_more (λ r. is_sample r.event) records r ∙ or_true (has_samples records));
-        stacks = same ∙ (ap (λ (b : Bool). b || s.copies_stack) is.stacks ∙ sym (any_more (λ r. copies_stack r.event) records r));
+        stacks = same ∙ (ap (λ (b : Bool). b || s.copies_stack) is.stacks ∙ sym (any_more (λ r. is_stack_sample r.event) records r));
         lost = is.lost ∙ sym (total_same (λ l. l.records) records r refl);
         lost_samples = is.lost_samples ∙ sym (total_same (λ l. l.samples) records r refl);
       })
@@ -71,14 +71,14 @@ module _ (old : Tally) (records : List Record) (is : IsTallyOf old records) (tim
       subst (λ (e : EventOfCode). IsTallyOf new (more e)) (sym at)
       (record {
         samples = samples ∙ (is.samples ∙ sym (any_more (λ r. is_sample r.event) records r ∙ or_false (has_samples records)));
-        stacks = stacks ∙ (is.stacks ∙ sym (any_more (λ r. copies_stack r.event) records r ∙ or_false (has_stacks records)));
+        stacks = stacks ∙ (is.stacks ∙ sym (any_more (λ r. is_stack_sample r.event) records r ∙ or_false (has_stacks records)));
         lost = lost ∙ (ap (λ (n : ℕ). min (n + l.records) (2 ^ 64 - 1)) is.lost ∙ sym (total_more (λ l. l.records) records r));
         lost_samples = lost_samples ∙ (ap (λ (n : ℕ). min (n + l.samples) (2 ^ 64 - 1)) is.lost_samples ∙ sym (total_more (λ l. l.samples) records r));
       })
 
   abbrev SaysNothing : EventOfCode → Type 0
   SaysNothing event =
-      (is_sample (event_view event) ≡ false) × (copies_stack (event_view event) ≡ false) × ((lost_of (event_view event)).records ≡ 0) × ((lost_of (event_view event)).samples ≡ 0)
+      (is_sample (event_view event) ≡ false) × (is_stack_sample (event_view event) ≡ false) × ((lost_of (event_view event)).records ≡ 0) × ((lost_of (event_view event)).samples ≡ 0)
 
   says_nothing : (event : EventOfCode) → ((s : SampleOfCode) → event ≡ events.Sample s → ⊥) → ((l : Lost) → event ≡ events.Lost l → ⊥) → SaysNothing event
   says_nothing (events.Mapping m) sample lost = (refl, refl, refl, refl)
@@ -94,7 +94,7 @@ module _ (old : Tally) (records : List Record) (is : IsTallyOf old records) (tim
       let (samples, stacks, some, some_samples) = says_nothing event sample lost in
       record {
         samples = is.samples ∙ sym (any_more (λ r. is_sample r.event) records r ∙ (ap (λ (b : Bool). has_samples records || b) samples ∙ or_false (has_samples records)));
-        stacks = is.stacks ∙ sym (any_more (λ r. copies_stack r.event) records r ∙ (ap (λ (b : Bool). has_stacks records || b) stacks ∙ or_false (has_stacks records)));
+        stacks = is.stacks ∙ sym (any_more (λ r. is_stack_sample r.event) records r ∙ (ap (λ (b : Bool). has_stacks records || b) stacks ∙ or_false (has_stacks records)));
         lost = is.lost ∙ sym (total_same (λ l. l.records) records r some);
         lost_samples = is.lost_samples ∙ sym (total_same (λ l. l.samples) records r some_samples);
       }

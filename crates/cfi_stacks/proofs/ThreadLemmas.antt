@@ -17,7 +17,11 @@ use Rattle.cfi_processes.specs.SampleStacks.{Room}
 use Rattle.cfi_programs.specs.WriterOutput.{IsBeginning, Prints, PrintsSome}
 use Rattle.cfi_programs.proofs.WrittenLemmas.{appends_then, beginning_then, none_yet, writes_refused}
 use Rattle.cfi_programs.proofs.DumpSectionWritten.{last_written}
-use Rattle.cfi_stacks.specs.CoreOutputs.{AreOfThreads, AreThreadTexts, IsPrinted, IsThreadText, asked_for, ended, is_asked_for, mappings_of}
+use Rattle.cfi_stacks.specs.CoreOutputs.{AreOfThreads, AreThreadsPrinted, core_ended}
+use Rattle.cfi_stacks.specs.Sequences.{AreOfAll}
+use Rattle.cfi_stacks.specs.ThreadOutputs.{IsThreadText}
+use Rattle.cfi_stacks.specs.AskedThreads.{asked_threads, is_asked_thread}
+use Rattle.cfi_stacks.specs.CoreCode.{core_mappings}
 use Rattle.cfi_stacks.specs.ProfileOutputs.{no_memory}
 use Rattle.cfi_stacks.specs.declared.listing.ThreadListing.{ThreadListing}
 use Rattle.cfi_stacks.specs.ThreadStacks.{IsThreadWalk, IsUnwound, IsUnwoundFrom, thread_registers}
@@ -40,7 +44,7 @@ no_status (Err e) err = tt
 
 module _ (listing : ThreadListing) (files : List KnownFile) (memory : ℕ → ℕ → Option ℕ) (core : Core) where
   abbrev IsText : CoreThread → List ℕ → Type 0
-  IsText = IsThreadText listing core.machine files (mappings_of files core.segments core.mapped) memory core.name
+  IsText = IsThreadText listing core.machine files (core_mappings files core.segments core.mapped) memory core.name
 
   abbrev AreTexts : List CoreThread → List ℕ → Type 0
   AreTexts = AreOfThreads listing files memory core
@@ -57,7 +61,7 @@ module _ (listing : ThreadListing) (files : List KnownFile) (memory : ℕ → �
   none_printed old = ([], none_yet old, record { goes_on = λ rest text are. are })
 
   -- a thread that isn't asked for
-  pub one_passed : (first all : List CoreThread) (t : CoreThread) (old new : Option (List ℕ)) → all ≡ first ++ t ∷ [] → is_asked_for listing t ≡ false → Printed first old new → Printed all old new
+  pub one_passed : (first all : List CoreThread) (t : CoreThread) (old new : Option (List ℕ)) → all ≡ first ++ t ∷ [] → is_asked_thread listing t ≡ false → Printed first old new → Printed all old new
   one_passed first all t old new is_all out (front, given, so) = (
     front,
     given,
@@ -65,21 +69,21 @@ module _ (listing : ThreadListing) (files : List KnownFile) (memory : ℕ → �
       goes_on = λ rest others are.
           subst (λ (threads : List CoreThread). AreTexts threads (front ++ others)) (sym (append_assoc first (t ∷ []) rest))
           (so.goes_on (t ∷ rest) others
-          (subst (λ (b : Bool). AreThreadTexts listing core.machine files (mappings_of files core.segments core.mapped) memory core.name (cond b (t ∷ asked_for listing rest) (asked_for listing rest)) others) (sym out) are));
+          (subst (λ (b : Bool). AreOfAll IsText (cond b (t ∷ asked_threads listing rest) (asked_threads listing rest)) others) (sym out) are));
     }),
   )
 
-  one_more : (first : List CoreThread) (t : CoreThread) (front text : List ℕ) → is_asked_for listing t ≡ true → GoesOn first front → IsText t text → GoesOn (first ++ t ∷ []) (front ++ text)
+  one_more : (first : List CoreThread) (t : CoreThread) (front text : List ℕ) → is_asked_thread listing t ≡ true → GoesOn first front → IsText t text → GoesOn (first ++ t ∷ []) (front ++ text)
   one_more first t front text asked so is = record {
     goes_on = λ rest others are.
         let more : AreTexts (t ∷ rest) (text ++ others) =
-        subst (λ (b : Bool). AreThreadTexts listing core.machine files (mappings_of files core.segments core.mapped) memory core.name (cond b (t ∷ asked_for listing rest) (asked_for listing rest)) (text ++ others)) (sym asked)
+        subst (λ (b : Bool). AreOfAll IsText (cond b (t ∷ asked_threads listing rest) (asked_threads listing rest)) (text ++ others)) (sym asked)
         (text, others, is, are, refl) in
         subst (λ (whole : List ℕ). AreTexts ((first ++ t ∷ []) ++ rest) whole) (sym (append_assoc front text others))
         (subst (λ (threads : List CoreThread). AreTexts threads (front ++ (text ++ others))) (sym (append_assoc first (t ∷ []) rest)) (so.goes_on (t ∷ rest) (text ++ others) more));
   }
 
-  pub one_printed : (first all : List CoreThread) (t : CoreThread) (old mid new : Option (List ℕ)) (text : List ℕ) → all ≡ first ++ t ∷ [] → is_asked_for listing t ≡ true → Printed first old mid → IsText t text → Appends mid new text → Printed all old new
+  pub one_printed : (first all : List CoreThread) (t : CoreThread) (old mid new : Option (List ℕ)) (text : List ℕ) → all ≡ first ++ t ∷ [] → is_asked_thread listing t ≡ true → Printed first old mid → IsText t text → Appends mid new text → Printed all old new
   one_printed first all t old mid new text is_all asked (front, given, so) is more = (
     front ++ text,
     appends_then old mid new front text given more,
@@ -94,8 +98,8 @@ module _ (listing : ThreadListing) (files : List KnownFile) (memory : ℕ → �
 
   -- the text of the next thread was begun
   pub broken : {E : Type 0} (n : ℕ) (t : CoreThread) (old mid new : Option (List ℕ)) (result : Result ℕ E) (text : List ℕ) → IsErr result
-      → take (n + 1) core.threads ≡ take n core.threads ++ t ∷ [] → is_asked_for listing t ≡ true → Printed (take n core.threads) old mid
-      → IsText t text → ((begun : List ℕ) × Appends mid new begun × IsBeginning begun text) → PrintsSome (λ line. IsPrinted listing files memory core line) old new result
+      → take (n + 1) core.threads ≡ take n core.threads ++ t ∷ [] → is_asked_thread listing t ≡ true → Printed (take n core.threads) old mid
+      → IsText t text → ((begun : List ℕ) × Appends mid new begun × IsBeginning begun text) → PrintsSome (λ line. AreThreadsPrinted listing files memory core line) old new result
   broken n t old mid new result text err is_next asked (front, given, so) is begun =
       let whole : List ℕ = (front ++ text) ++ (no_memory listing.format).text in
       let are = subst (λ (first : List CoreThread). AreTexts first (front ++ text)) (sym is_next)
@@ -110,18 +114,18 @@ module _ (listing : ThreadListing) (files : List KnownFile) (memory : ℕ → �
       )
 
   -- all were printed
-  behind : (front : List ℕ) → record { text = front ++ (ended listing.format [] core.error).text; status = (ended listing.format [] core.error).status } ≡ ended listing.format front core.error
+  behind : (front : List ℕ) → record { text = front ++ (core_ended listing.format [] core.error).text; status = (core_ended listing.format [] core.error).status } ≡ core_ended listing.format front core.error
   behind front = by core.error
     where
-      by : (error : Option CoreError) → record { text = front ++ (ended listing.format [] error).text; status = (ended listing.format [] error).status } ≡ ended listing.format front error
+      by : (error : Option CoreError) → record { text = front ++ (core_ended listing.format [] error).text; status = (core_ended listing.format [] error).status } ≡ core_ended listing.format front error
       by None = ap (λ (text : List ℕ). record { text = text; status = 0 }) (append-nil front)
       by (Some e) = refl
 
   pub printed : {E : Type 0} (first : List CoreThread) (old mid new : Option (List ℕ)) (r : Result ℕ E) → first ≡ core.threads → Printed first old mid
-      → Prints (ended listing.format [] core.error) mid new r → PrintsSome (λ line. IsPrinted listing files memory core line) old new r
+      → Prints (core_ended listing.format [] core.error) mid new r → PrintsSome (λ line. AreThreadsPrinted listing files memory core line) old new r
   printed first old mid new r all (front, given, so) (written, status) = (
-    record { text = front ++ (ended listing.format [] core.error).text; status = (ended listing.format [] core.error).status },
-    (last_written old mid new r front (ended listing.format [] core.error).text given written, status),
+    record { text = front ++ (core_ended listing.format [] core.error).text; status = (core_ended listing.format [] core.error).status },
+    (last_written old mid new r front (core_ended listing.format [] core.error).text given written, status),
     inl (front, subst (λ (threads : List CoreThread). AreTexts threads front) all (so_far first front so), behind front),
   )
 

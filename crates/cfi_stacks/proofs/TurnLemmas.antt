@@ -19,9 +19,10 @@ use Rattle.cfi_stacks.specs.declared.folding.Unfolded.TheVariants.{Input, TooMan
 use Rattle.cfi_stacks.specs.declared.listing.StackStyle.{StackStyle}
 use Rattle.cfi_stacks.specs.declared.profile_index.ProfileIndex.{ProfileIndex}
 use Rattle.cfi_stacks.specs.Choices.{Choice}
-use Rattle.cfi_stacks.specs.Foldings.{CountsTurn, PrintsTurn}
-use Rattle.cfi_stacks.specs.ProfileIndexes.{HoldsOf, IsIndex, IsIndexOf, Piece, place_of, record_of}
-use Rattle.cfi_stacks.specs.ProfileOutputs.{AreFolded, IsPrinted, IsUnfolded, Known, ended}
+use Rattle.cfi_stacks.specs.Turns.{CountsTurn, PrintsTurn}
+use Rattle.cfi_stacks.specs.ProfileIndexes.{HoldsOf, IsIndex, IsIndexOf, Piece, piece_place, record_of}
+use Rattle.cfi_stacks.specs.ProfileOutputs.{AreFolded, AreStacksPrinted, IsUnfolded, profile_ended}
+use Rattle.cfi_stacks.specs.KnownSamples.{Known}
 use Rattle.cfi_stacks.proofs.FoldLemmas.{SoFar as FoldedSoFar, all_so_far, many_so_far, none_so_far, too_many, turn_counted}
 use Rattle.cfi_stacks.proofs.PieceLemmas.{next_piece}
 use Rattle.cfi_stacks.proofs.RunLemmas.{Followed, broken, none_followed, one_turn, printed, printed_many, refused}
@@ -29,7 +30,7 @@ use Rattle.cfi_stacks.proofs.RunLemmas.{Followed, broken, none_followed, one_tur
 -- up to the last of them
 all_of : (known : Option (List ℕ)) (index : ProfileIndex) (pieces : List Piece) (i : ℕ) → IsIndexOf known index pieces → length (places_of index.records) ≤ i → take i (map record_of pieces) ≡ map record_of pieces
 all_of known index pieces i is all =
-    take_all i (map record_of pieces) (omega (arith, all, length-map pieces record_of, length-map pieces place_of, ap length is.places))
+    take_all i (map record_of pieces) (omega (arith, all, length-map pieces record_of, length-map pieces piece_place, ap length is.places))
 
 -- the place that a loop is at
 pub place_at : (items : List RecordPlace) (index : ProfileIndex) (i : ℕ) (d : RecordPlace) → items ≡ places_of index.records → i < length items → get_or items i d ≡ get_or (places_of index.records) i (get_or items i d)
@@ -66,23 +67,23 @@ module _ (style : StackStyle) (machine : SampleMachine) (files : List KnownFile)
   Turn place before left now old new result = PrintsTurn style machine files choice known index place before left now old new result
 
   abbrev pub IsShown : {E : Type 0} → Option (List ℕ) → Option (List ℕ) → Result ℕ E → Type 0
-  IsShown old new r = PrintsSome (λ line. HoldsOf known index (λ sorted. IsPrinted style machine files choice sorted index.error line)) old new r
+  IsShown old new r = PrintsSome (λ line. HoldsOf known index (λ sorted. AreStacksPrinted style machine files choice sorted index.error line)) old new r
 
   for_pieces : {E : Type 0} (pieces : List Piece) (old new : Option (List ℕ)) (r : Result ℕ E) → IsIndexOf known index pieces
-      → PrintsSome (λ line. IsPrinted style machine files choice (map record_of pieces) index.error line) old new r → IsShown old new r
+      → PrintsSome (λ line. AreStacksPrinted style machine files choice (map record_of pieces) index.error line) old new r → IsShown old new r
   for_pieces pieces old new r is (line, prints, printed) = (line, prints, (pieces, is, printed))
 
   pub none_shown : (now : Known) (old : Option (List ℕ)) → IsIndex known index → ((pid : ℕ) → now.mapped pid ≡ []) → ((tid : ℕ) → now.names tid ≡ None) → SoFar 0 choice.limit now old old
   none_shown now old (pieces, is) nothing nameless = (pieces, is, none_followed style machine files choice now old nothing nameless)
 
   pub all_shown : {E : Type 0} (i : ℕ) (left : Option ℕ) (now : Known) (old mid new : Option (List ℕ)) (r : Result ℕ E) → length (places_of index.records) ≤ i → SoFar i left now old mid
-      → Prints (ended style.format [] index.error) mid new r → IsShown old new r
+      → Prints (profile_ended style.format [] index.error) mid new r → IsShown old new r
   all_shown i left now old mid new r all (pieces, is, followed) prints =
       for_pieces pieces old new r is
       (printed style machine files choice (take i (map record_of pieces)) (map record_of pieces) left now old mid new index.error r (all_of known index pieces i is all) followed prints)
 
   pub many_shown : {E : Type 0} (i : ℕ) (left : Option ℕ) (now : Known) (old mid new : Option (List ℕ)) (r : Result ℕ E) → option_eq nat_eq left (Some 0) ≡ true → SoFar i left now old mid
-      → Prints (ended style.format [] index.error) mid new r → IsShown old new r
+      → Prints (profile_ended style.format [] index.error) mid new r → IsShown old new r
   many_shown i left now old mid new r full (pieces, is, followed) prints =
       for_pieces pieces old new r is (printed_many style machine files choice i (map record_of pieces) left now old mid new index.error r full followed prints)
 

@@ -5,14 +5,15 @@ use Rattle.cfi_elf.specs.Images.{Image, IsImageOf, whole}
 use Rattle.cfi_processes.specs.declared.code_parts.CodeParts.{CodeParts}
 use Rattle.cfi_processes.specs.declared.opened_file.OpenedFile.{OpenedFile}
 use Rattle.cfi_processes.specs.CodeParts.{IsOf, is_whole, parts_of}
-use Rattle.cfi_processes.specs.OpenedFiles.{AreOpened, AreOpenedAs, IsOpenedAs, Opened}
+use Rattle.cfi_processes.specs.FileReads.{AreOpened}
+use Rattle.cfi_processes.specs.OpenedFiles.{AreOpenedAs, IsOpenedAs, Opened}
 use Rattle.cfi_processes.specs.Wanted.{FilePlace, Wanted}
-use Rattle.cfi_processes.proofs.CodeImages.{whole_is}
+use Rattle.cfi_object.proofs.WholeParts.{whole_is}
 use Rattle.cfi_processes.proofs.FileLemmas.{opened_pushed}
 use Rattle.cfi_cores.specs.Builds.{build_of, image_of}
 use Rattle.cfi_cores.specs.CoreFiles.{Core}
 use Rattle.cfi_cores.specs.Vdso.{vdso_name}
-use Rattle.cfi_stacks.specs.CoreOutputs.{AreOpenedFor, IsVdsoAs, and_file, code_files, vdso_file, with_vdso}
+use Rattle.cfi_stacks.specs.CoreCode.{AreOpenedFor, IsVdsoAs, and_file, core_code_files, vdso_file, with_vdso_file}
 
 -- ---- its bytes
 
@@ -73,7 +74,7 @@ no_vdso opened (Some x) file is hold all are = absurd (cc)
 no_vdso opened None file is none all are = subst (λ (file : Option Opened). AreOpenedAs opened (and_file all file)) (sym none) are
 
 -- those of the core
-pub opened_for : {Handle : Type 0} (may_open : FilePlace → Option Handle → Type 0) (remaining : Handle → Option (List ℕ)) (core : Core) (wanted : List Wanted) (all : List Opened) (opened : List OpenedFile) → wanted ≡ code_files core.segments core.mapped
-    → AreOpened may_open remaining wanted all → AreOpenedAs opened (with_vdso core all) → (all : List Opened) × AreOpenedFor may_open remaining core all × AreOpenedAs opened all
+pub opened_for : {Handle : Type 0} (may_open : FilePlace → Option Handle → Type 0) (remaining : Handle → Option (List ℕ)) (core : Core) (wanted : List Wanted) (all : List Opened) (opened : List OpenedFile) → wanted ≡ core_code_files core.segments core.mapped
+    → AreOpened may_open remaining wanted all → AreOpenedAs opened (with_vdso_file core all) → (all : List Opened) × AreOpenedFor may_open remaining core all × AreOpenedAs opened all
 opened_for may_open remaining core wanted all opened same are hold =
-    (with_vdso core all, (all, subst (λ (wanted : List Wanted). AreOpened may_open remaining wanted all) same are, refl), hold)
+    (with_vdso_file core all, (all, subst (λ (wanted : List Wanted). AreOpened may_open remaining wanted all) same are, refl), hold)

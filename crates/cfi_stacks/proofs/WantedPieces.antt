@@ -9,10 +9,10 @@ use Rattle.cfi_perf.specs.declared.index.RecordPlace.{RecordPlace}
 use Rattle.cfi_perf.specs.Events.{Event, OtherEvent, Record, SampleEvent, MappingEvent, ProgramEvent, ForkEvent, LostEvent}
 use Rattle.cfi_perf.specs.Indexes.{kept_of, places_of}
 use Rattle.cfi_perf.specs.Recordings.{is_sample}
-use Rattle.cfi_processes.specs.Replays.{code_file, has_kernel, has_kernel_frames, wanted_in, wanted_of, with_file}
+use Rattle.cfi_processes.specs.WantedFiles.{mapped_code_file, has_kernel, has_kernel_frames, wanted_in, wanted_of, with_file}
 use Rattle.cfi_processes.specs.Wanted.{Wanted}
 use Rattle.cfi_stacks.specs.declared.profile_index.ProfileIndex.{ProfileIndex}
-use Rattle.cfi_stacks.specs.ProfileIndexes.{IsIndexOf, IsKernelAt, IsPieceOf, IsPlacedIn, IsReadAt, IsReadBy, Piece, place_of, record_of}
+use Rattle.cfi_stacks.specs.ProfileIndexes.{IsIndexOf, IsKernelAt, IsPieceOf, IsPlacedIn, IsReadAt, IsReadBy, Piece, piece_place, record_of}
 use Rattle.cfi_stacks.proofs.PieceLemmas.{same_found}
 
 -- ---- whether samples have frames of the kernel
@@ -42,7 +42,7 @@ kernel_told (Some first) pieces (piece, inside, kind, offset, is) = sym (one_has
 
 -- ---- the file of a record
 
-pub none_of_sample : (in_kernel : Bool) (event : Event) → is_sample event ≡ true → code_file in_kernel event ≡ None
+pub none_of_sample : (in_kernel : Bool) (event : Event) → is_sample event ≡ true → mapped_code_file in_kernel event ≡ None
 none_of_sample in_kernel (MappingEvent m) is = absurd (cc)
 none_of_sample in_kernel (ProgramEvent p) is = absurd (cc)
 none_of_sample in_kernel (ForkEvent f) is = absurd (cc)
@@ -62,22 +62,22 @@ module _ (known : Option (List ℕ)) (index : ProfileIndex) (piece : Piece) wher
   other_in Nothing r other none time read = read ∙ (λ j. record { time = time j; event = sym none j })
 
   module _ (place : RecordPlace) (is : IsPieceOf known index.walk (kept_of index.records) piece) (at : piece.place ≡ place) where
-    pub file_in_file : (in_kernel : Bool) → place.kind ≡ InFile → None ≡ code_file in_kernel piece.found.event
+    pub file_in_file : (in_kernel : Bool) → place.kind ≡ InFile → None ≡ mapped_code_file in_kernel piece.found.event
     file_in_file in_kernel kind = sym (none_of_sample in_kernel piece.found.event (sampled_in piece.place.kind (ap (λ (p : RecordPlace). p.kind) at ∙ kind) is.placed))
 
-    pub file_of_other : (in_kernel : Bool) (r : Record) (file : Option Wanted) → (place.kind ≡ InFile → ⊥) → IsReadAt known index place r → file ≡ code_file in_kernel r.event → file ≡ code_file in_kernel piece.found.event
+    pub file_of_other : (in_kernel : Bool) (r : Record) (file : Option Wanted) → (place.kind ≡ InFile → ⊥) → IsReadAt known index place r → file ≡ mapped_code_file in_kernel r.event → file ≡ mapped_code_file in_kernel piece.found.event
     file_of_other in_kernel r file other read of =
         let there : IsReadAt known index piece.place r = subst (λ (p : RecordPlace). IsReadAt known index p r) (sym at) read in
         let same = other_in piece.place.kind r (λ kind. other (ap (λ (p : RecordPlace). p.kind) (sym at) ∙ kind)) is.placed is.time there in
-        of ∙ ap (λ (r : Record). code_file in_kernel r.event) same
+        of ∙ ap (λ (r : Record). mapped_code_file in_kernel r.event) same
 
 -- ---- one more file
 
 abbrev pub wanted_on : Bool → List Wanted → List Record → List Wanted
-wanted_on in_kernel files records = fold (λ files r. with_file files (code_file in_kernel r.event)) files records
+wanted_on in_kernel files records = fold (λ files r. with_file files (mapped_code_file in_kernel r.event)) files records
 
 module _ (in_kernel : Bool) (pieces : List Piece) where
-  pub one_wanted : (i : ℕ) (d : Piece) (files next all : List Wanted) → i < length pieces → next ≡ with_file files (code_file in_kernel (get_or pieces i d).found.event) → wanted_on in_kernel files (map record_of (drop i pieces)) ≡ all
+  pub one_wanted : (i : ℕ) (d : Piece) (files next all : List Wanted) → i < length pieces → next ≡ with_file files (mapped_code_file in_kernel (get_or pieces i d).found.event) → wanted_on in_kernel files (map record_of (drop i pieces)) ≡ all
       → wanted_on in_kernel next (map record_of (drop (i + 1) pieces)) ≡ all
   one_wanted i d files next all inside is before =
       let left : map record_of (drop i pieces) ≡ (get_or pieces i d).found ∷ map record_of (drop (i + 1) pieces) = rw (drop-cons pieces i d, add-one) refl in
@@ -86,7 +86,7 @@ module _ (in_kernel : Bool) (pieces : List Piece) where
 pub all_wanted : (known : Option (List ℕ)) (index : ProfileIndex) (pieces : List Piece) (i : ℕ) (files : List Wanted) → IsIndexOf known index pieces → length (places_of index.records) ≤ i
     → wanted_on (is_some index.kernel) files (map record_of (drop i pieces)) ≡ wanted_in (is_some index.kernel) (map record_of pieces) → files ≡ wanted_of (map record_of pieces)
 all_wanted known index pieces i files is past before =
-    let none : drop i pieces ≡ [] = drop_all i pieces (omega (arith, past, ap length is.places, length-map pieces place_of)) in
+    let none : drop i pieces ≡ [] = drop_all i pieces (omega (arith, past, ap length is.places, length-map pieces piece_place)) in
     sym (ap (λ (l : List Piece). wanted_on (is_some index.kernel) files (map record_of l)) none) ∙ (before ∙ ap (λ (b : Bool). wanted_in b (map record_of pieces)) (kernel_told index.kernel pieces is.kernel))
 
 pub with_the_file : (files : List Wanted) (file other : Option Wanted) → file ≡ other → with_file files file ≡ with_file files other

@@ -8,14 +8,19 @@ use Rattle.cfi_read_core.specs.declared.error.Error.TheVariants.{NoUnwindInfoFor
 use Rattle.cfi_expression.specs.declared.error.FrameError.TheVariants.{NoRow}
 use Rattle.cfi_step.specs.declared.walk.End.TheVariants.{Failed}
 use Rattle.cfi_processes.specs.declared.mappings.MappedCode.{MappedCode}
-use Rattle.cfi_processes.specs.KnownFiles.{KnownFile, kernel_site}
+use Rattle.cfi_processes.specs.KnownFiles.{KnownFile}
+use Rattle.cfi_processes.specs.KernelSites.{kernel_site}
+use Rattle.cfi_programs.specs.JsonLines.{separated}
 use Rattle.cfi_stacks.specs.Choices.{chooses, everything, limited}
 use Rattle.cfi_stacks.specs.FoldedTexts.{chain_names}
-use Rattle.cfi_stacks.specs.ProfileOutputs.{chain_text}
-use Rattle.cfi_stacks.specs.Reasons.{reason_line, reason_of}
+use Rattle.cfi_stacks.specs.SampleOutputs.{chain_text}
+use Rattle.cfi_stacks.specs.Reasons.{end_line, reason_of}
 use Rattle.cfi_stacks.specs.Signals.{signal_name}
-use Rattle.cfi_stacks.specs.StackObjects.{listed, sample_frame, sample_head}
-use Rattle.cfi_stacks.specs.StackTexts.{core_frame_line, head_line, thread_line, thread_text, time_text}
+use Rattle.cfi_stacks.specs.FrameObjects.{chain_frame}
+use Rattle.cfi_stacks.specs.SampleMembers.{sample_head}
+use Rattle.cfi_stacks.specs.FrameLines.{address_column, site_line}
+use Rattle.cfi_stacks.specs.SampleHeads.{head_line, pid_and_tid, time_text}
+use Rattle.cfi_stacks.specs.ThreadHeads.{thread_line}
 
 abbrev of_thread : ℕ → Option ℕ → ℕ → List ℕ → Sample
 of_thread tid cpu period event = record { pid = 17261; tid = tid; ip = 0; cpu = cpu; period = period; event = event; in_kernel = false; call_chain = None; copies_stack = true; user = record { registers = None; stack = [] } }
@@ -37,11 +42,11 @@ idle_thread : head_line None 1000001000 (of_thread 0 (Some 12) 20000000 (codes "
 unfolding digits
 idle_thread = refl
 
-small_numbers : thread_text 7 8 ≡ codes "    7/8    "
+small_numbers : pid_and_tid 7 8 ≡ codes "    7/8    "
 unfolding digits
 small_numbers = refl
 
-large_numbers : thread_text 1234567 12345678 ≡ codes "1234567/12345678"
+large_numbers : pid_and_tid 1234567 12345678 ≡ codes "1234567/12345678"
 unfolding digits
 large_numbers = refl
 
@@ -70,7 +75,7 @@ folded_kernel = refl
 
 -- ---- reasons
 
-without_a_row : reason_line (reason_of (Failed (NoRow NoUnwindInfoForAddress))) ≡ codes "# the call frames have no row for this address (NoRow NoUnwindInfoForAddress)" ++ 10 ∷ []
+without_a_row : end_line (reason_of (Failed (NoRow NoUnwindInfoForAddress))) ≡ codes "# the call frames have no row for this address (NoRow NoUnwindInfoForAddress)" ++ 10 ∷ []
 without_a_row = refl
 
 -- ---- core files
@@ -90,7 +95,7 @@ without_signal : thread_line 7 0 None (Some (codes "sorter")) ≡ codes "thread 
 unfolding digits
 without_signal = refl
 
-a_frame : core_frame_line true 0x7ff0000000c6 (record { place = 0xc6; function = None; file = Some (codes "[vdso]") }) ≡ codes "\t    7ff0000000c6\t              c6 ([vdso])" ++ 10 ∷ []
+a_frame : address_column true 0x7ff0000000c6 ++ site_line true (record { place = 0xc6; function = None; file = Some (codes "[vdso]") }) ≡ codes "\t    7ff0000000c6\t              c6 ([vdso])" ++ 10 ∷ []
 unfolding digits
 a_frame = refl
 
@@ -101,8 +106,8 @@ with_quote : sample_head (Some (codes "a\"b")) 1000001999 (of_thread 8 (Some 2) 
 unfolding digits
 with_quote = refl
 
-two_objects : listed ((codes "," ++ sample_frame false true (record { place = 0x12; function = None; file = None }))
-    ++ (codes "," ++ sample_frame false false (record { place = 0x34; function = Some (record { name = codes "f"; offset = 18 }); file = Some (codes "/a") })))
+two_objects : separated true ((codes "," ++ chain_frame false true (record { place = 0x12; function = None; file = None }))
+    ++ (codes "," ++ chain_frame false false (record { place = 0x34; function = Some (record { name = codes "f"; offset = 18 }); file = Some (codes "/a") })))
     ≡ codes "{\"place\":\"0x12\",\"kernel\":true},{\"place\":\"0x34\",\"function\":\"f\",\"offset\":18,\"file\":\"/a\"}"
 unfolding digits
 two_objects = refl

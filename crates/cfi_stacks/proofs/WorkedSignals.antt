@@ -4,7 +4,7 @@ use Rattle.std.specs.Prelude.{if◌then◌else◌}
 use Rattle.std.specs.List.{range_with_len}
 use Rattle.cfi_expression.specs.declared.error.FrameError.TheVariants.{UnknownRegister, UnreadableMemory}
 use Rattle.cfi_processes.specs.declared.registers.SampleMachine.TheVariants.{X86_64, AArch64}
-use Rattle.cfi_stacks.specs.SignalTrampolines.{interrupted, is_trampoline, saved_in}
+use Rattle.cfi_stacks.specs.SignalTrampolines.{interrupted, is_signal_trampoline, saved_in}
 
 -- the two instructions at 0xfff0, and a frame at 0x8000, where x0 is 7, the stack pointer 0x9000 and the pc 0x400148; x29, in which calls keep the frame pointer, is at 0x8000 + 544
 abbrev memory : ℕ → ℕ → Option ℕ
@@ -20,13 +20,13 @@ memory a size =
 abbrev registers : ℕ → List (Option ℕ)
 registers sp = map (λ k. None) (range_with_len 0 31) ++ Some sp ∷ []
 
-there : is_trampoline AArch64 memory 0xfff0 ≡ true
+there : is_signal_trampoline AArch64 memory 0xfff0 ≡ true
 there = refl
 
-not_behind : is_trampoline AArch64 memory 0xfff4 ≡ false
+not_behind : is_signal_trampoline AArch64 memory 0xfff4 ≡ false
 not_behind = refl
 
-not_x86_64 : is_trampoline X86_64 memory 0xfff0 ≡ false
+not_x86_64 : is_signal_trampoline X86_64 memory 0xfff0 ≡ false
 not_x86_64 = refl
 
 caller : interrupted memory (registers 0x8000) ≡ Ok (record { cfa = 0x8130; pc = Some 0x400148; is_interrupted = true; args_size = 0 })

@@ -9,7 +9,7 @@ use Rattle.std.specs.Prelude.{nat_le, option_map, take}
 use Rattle.std.specs.Str.{bytes_eq}
 use Rattle.cfi_perf.specs.Samples.{Sample}
 use Rattle.cfi_stacks.specs.declared.choice.Choice.{Choice as ChoiceOfCode}
-use Rattle.cfi_stacks.specs.StackTexts.{name_text}
+use Rattle.cfi_stacks.specs.SampleHeads.{thread_name_text}
 
 -- of each part that is there, the sample's own is asked: the name of its thread, the process, the
 -- thread, the first and the last time in nanoseconds, the event; and how many samples at most
@@ -49,7 +49,7 @@ everything = record {
 -- the bytes of its name, or what stands in the place of one
 abbrev pub comm_of : ℕ → Option (List ℕ) → List ℕ
 comm_of tid (Some name) = name
-comm_of tid None = name_text tid None
+comm_of tid None = thread_name_text tid None
 
 -- what isn't asked holds
 abbrev pub holds : {A : Type 0} → (A → Bool) → Option A → Bool

@@ -15,9 +15,11 @@ use Rattle.cfi_step.specs.declared.walk.Walk.{Walk}
 use Rattle.cfi_step.specs.Steps.{row_address}
 use Rattle.cfi_processes.specs.declared.mappings.MappedCode.{MappedCode}
 use Rattle.cfi_processes.specs.declared.sample_stack.NoFrames.{NoFrames}
-use Rattle.cfi_processes.specs.KnownFiles.{KnownFile, site_of}
+use Rattle.cfi_processes.specs.KnownFiles.{KnownFile}
+use Rattle.cfi_processes.specs.Sites.{site_of}
 use Rattle.cfi_processes.specs.Sites.{Site}
-use Rattle.cfi_stacks.specs.StackTexts.{name_text, unknown}
+use Rattle.cfi_stacks.specs.SampleHeads.{thread_name_text}
+use Rattle.cfi_stacks.specs.FrameLines.{unknown}
 
 -- ---- names
 
@@ -32,9 +34,9 @@ folded_name space name = map (harmless space) (shown name)
 -- sample
 abbrev pub thread_name : ℕ → Option (List ℕ) → List ℕ
 thread_name tid (Some name) = folded_name 95 name
-thread_name tid None = name_text tid None
+thread_name tid None = thread_name_text tid None
 
--- behind the last slash
+-- after the last slash
 abbrev pub base_name : List ℕ → List ℕ
 base_name path = drop (last_part 47 path) path
 

@@ -13,7 +13,7 @@ use Rattle.cfi_expression.specs.declared.error.FrameError.{FrameError}
 use Rattle.cfi_expression.specs.declared.error.FrameError.TheVariants.{UnknownRegister}
 use Rattle.cfi_expression.specs.declared.error.FrameError.TheVariants.{UnreadableMemory}
 use Rattle.cfi_expression.specs.Frames.{known}
-use Rattle.cfi_expression.specs.Stacks.{map_value}
+use Rattle.cfi_read_core.specs.ReaderCalls.{map_ok}
 use Rattle.cfi_step.specs.declared.step.Caller.{Caller}
 use Rattle.cfi_step.specs.declared.walk.End.{End}
 use Rattle.cfi_step.specs.declared.walk.Start.{Start}
@@ -21,7 +21,7 @@ use Rattle.cfi_step.specs.Callers.{on_ok}
 use Rattle.cfi_step.specs.Walks.{State, checked}
 use Rattle.cfi_processes.specs.declared.registers.SampleMachine.{SampleMachine}
 use Rattle.cfi_processes.specs.declared.registers.SampleMachine.TheVariants.{X86_64, AArch64}
-use Rattle.cfi_processes.specs.Registers.{abi_of}
+use Rattle.cfi_processes.specs.Registers.{machine_abi}
 use Rattle.cfi_stacks.specs.MissingFrames.{has_no_frames}
 
 -- the innermost frame called none
@@ -33,26 +33,26 @@ abbrev pub called_from : ℕ → ℕ → Caller
 called_from the_cfa pc =
     record { cfa = the_cfa; pc = Some pc; is_interrupted = false; args_size = 0 }
 
-abbrev pub value_of : List (Option ℕ) → ℕ → Result ℕ FrameError
-value_of registers k = ok_or (known registers k) (UnknownRegister (record { 0 = k }))
+abbrev pub value_in_frame : List (Option ℕ) → ℕ → Result ℕ FrameError
+value_in_frame registers k = ok_or (known registers k) (UnknownRegister (record { 0 = k }))
 
 abbrev pub by_pushed : (ℕ → ℕ → Option ℕ) → ℕ → Result Caller FrameError
 by_pushed memory sp =
-    map_value (called_from ((sp + 8) % 2 ^ 64)) (ok_or (memory sp 8) (UnreadableMemory sp))
+    map_ok (called_from ((sp + 8) % 2 ^ 64)) (ok_or (memory sp 8) (UnreadableMemory sp))
 
 abbrev pub by_link : List (Option ℕ) → ℕ → Result Caller FrameError
-by_link registers sp = map_value (called_from sp) (value_of registers 30)
+by_link registers sp = map_ok (called_from sp) (value_in_frame registers 30)
 
 abbrev pub caller_of :
     SampleMachine → (ℕ → ℕ → Option ℕ) → List (Option ℕ) → Result Caller FrameError
-caller_of X86_64 memory registers = on_ok (by_pushed memory) (value_of registers 7)
-caller_of AArch64 memory registers = on_ok (by_link registers) (value_of registers 31)
+caller_of X86_64 memory registers = on_ok (by_pushed memory) (value_in_frame registers 7)
+caller_of AArch64 memory registers = on_ok (by_link registers) (value_in_frame registers 31)
 
 -- its registers are those of the frame but for the stack pointer; where no caller is found, what
 -- was there is left
 abbrev pub value_in_caller : SampleMachine → List (Option ℕ) → ℕ → ℕ → Option ℕ
 value_in_caller machine registers the_cfa k =
-    if k == (abi_of machine).stack_pointer.0 then Some the_cfa else known registers k
+    if k == (machine_abi machine).stack_pointer.0 then Some the_cfa else known registers k
 
 abbrev pub caller_registers :
     SampleMachine → List (Option ℕ) → Result Caller FrameError → ℕ → List (Option ℕ) →

@@ -8,7 +8,8 @@ use Rattle.cfi_perf.specs.ErrorNames.{name_of_perf}
 use Rattle.cfi_perf.specs.ErrorTexts.{text_of_perf}
 use Rattle.cfi_programs.specs.declared.style.Format.{Format}
 use Rattle.cfi_programs.specs.ErrorWords.{parting}
-use Rattle.cfi_programs.specs.Lines.{Line, refused_line}
+use Rattle.cfi_programs.specs.Lines.{Line}
+use Rattle.cfi_programs.specs.Refusals.{refused_line}
 
 abbrev pub perf_advice : PerfError → List ℕ
 perf_advice (AttributeSize size) = codes "; record with perf of Linux 3.7 or later"

@@ -15,19 +15,21 @@ use Rattle.std.specs.Prelude.{Option, Some, None, Ok, IfSome, slice_range, if◌
 use Rattle.std.specs.List.{All, Contains, flat_map}
 use Rattle.std.specs.List.Sorted.{IsSortedByKey}
 use Rattle.std.specs.Ordering.{nat_cmp}
-use Rattle.cfi_object.specs.FileParts.{AreLeft}
+use Rattle.cfi_object.specs.FileInputs.{AreLeft}
 use Rattle.cfi_perf.specs.declared.index.PlaceKind.{PlaceKind}
 use Rattle.cfi_perf.specs.declared.index.PlaceKind.TheVariants.{InFile, Kept, Nothing}
 use Rattle.cfi_perf.specs.declared.index.RecordPlace.{RecordPlace}
 use Rattle.cfi_perf.specs.declared.windows.RecordWalk.{RecordWalk}
 use Rattle.cfi_perf.specs.Events.{Event, OtherEvent, Record}
-use Rattle.cfi_perf.specs.Indexes.{AreIndexed, AreIndexedSorted, IsInTimeOrder, IsKeptIn, bytes_at}
+use Rattle.cfi_perf.specs.Indexes.{AreIndexed, AreIndexedSorted, IsInTimeOrder, IsKeptIn}
+use Rattle.cfi_perf.specs.Indexes.{record_bytes}
 use Rattle.cfi_perf.specs.Indexes.{kept_of, places_of}
 use Rattle.cfi_perf.specs.ProfilesAround.{IsAround}
 use Rattle.cfi_perf.specs.Recordings.{has_samples, has_stacks, is_sample, lost_in}
 use Rattle.cfi_perf.specs.Records.{no_records}
-use Rattle.cfi_perf.specs.Windows.{bytes_left, place_in, record_alone, records_in}
-use Rattle.cfi_processes.specs.Replays.{has_kernel_frames}
+use Rattle.cfi_perf.specs.Windows.{record_alone, records_in}
+use Rattle.cfi_perf.specs.Windows.{record_bytes_left, next_place}
+use Rattle.cfi_processes.specs.WantedFiles.{has_kernel_frames}
 use Rattle.cfi_stacks.specs.declared.profile_index.ProfileIndex.{ProfileIndex}
 use Rattle.cfi_stacks.specs.declared.profile_index.Tally.{Tally}
 
@@ -45,21 +47,22 @@ AreBytesAt known place size all =
 
 -- those of a walk that is at the first record
 abbrev pub records_bytes : RecordWalk → List ℕ → List ℕ
-records_bytes walk file = slice_range file (place_in walk) (place_in walk + bytes_left walk)
+records_bytes walk file =
+    slice_range file (next_place walk) (next_place walk + record_bytes_left walk)
 
 abbrev pub HasRecords : Option (List ℕ) → RecordWalk → Type 0
-HasRecords known walk = HasRecordsAt known (place_in walk) (bytes_left walk)
+HasRecords known walk = HasRecordsAt known (next_place walk) (record_bytes_left walk)
 
 abbrev pub AreBytesOf : Option (List ℕ) → RecordWalk → List ℕ → Type 0
-AreBytesOf known walk all = AreBytesAt known (place_in walk) (bytes_left walk) all
+AreBytesOf known walk all = AreBytesAt known (next_place walk) (record_bytes_left walk) all
 
 -- a part of them that was read
-abbrev pub IsPartOf : Option (List ℕ) → RecordWalk → ℕ → ℕ → List ℕ → Type 0
-IsPartOf known walk offset size bytes =
+abbrev pub IsRecordsPart : Option (List ℕ) → RecordWalk → ℕ → ℕ → List ℕ → Type 0
+IsRecordsPart known walk offset size bytes =
     (length bytes ≡ size)
     × IfSome known
     (λ file.
-    offset + size ≤ bytes_left walk →
+    offset + size ≤ record_bytes_left walk →
     slice_range (records_bytes walk file) offset (offset + size) ≡ bytes)
 
 -- ---- records
@@ -69,8 +72,8 @@ pub record Piece : Type 0 where
   pub bytes : List ℕ
   pub found : Record
 
-abbrev pub place_of : Piece → RecordPlace
-place_of piece = piece.place
+abbrev pub piece_place : Piece → RecordPlace
+piece_place piece = piece.place
 
 abbrev pub record_of : Piece → Record
 record_of piece = piece.found
@@ -83,11 +86,11 @@ abbrev pub IsPlacedIn :
     PlaceKind → Option (List ℕ) → RecordWalk → List ℕ → Piece → Type 0
 IsPlacedIn InFile known walk kept piece =
     (length piece.bytes ≡ piece.place.size)
-    × (piece.place.offset + piece.place.size ≤ bytes_left walk)
+    × (piece.place.offset + piece.place.size ≤ record_bytes_left walk)
     × (is_sample piece.found.event ≡ true)
-    × IfSome known (λ file. bytes_at piece.place (records_bytes walk file) ≡ piece.bytes)
+    × IfSome known (λ file. record_bytes piece.place (records_bytes walk file) ≡ piece.bytes)
 IsPlacedIn Kept known walk kept piece =
-    (record_alone walk (bytes_at piece.place kept) ≡ Ok piece.found)
+    (record_alone walk (record_bytes piece.place kept) ≡ Ok piece.found)
     × IsKeptIn Kept (length kept) piece.place × (is_sample piece.found.event ≡ false)
 IsPlacedIn Nothing known walk kept piece = piece.found.event ≡ OtherEvent
 
@@ -121,12 +124,12 @@ pub record IsTallyOf (tally : Tally) (records : List Record) : Type 0 where
 pub record IsFoundOf (known : Option (List ℕ)) (index : ProfileIndex) (walk : RecordWalk)
     (pieces : List Piece) :
     Type 0 where
-  pub places : map place_of pieces ≡ places_of index.records
+  pub places : map piece_place pieces ≡ places_of index.records
   pub each : All (IsPieceOf known index.walk (kept_of index.records)) pieces
   pub kernel : IsKernelAt index.kernel pieces
   pub tally : IsTallyOf index.tally (map record_of pieces)
   pub no_error : index.error ≡ None
-  pub left : length (all_bytes pieces) + bytes_left walk ≡ bytes_left index.walk
+  pub left : length (all_bytes pieces) + record_bytes_left walk ≡ record_bytes_left index.walk
   pub walk_on : (bytes : List ℕ) → records_in walk bytes ≡ records_in index.walk bytes
   pub alone : (bytes : List ℕ) → record_alone walk bytes ≡ record_alone index.walk bytes
   pub indexed : IfSome known (λ file.
@@ -137,22 +140,22 @@ pub record IsFoundOf (known : Option (List ℕ)) (index : ProfileIndex) (walk : 
 abbrev pub IsWindowIn :
     Option (List ℕ) → ProfileIndex → RecordWalk → List Piece → List ℕ → Type 0
 IsWindowIn known index walk pieces window =
-    (length window ≤ bytes_left walk)
+    (length window ≤ record_bytes_left walk)
     × IfSome known
     (λ file.
     (behind : List ℕ)
     × (records_bytes index.walk file ≡ all_bytes pieces ++ (window ++ behind)))
 
--- all were found: behind the last there is no more, or an error
+-- all were found: after the last there is no more, or an error
 pub record IsWholeOf (known : Option (List ℕ)) (index : ProfileIndex) (pieces : List Piece)
     (rest : List ℕ) :
     Type 0 where
-  pub places : map place_of pieces ≡ places_of index.records
+  pub places : map piece_place pieces ≡ places_of index.records
   pub each : All (IsPieceOf known index.walk (kept_of index.records)) pieces
   pub kernel : IsKernelAt index.kernel pieces
   pub tally : IsTallyOf index.tally (map record_of pieces)
   pub ends : records_in index.walk rest ≡ no_records index.error
-  pub left : length (all_bytes pieces) + length rest ≡ bytes_left index.walk
+  pub left : length (all_bytes pieces) + length rest ≡ record_bytes_left index.walk
   pub file : IfSome known (λ file.
       (records_bytes index.walk file ≡ all_bytes pieces ++ rest)
       × AreIndexed index.walk (records_bytes index.walk file) index.records
@@ -169,23 +172,23 @@ IsNextIn known index walk window None =
     (pieces : List Piece) × (rest : List ℕ) × IsWholeOf known index pieces rest
 
 -- the records of an index, by the bytes of its file
-abbrev pub IsOfFile : ProfileIndex → List ℕ → Type 0
-IsOfFile index file =
+abbrev pub IsIndexOfFile : ProfileIndex → List ℕ → Type 0
+IsIndexOfFile index file =
     (records : List Record)
     × (records_in index.walk (records_bytes index.walk file)
     ≡ record { records = records; error = index.error })
-    × (length (records_bytes index.walk file) ≡ bytes_left index.walk)
+    × (length (records_bytes index.walk file) ≡ record_bytes_left index.walk)
     × AreIndexedSorted index.walk (records_bytes index.walk file) index.records records
 
 pub record IsIndexOf (known : Option (List ℕ)) (index : ProfileIndex) (pieces : List Piece) :
     Type 0 where
-  pub places : map place_of pieces ≡ places_of index.records
+  pub places : map piece_place pieces ≡ places_of index.records
   pub each : All (IsPieceOf known index.walk (kept_of index.records)) pieces
   pub kernel : IsKernelAt index.kernel pieces
   pub by_time : IsSortedByKey (λ p. p.time) nat_cmp (places_of index.records)
   pub end : (rest : List ℕ) × (records_in index.walk rest ≡ no_records index.error)
-      × (length (all_bytes pieces) + length rest ≡ bytes_left index.walk)
-  pub file : IfSome known (IsOfFile index)
+      × (length (all_bytes pieces) + length rest ≡ record_bytes_left index.walk)
+  pub file : IfSome known (IsIndexOfFile index)
 
 -- what was told of the records is so of those of some bytes: of the file's, where these are known
 abbrev pub IsToldOf : Option (List ℕ) → ProfileIndex → Type 0
@@ -203,11 +206,11 @@ IsKernelFit (Some first) offset event = offset ≡ first → has_kernel_frames e
 abbrev pub IsReadBy :
     PlaceKind → Option (List ℕ) → ProfileIndex → RecordPlace → Record → Type 0
 IsReadBy InFile known index place r =
-    (bytes : List ℕ) × IsPartOf known index.walk place.offset place.size bytes
+    (bytes : List ℕ) × IsRecordsPart known index.walk place.offset place.size bytes
     × (record_alone index.walk bytes ≡ Ok r) × (r.time ≡ place.time)
     × (is_sample r.event ≡ true) × IsKernelFit index.kernel place.offset r.event
 IsReadBy Kept known index place r =
-    record_alone index.walk (bytes_at place (kept_of index.records)) ≡ Ok r
+    record_alone index.walk (record_bytes place (kept_of index.records)) ≡ Ok r
 IsReadBy Nothing known index place r = r ≡ record { time = place.time; event = OtherEvent }
 
 abbrev pub IsReadAt : Option (List ℕ) → ProfileIndex → RecordPlace → Record → Type 0

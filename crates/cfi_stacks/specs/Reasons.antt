@@ -2,7 +2,7 @@
 --     reason_of end      the reason why a walk has no more frames; none where its last frame is the
 --         outermost one
 --     reason_without why      the reason why a sample has no frames
---     reason_line reason      its line
+--     end_line reason      its line
 use Rattle.std.specs.Prelude.{List, [], ◌∷◌, ◌++◌, ℕ, Option, Some, None, codes}
 use Rattle.cfi_read_core.specs.declared.error.Error.{Error}
 use Rattle.cfi_read_core.specs.RefusalNames.{name_of}
@@ -36,66 +36,67 @@ abbrev pub reason_view : ReasonOfCode → Reason
 reason_view reason =
     record { name = reason.name.now; words = reason.words.now; error = reason.error }
 
-abbrev pub named : List ℕ → List ℕ → Reason
-named name words = record { name = name; words = words; error = None }
+abbrev pub plain_reason : List ℕ → List ℕ → Reason
+plain_reason name words = record { name = name; words = words; error = None }
 
-abbrev pub carrying : List ℕ → List ℕ → Error → Reason
-carrying name words error = record { name = name; words = words; error = Some error }
+abbrev pub reason_with_error : List ℕ → List ℕ → Error → Reason
+reason_with_error name words error = record { name = name; words = words; error = Some error }
 
 abbrev pub reason_of_error : FrameError → Reason
 reason_of_error (NoRow error) =
-    carrying (codes "NoRow") (codes "the call frames have no row for this address") error
+    reason_with_error (codes "NoRow") (codes "the call frames have no row for this address") error
 reason_of_error (Unreadable error) =
-    carrying (codes "Unreadable") (codes "the call frames can't be read") error
+    reason_with_error (codes "Unreadable") (codes "the call frames can't be read") error
 reason_of_error (UnsupportedOperation opcode) =
-    named (codes "UnsupportedOperation") (codes "an expression has an unsupported operation")
+    plain_reason (codes "UnsupportedOperation") (codes "an expression has an unsupported operation")
 reason_of_error (UnsupportedSize size) =
-    named (codes "UnsupportedSize") (codes "an expression reads a number of an unsupported size")
+    plain_reason (codes "UnsupportedSize")
+    (codes "an expression reads a number of an unsupported size")
 reason_of_error (UnknownRegister register) =
-    named (codes "UnknownRegister") (codes "a needed register isn't known")
+    plain_reason (codes "UnknownRegister") (codes "a needed register isn't known")
 reason_of_error (UnreadableMemory address) =
-    named (codes "UnreadableMemory") (codes "needed memory isn't there")
+    plain_reason (codes "UnreadableMemory") (codes "needed memory isn't there")
 reason_of_error NotEnoughStackItems =
-    named (codes "NotEnoughStackItems") (codes "an expression takes more than it has")
+    plain_reason (codes "NotEnoughStackItems") (codes "an expression takes more than it has")
 reason_of_error StackFull =
-    named (codes "StackFull") (codes "an expression needs more room than there is")
+    plain_reason (codes "StackFull") (codes "an expression needs more room than there is")
 reason_of_error DivisionByZero =
-    named (codes "DivisionByZero") (codes "an expression divides by zero")
+    plain_reason (codes "DivisionByZero") (codes "an expression divides by zero")
 reason_of_error (BadBranchTarget distance) =
-    named (codes "BadBranchTarget") (codes "an expression branches out of itself")
+    plain_reason (codes "BadBranchTarget") (codes "an expression branches out of itself")
 reason_of_error TooManyIterations =
-    named (codes "TooManyIterations") (codes "an expression has too many steps")
+    plain_reason (codes "TooManyIterations") (codes "an expression has too many steps")
 reason_of_error ArchitecturalRule =
-    named (codes "ArchitecturalRule") (codes "the rule is architectural")
+    plain_reason (codes "ArchitecturalRule") (codes "the rule is architectural")
 
 abbrev pub reason_of : End → Option Reason
 reason_of Outermost = None
 reason_of NoModule =
-    Some (named (codes "NoModule") (codes "no file with call frames is mapped here"))
+    Some (plain_reason (codes "NoModule") (codes "no file with call frames is mapped here"))
 reason_of (Failed error) = Some (reason_of_error error)
 reason_of NotRising =
-    Some (named (codes "NotRising") (codes "the caller's frame isn't above this one"))
+    Some (plain_reason (codes "NotRising") (codes "the caller's frame isn't above this one"))
 reason_of NoRoom =
-    Some (named (codes "NoRoom") (codes "there are more frames than can be kept"))
+    Some (plain_reason (codes "NoRoom") (codes "there are more frames than can be kept"))
 
 abbrev pub reason_without : NoFrames → Reason
 reason_without NoRegisters =
-    named (codes "NoRegisters") (codes "the sample has no registers of user space")
+    plain_reason (codes "NoRegisters") (codes "the sample has no registers of user space")
 reason_without (OtherAbi abi) =
-    named (codes "OtherAbi") (codes "the registers aren't those of a 64-bit program")
+    plain_reason (codes "OtherAbi") (codes "the registers aren't those of a 64-bit program")
 reason_without NoProgramCounter =
-    named (codes "NoProgramCounter") (codes "the program counter isn't known")
+    plain_reason (codes "NoProgramCounter") (codes "the program counter isn't known")
 reason_without NoStackPointer =
-    named (codes "NoStackPointer") (codes "the stack pointer isn't known")
+    plain_reason (codes "NoStackPointer") (codes "the stack pointer isn't known")
 
 -- ---- its line
 
-abbrev pub error_text : Option Error → List ℕ
-error_text None = []
-error_text (Some error) = codes " " ++ name_of error
+abbrev pub carried_error : Option Error → List ℕ
+carried_error None = []
+carried_error (Some error) = codes " " ++ name_of error
 
-abbrev pub reason_line : Option Reason → List ℕ
-reason_line None = []
-reason_line (Some reason) =
-    codes "# " ++ reason.words ++ codes " (" ++ reason.name ++ error_text reason.error
+abbrev pub end_line : Option Reason → List ℕ
+end_line None = []
+end_line (Some reason) =
+    codes "# " ++ reason.words ++ codes " (" ++ reason.name ++ carried_error reason.error
     ++ codes ")" ++ 10 ∷ []

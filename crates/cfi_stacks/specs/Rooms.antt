@@ -13,9 +13,9 @@ use Rattle.cfi_step.specs.declared.cached_rows.CachedRow.{CachedRow}
 use Rattle.cfi_step.specs.declared.module.LoadedModule.{LoadedModule}
 use Rattle.cfi_step.specs.CachedRows.{AreCachedIn, AreEmpty}
 use Rattle.cfi_processes.specs.declared.profile_files.ProfileFile.{ProfileFile}
-use Rattle.cfi_processes.specs.FileModules.{IsOfFiles}
+use Rattle.cfi_processes.specs.FileModules.{IsModuleOfFiles}
 use Rattle.cfi_processes.specs.SampleStacks.{HasRoom}
-use Rattle.cfi_stacks.specs.declared.sample_text.Room.{Room}
+use Rattle.cfi_stacks.specs.declared.room.Room.{Room}
 
 abbrev pub KeepsNoRows : Room → Type 0
 KeepsNoRows room = AreEmpty room.cache.items
@@ -27,7 +27,7 @@ AreRowsOf loaded cache = AreCachedIn (slice_position is_big) 8 (Some 192) (Some 
 -- in any process, and at any bias
 abbrev pub AreKeptFor : List ProfileFile → List CachedRow → Type 0
 AreKeptFor files cache =
-    (loaded : LoadedModule (EndianSlice RunTimeEndian)) → IsOfFiles files loaded →
+    (loaded : LoadedModule (EndianSlice RunTimeEndian)) → IsModuleOfFiles files loaded →
     AreRowsOf loaded cache
 
 abbrev pub IsRoomFor : List ProfileFile → Room → Type 0

@@ -17,7 +17,7 @@ use Rattle.cfi_step.specs.Walks.{AreWritten, IsStepAmong, IsWalkBy, State, writt
 use Rattle.cfi_processes.specs.declared.registers.SampleMachine.{SampleMachine}
 use Rattle.cfi_processes.specs.declared.sample_stack.NoFrames.{NoFrames}
 use Rattle.cfi_processes.specs.declared.sample_stack.NoFrames.TheVariants.{NoProgramCounter}
-use Rattle.cfi_processes.specs.Registers.{abi_of, pc_number, register_count}
+use Rattle.cfi_processes.specs.Registers.{machine_abi, pc_number, register_count}
 use Rattle.cfi_processes.specs.SampleStacks.{Room}
 use Rattle.cfi_cores.specs.CoreThreads.{CoreThread, register_of}
 use Rattle.cfi_stacks.specs.NullCalls.{IsNullStep}
@@ -34,7 +34,7 @@ module _ {R T : Type 0} (position : R → Position) (number : T → ℕ)
   IsThreadStep =
       IsSignalStep machine memory
       (IsNullStep machine memory
-      (IsStepAmong position number memory 8 (abi_of machine) rule_limit stack_limit copies_free
+      (IsStepAmong position number memory 8 (machine_abi machine) rule_limit stack_limit copies_free
       modules))
 
   abbrev pub IsThreadWalk : ℕ → List (Option ℕ) → Room → Walk → Room → Type 0

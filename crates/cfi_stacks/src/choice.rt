@@ -1,16 +1,12 @@
 //! Which samples of a profile are printed.
-ghost use Rattle.std.specs.Prelude.{◌≡◌, ◌-◌, ◌==◌, ⊤, None, nat_le, option_map};
+ghost use Rattle.std.specs.Prelude.{◌≡◌, ◌==◌, ⊤, None, nat_le, option_map};
 ghost use Rattle.std.specs.Str.{bytes_eq};
-ghost use Rattle.cfi_perf.specs.Events.{record_view};
-ghost use Rattle.cfi_processes.specs.ThreadNames.{bytes_of};
+ghost use Rattle.cfi_processes.specs.ThreadNames.{name_bytes};
 ghost use Rattle.cfi_stacks.specs.Choices.{choice_view, comm_of, holds};
-ghost use Rattle.cfi_stacks.specs.Foldings.{is_left_out, left_after};
-ghost use Rattle.cfi_stacks.specs.ProfileOutputs.{known_in};
-ghost use Rattle.cfi_stacks.specs.StackTexts.{name_text};
+ghost use Rattle.cfi_stacks.specs.SampleHeads.{thread_name_text};
 
-use cfi_perf::{Event, Record, Sample};
+use cfi_perf::Sample;
 use cfi_processes::Name;
-use cfi_processes::replay::Replay;
 use itoa::Buffer;
 use std::alloc::AllocError;
 
@@ -24,7 +20,7 @@ pub struct Choice<'w> {
     pub pid: Option<u64>,
     /// The thread.
     pub tid: Option<u64>,
-    /// The first time, in nanoseconds: samples at it or behind it.
+    /// The first time, in nanoseconds: samples at it or after it.
     pub from: Option<u64>,
     /// The last time, in nanoseconds: samples at it or before it.
     pub until: Option<u64>,
@@ -48,7 +44,7 @@ impl Clone for Choice<'_> {
 impl Choice<'_> {
     ghost use Rattle.std.specs.Prelude.{◌≡◌};
     ghost use Rattle.cfi_perf.specs.Samples.{sample_view};
-    ghost use Rattle.cfi_processes.specs.ThreadNames.{bytes_of};
+    ghost use Rattle.cfi_processes.specs.ThreadNames.{name_bytes};
     ghost use Rattle.cfi_stacks.specs.Choices.{choice_view, chooses, everything, is_in_time};
     ghost use Rattle.cfi_stacks.specs.Choices.{is_of_thread};
 
@@ -70,7 +66,7 @@ impl Choice<'_> {
     /// Returns whether a sample is one of those that are chosen, whatever the limit is. Its thread
     /// has this name, if one is known; the time is in nanoseconds. Does not allocate.
     pub fn chooses(&self, name: Option<Name<'_>>, time: u64, sample: &Sample<'_>) -> bool
-        ensures { result ≡ chooses (choice_view self.now) (bytes_of name.entry) time
+        ensures { result ≡ chooses (choice_view self.now) (name_bytes name.entry) time
             (sample_view sample.now) }
     {
         self.is_of_thread(name, sample) && self.is_in_time(time) && is_event(self.event, sample)
@@ -78,7 +74,7 @@ impl Choice<'_> {
 
     /// Whether a sample is of a thread that is chosen.
     fn is_of_thread(&self, name: Option<Name<'_>>, sample: &Sample<'_>) -> bool
-        ensures { result ≡ is_of_thread (choice_view self.now) (bytes_of name.entry)
+        ensures { result ≡ is_of_thread (choice_view self.now) (name_bytes name.entry)
             (sample_view sample.now) }
     {
         is_number(self.pid, sample.pid)
@@ -104,7 +100,7 @@ fn is_number(asked: Option<u64>, number: u32) -> bool
     }
 }
 
-/// Whether a time is at the first one or behind it, if there is one.
+/// Whether a time is at the first one or after it, if there is one.
 fn is_from(asked: Option<u64>, time: u64) -> bool
     ensures { result ≡ holds (λ first. nat_le first time) asked }
 {
@@ -137,7 +133,7 @@ fn is_event(asked: Option<&str>, sample: &Sample<'_>) -> bool
 
 /// Whether a thread has the name that is asked for, if one is.
 fn is_comm(asked: Option<&str>, tid: u32, name: Option<Name<'_>>) -> bool
-    ensures { result ≡ holds (λ comm. bytes_eq (comm_of tid (bytes_of name.entry)) comm)
+    ensures { result ≡ holds (λ comm. bytes_eq (comm_of tid (name_bytes name.entry)) comm)
         (option_map (λ name. name.now) asked.entry) }
 {
     match asked {
@@ -148,7 +144,7 @@ fn is_comm(asked: Option<&str>, tid: u32, name: Option<Name<'_>>) -> bool
 
 /// Whether this is the name of a thread, or stands in the place of one.
 fn is_named(comm: &[u8], tid: u32, name: Option<Name<'_>>) -> bool
-    ensures { result ≡ bytes_eq (comm_of tid (bytes_of name.entry)) comm.now }
+    ensures { result ≡ bytes_eq (comm_of tid (name_bytes name.entry)) comm.now }
 {
     match name {
         Some(name) => name.bytes == comm,
@@ -158,7 +154,7 @@ fn is_named(comm: &[u8], tid: u32, name: Option<Name<'_>>) -> bool
 
 /// Whether this stands in the place of the name of a thread.
 fn stands_for(comm: &[u8], tid: u32) -> bool
-    ensures { result ≡ bytes_eq (name_text tid None) comm.now }
+    ensures { result ≡ bytes_eq (thread_name_text tid None) comm.now }
 {
     if tid == 0 {
         return comm == b"swapper".as_slice();
@@ -166,40 +162,5 @@ fn stands_for(comm: &[u8], tid: u32) -> bool
     match comm {
         [b':', digits @ ..] => Buffer::new().format(tid).as_bytes() == digits,
         _ => false,
-    }
-}
-
-/// Whether a record is a sample that isn't chosen, by the names that threads have before it.
-pub(crate) fn is_left_out(
-    choice: &Choice<'_>,
-    replay: &Replay<'_, '_, '_>,
-    item: &Record<'_>,
-) -> bool
-    ensures { result ≡ is_left_out (choice_view choice.now) (known_in replay.now) item.now.time
-        (record_view item.now).event }
-{
-    match item.event {
-        Event::Sample(sample) => !choice.chooses(replay.name(sample.tid), item.time, &sample),
-        _ => false,
-    }
-}
-
-/// How many more samples may be printed behind a record that isn't left out, if there is a limit.
-pub(crate) fn left_after(left: Option<u64>, item: &Record<'_>) -> Option<u64>
-    ensures { result ≡ left_after left (record_view item.now).event }
-{
-    match item.event {
-        Event::Sample(_) => one_less(left),
-        _ => left,
-    }
-}
-
-/// One less, but for none.
-fn one_less(left: Option<u64>) -> Option<u64>
-    ensures { result ≡ option_map (λ n. n - 1) left }
-{
-    match left {
-        None => None,
-        Some(n) => Some(n.saturating_sub(1)),
     }
 }

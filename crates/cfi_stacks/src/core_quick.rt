@@ -3,45 +3,51 @@ ghost use Rattle.std.specs.Prelude.{◌≡◌, ℕ, IfOk, IfSome, List, Option, 
 ghost use Rattle.std.specs.Io.KnownBytes.{Appends};
 ghost use Rattle.std.specs.List.Sorted.{IsNonDecreasingBy};
 ghost use Rattle.cfi_cores.specs.CoreFiles.{core_view};
-ghost use Rattle.cfi_cores.specs.CoreParts.{IsPartial, image_of, segment_at, with_all};
+ghost use Rattle.cfi_cores.specs.PartialCores.{IsPartial, segment_at, with_all};
+ghost use Rattle.cfi_object.specs.FileParts.{image_of};
 ghost use Rattle.cfi_cores.specs.CoreSegments.{CoreSegment as Lent, segment_view};
 ghost use Rattle.cfi_cores.specs.CoreThreads.{thread_view};
 ghost use Rattle.cfi_elf.specs.Images.{IsImageOf, image_view};
 ghost use Rattle.cfi_object.specs.FileParts.{AreOfInput};
-ghost use Rattle.cfi_processes.specs.FileModules.{AreOfFiles};
-ghost use Rattle.cfi_processes.specs.KnownFiles.{known_view, modules_in};
-ghost use Rattle.cfi_processes.specs.Mappings.{AreInOrder};
-ghost use Rattle.cfi_processes.specs.Modules.{module_view};
+ghost use Rattle.cfi_processes.specs.FileModules.{AreModulesOfFiles};
+ghost use Rattle.cfi_processes.specs.KnownFiles.{known_view};
+ghost use Rattle.cfi_processes.specs.ProcessModules.{modules_in};
+ghost use Rattle.cfi_processes.specs.Mappings.{AreMappedInOrder};
+ghost use Rattle.cfi_processes.specs.Modules.{loaded_module_view};
 ghost use Rattle.cfi_processes.specs.OpenedFiles.{AreOpenedAs, Opened};
 ghost use Rattle.cfi_processes.specs.SampleStacks.{HasRoom};
-ghost use Rattle.cfi_processes.specs.ThreadNames.{bytes_of};
+ghost use Rattle.cfi_processes.specs.ThreadNames.{name_bytes};
 ghost use Rattle.cfi_programs.specs.WriterOutput.{Prints};
-ghost use Rattle.cfi_stacks.specs.CoreOutputs.{AreOpenedFor, IsOfFiles, IsOfOpened, IsPrinted};
-ghost use Rattle.cfi_stacks.specs.CoreOutputs.{IsThreadText, PrintsOwed, lacks_thread};
-ghost use Rattle.cfi_stacks.specs.CoreOutputs.{mappings_of, memory_of};
-ghost use Rattle.cfi_stacks.specs.QuickStacks.{IsStackIn, end_lacks, error_lacks, line_of};
-ghost use Rattle.cfi_stacks.specs.QuickStacks.{may_be_signal, memory_by, misses_value, walk_lacks};
+ghost use Rattle.cfi_stacks.specs.CoreCode.{AreOpenedFor, core_mappings};
+ghost use Rattle.cfi_stacks.specs.CoreOutputs.{AreThreadsPrinted, IsCoreOfFiles, IsCoreOfOpened};
+ghost use Rattle.cfi_stacks.specs.CoreOutputs.{PrintsCoreOwed, core_memory};
+ghost use Rattle.cfi_stacks.specs.ThreadOutputs.{IsThreadText};
+ghost use Rattle.cfi_stacks.specs.AskedThreads.{lacks_thread};
+ghost use Rattle.cfi_stacks.specs.QuickStacks.{IsStackIn, line_of, memory_by};
 ghost use Rattle.cfi_stacks.specs.Rooms.{IsRoomFor, KeepsNoRows};
 
-use crate::core_files::{CoreCode, core_code, opened_files};
-use crate::core_run::{is_asked_for, lacks_thread, print_whole, shown_name, write_end};
+use crate::asked_threads::{is_asked_for, lacks_thread};
+use crate::core_code::{CoreCode, core_code};
+use crate::core_errors::write_end;
+use crate::core_files::opened_files;
+use crate::core_run::print_whole;
 use crate::core_text::print_found;
+use crate::lacking::walk_lacks;
 use crate::listing::ThreadListing;
-use crate::missing_frames::lacks_frames;
+use crate::names::shown_name;
 use crate::quiet_opener::QuietOpener;
-use crate::sample_text::{REGISTERS, Room};
-use crate::thread_stack::unwind_thread;
-use cfi_cores::{CoreParts, CoreSegment, CoreThread, PartialCore, stack_at};
+use crate::room::Room;
+use cfi_cores::{CoreSegment, CoreThread, PartialCore, stack_at};
 use cfi_elf::{Image, ProgramHeader};
-use cfi_expression::{FrameError, Window};
-use cfi_object::input::FileInput;
-use cfi_processes::Name;
-use cfi_processes::process_code::{FileModule, ProcessCode};
-use cfi_processes::profile_files::{OpenedFile, Opener, ProfileFile, profile_files};
+use cfi_expression::Window;
+use cfi_object::{FileInput, FileParts};
+use cfi_processes::process_code::ProcessCode;
+use cfi_processes::process_modules::FileModule;
+use cfi_processes::profile_files::{OpenedFile, ProfileFile, profile_files};
 use cfi_processes::registers::SampleMachine;
-use cfi_processes::sample_stack::NoFrames;
-use cfi_programs::lines::{write_reason, write_refusal_in, write_text};
-use cfi_step::{End, Modules, Walk};
+use cfi_processes::{Name, Opener};
+use cfi_programs::lines::write_text;
+use cfi_programs::refusals::{write_reason, write_refusal_in};
 use gimli_cfi::{EndianSlice, Error, RunTimeEndian};
 use std::alloc::{AllocError, Global};
 use std::io;
@@ -61,7 +67,7 @@ pub(crate) fn print_partial<O: Opener, I: FileInput, W: Write>(
     alloc: Global,
     listing: ThreadListing,
     opener: &O,
-    parts: &CoreParts,
+    parts: &FileParts,
     partial: PartialCore<'_>,
     input: &mut I,
     output: &mut W,
@@ -69,7 +75,7 @@ pub(crate) fn print_partial<O: Opener, I: FileInput, W: Write>(
     requires parts { AreOfInput (I.bytes input.old) (image_of parts.now) }
     requires partial { (bytes : List ℕ) → IsImageOf (image_of parts.now) bytes
         → IsPartial bytes partial }
-    ensures { PrintsOwed listing (O.may_open opener.now) O.File.remaining (I.bytes input.old)
+    ensures { PrintsCoreOwed listing (O.may_open opener.now) O.File.remaining (I.bytes input.old)
         (W.contents output.old) (W.contents output.new) result }
 {
     if lacks_thread(listing, &partial.core) {
@@ -91,7 +97,7 @@ fn print_by_parts<O: Opener, I: FileInput, W: Write>(
     alloc: Global,
     listing: ThreadListing,
     opener: &O,
-    parts: &CoreParts,
+    parts: &FileParts,
     partial: &PartialCore<'_>,
     opened: &[OpenedFile<'_>],
     input: &mut I,
@@ -103,7 +109,7 @@ fn print_by_parts<O: Opener, I: FileInput, W: Write>(
     requires opened { (all : List Opened) × AreOpenedFor (O.may_open opener.now) O.File.remaining
         (core_view partial.now.core) all × AreOpenedAs opened.now all }
     requires threads { lacks_thread listing (core_view partial.now.core) ≡ false }
-    ensures { PrintsOwed listing (O.may_open opener.now) O.File.remaining (I.bytes input.old)
+    ensures { PrintsCoreOwed listing (O.may_open opener.now) O.File.remaining (I.bytes input.old)
         (W.contents output.old) (W.contents output.new) result }
 {
     match quick_opened(alloc, listing, parts.image(), partial, opened) {
@@ -136,7 +142,7 @@ fn quick_opened(
     requires { IsNonDecreasingBy (λ (h : ProgramHeader). h.p_vaddr) partial.now.places.items }
     ensures { (bytes : List ℕ) → IsImageOf (image_view image.entry) bytes
         → IsPartial bytes partial.now → (all : List Opened) → AreOpenedAs opened.now all
-        → IfOk result (λ found. IfSome found (λ quick. IsOfOpened listing
+        → IfOk result (λ found. IfSome found (λ quick. IsCoreOfOpened listing
         (with_all bytes (core_view partial.now.core) partial.now.places.items)
         all (line_of quick))) }
 {
@@ -155,7 +161,7 @@ fn quick_by_files(
     requires { IsNonDecreasingBy (λ (h : ProgramHeader). h.p_vaddr) partial.now.places.items }
     ensures { (bytes : List ℕ) → IsImageOf (image_view image.entry) bytes
         → IsPartial bytes partial.now → (all : List Opened)
-        → IfOk result (λ found. IfSome found (λ quick. IsOfFiles listing
+        → IfOk result (λ found. IfSome found (λ quick. IsCoreOfFiles listing
         (with_all bytes (core_view partial.now.core) partial.now.places.items)
         all (map known_view files.now) (line_of quick))) }
 {
@@ -181,20 +187,20 @@ fn quick_threads(
     code: &CoreCode<'_, '_>,
     room: Room,
 ) -> io::Result<Option<Quick>>
-    requires mappings { code.now.mappings ≡ mappings_of (map known_view files.now)
+    requires mappings { code.now.mappings ≡ core_mappings (map known_view files.now)
         (core_view partial.now.core).segments (core_view partial.now.core).mapped }
-    requires modules { map module_view code.now.modules.items
+    requires modules { map loaded_module_view code.now.modules.items
         ≡ modules_in (map known_view files.now) code.now.mappings }
-    requires files { AreOfFiles files.now code.now.modules.items }
+    requires files { AreModulesOfFiles files.now code.now.modules.items }
     requires rows { KeepsNoRows room }
     requires frames { HasRoom room.frames.items }
     requires places { IsNonDecreasingBy (λ (h : ProgramHeader). h.p_vaddr)
         partial.now.places.items }
     ensures { (bytes : List ℕ) → IsImageOf (image_view image.entry) bytes
         → IsPartial bytes partial.now → (windows : List Lent)
-        → IfOk result (λ found. IfSome found (λ quick. IsPrinted listing
+        → IfOk result (λ found. IfSome found (λ quick. AreThreadsPrinted listing
         (map known_view files.now)
-        (memory_of (with_all bytes (core_view partial.now.core) partial.now.places.items) windows)
+        (core_memory (with_all bytes (core_view partial.now.core) partial.now.places.items) windows)
         (with_all bytes (core_view partial.now.core) partial.now.places.items)
         (line_of quick))) }
 {
@@ -245,17 +251,17 @@ fn quick_thread<W: Write>(
     room: &mut Room,
     output: &mut W,
 ) -> io::Result<bool>
-    requires order { AreInOrder 0 code.now.mappings.now }
-    requires modules { map module_view modules.now
+    requires order { AreMappedInOrder 0 code.now.mappings.now }
+    requires modules { map loaded_module_view modules.now
         ≡ modules_in (map known_view code.now.files.now) code.now.mappings.now }
-    requires files { AreOfFiles code.now.files.now modules.now }
+    requires files { AreModulesOfFiles code.now.files.now modules.now }
     requires cached { IsRoomFor code.now.files.now room.old }
     requires places { IsNonDecreasingBy (λ (h : ProgramHeader). h.p_vaddr) places.now }
     ensures printed { (bytes : List ℕ) → IsImageOf (image_view image.entry) bytes
         → (lent : List Lent) → IfOk result (λ whole. whole ≡ true
         → (text : List ℕ) × Appends (W.contents output.old) (W.contents output.new) text
         × IsThreadText listing machine (map known_view code.now.files.now) code.now.mappings.now
-        (memory_by (map (segment_at bytes) places.now) lent) (bytes_of name.entry)
+        (memory_by (map (segment_at bytes) places.now) lent) (name_bytes name.entry)
         (thread_view thread.now) text) }
     ensures cached { IsRoomFor code.now.files.now room.new }
 {
@@ -283,41 +289,24 @@ fn quick_walk<W: Write>(
     room: &mut Room,
     output: &mut W,
 ) -> io::Result<bool>
-    requires order { AreInOrder 0 code.now.mappings.now }
-    requires modules { map module_view modules.now
+    requires order { AreMappedInOrder 0 code.now.mappings.now }
+    requires modules { map loaded_module_view modules.now
         ≡ modules_in (map known_view code.now.files.now) code.now.mappings.now }
-    requires files { AreOfFiles code.now.files.now modules.now }
+    requires files { AreModulesOfFiles code.now.files.now modules.now }
     requires cached { IsRoomFor code.now.files.now room.old }
     ensures printed { (memory : ℕ → ℕ → Option ℕ) → IsStackIn memory (segment_view stack.now)
         → IfOk result (λ whole. whole ≡ true
         → (text : List ℕ) × Appends (W.contents output.old) (W.contents output.new) text
         × IsThreadText listing machine (map known_view code.now.files.now) code.now.mappings.now
-        memory (bytes_of name.entry) (thread_view thread.now) text) }
+        memory (name_bytes name.entry) (thread_view thread.now) text) }
     ensures cached { IsRoomFor code.now.files.now room.new }
 {
-    let Ok(modules) = Modules::new(modules) else {
-        unreachable!()
-    };
     let bytes = EndianSlice::new(stack.bytes, RunTimeEndian::Little);
     let memory = Window {
         base: stack.start,
         bytes,
     };
-    let count = machine.register_count();
-    let mut registers = [None; REGISTERS];
-    let mut caller = [None; REGISTERS];
-    let frames = room.frames.as_mut_slice();
-    let found = unwind_thread(
-        modules,
-        machine,
-        thread,
-        &memory,
-        room.cache.as_mut_slice(),
-        &mut room.context,
-        &mut registers[..count],
-        &mut caller[..count],
-        frames,
-    );
+    let found = room.walk_thread(machine, code, modules, &memory, thread);
     if walk_lacks(machine, found) {
         return Ok(false);
     }
@@ -327,58 +316,8 @@ fn quick_walk<W: Write>(
         name,
         thread,
         found,
-        frames,
-        &mut room.line,
+        room.frames.as_slice(),
         output,
     )?;
     Ok(true)
-}
-
-/// Whether a walk ended where a register or a number of the memory isn't known, or where no call
-/// frames have the address and it may be that a signal handler returned to it: with more of the
-/// memory it might go on.
-fn walk_lacks(machine: SampleMachine, found: Result<Walk, NoFrames>) -> bool
-    ensures { result ≡ walk_lacks machine found }
-{
-    match found {
-        Ok(walk) => end_lacks(machine, walk.end),
-        Err(_) => false,
-    }
-}
-
-/// The same by how it ended.
-fn end_lacks(machine: SampleMachine, end: End) -> bool
-    ensures { result ≡ end_lacks machine end }
-{
-    misses_value(end) || may_be_signal(machine, end)
-}
-
-/// Whether a register or a number of the memory isn't known.
-fn misses_value(end: End) -> bool
-    ensures { result ≡ misses_value end }
-{
-    match end {
-        End::Failed(error) => error_lacks(error),
-        _ => false,
-    }
-}
-
-/// The same by the error.
-fn error_lacks(error: FrameError) -> bool
-    ensures { result ≡ error_lacks error }
-{
-    match error {
-        FrameError::UnknownRegister(_) | FrameError::UnreadableMemory(_) => true,
-        _ => false,
-    }
-}
-
-/// Whether a handler may have returned there, whose trampoline has no call frames.
-fn may_be_signal(machine: SampleMachine, end: End) -> bool
-    ensures { result ≡ may_be_signal machine end }
-{
-    match machine {
-        SampleMachine::X86_64 => false,
-        SampleMachine::AArch64 => lacks_frames(end),
-    }
 }

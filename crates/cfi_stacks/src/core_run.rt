@@ -1,57 +1,57 @@
-//! The stacks of a core file that a reader gives.
-ghost use Rattle.std.specs.Prelude.{◌≡◌, ◌⊎◌, ℕ, [], List, map, option_map, true};
-ghost use Rattle.std.specs.List.{list_any};
+//! The stacks of a core file that is read whole.
+ghost use Rattle.std.specs.Prelude.{◌≡◌, ◌⊎◌, ℕ, List, map, true};
 ghost use Rattle.cfi_cores.specs.CoreSegments.{AreInOrder, segment_view};
 ghost use Rattle.cfi_cores.specs.CoreFiles.{core_view};
-ghost use Rattle.cfi_cores.specs.CoreThreads.{thread_view};
-ghost use Rattle.cfi_cores.specs.CoreParts.{image_of};
-ghost use Rattle.cfi_object.specs.FileParts.{AreLeft, AreOfInput};
-ghost use Rattle.cfi_processes.specs.FileModules.{AreOfFiles};
-ghost use Rattle.cfi_processes.specs.KnownFiles.{known_view, modules_in};
-ghost use Rattle.cfi_processes.specs.Modules.{module_view};
+ghost use Rattle.cfi_object.specs.FileParts.{image_of};
+ghost use Rattle.cfi_object.specs.FileParts.{AreOfInput};
+ghost use Rattle.cfi_object.specs.FileInputs.{AreLeft};
+ghost use Rattle.cfi_processes.specs.FileModules.{AreModulesOfFiles};
+ghost use Rattle.cfi_processes.specs.KnownFiles.{known_view};
+ghost use Rattle.cfi_processes.specs.ProcessModules.{modules_in};
+ghost use Rattle.cfi_processes.specs.Modules.{loaded_module_view};
 ghost use Rattle.cfi_processes.specs.OpenedFiles.{AreOpenedAs, Opened, are_whole};
 ghost use Rattle.cfi_processes.specs.SampleStacks.{HasRoom};
-ghost use Rattle.cfi_processes.specs.ThreadNames.{bytes_of};
-ghost use Rattle.cfi_programs.specs.WriterOutput.{Prints, PrintsSome};
-ghost use Rattle.cfi_stacks.specs.CoreOutputs.{IsOfCore, IsOfFiles, IsOfOpened, IsOutput, IsOwed};
-ghost use Rattle.cfi_stacks.specs.CoreOutputs.{IsPrinted, PrintsOwed, core_refusal, ended};
-ghost use Rattle.cfi_stacks.specs.CoreOutputs.{is_asked_for, lacks_any, lacks_thread, mappings_of};
-ghost use Rattle.cfi_stacks.specs.CoreOutputs.{memory_of};
-ghost use Rattle.cfi_stacks.specs.ProfileOutputs.{no_memory, wrong_input_in};
+ghost use Rattle.cfi_programs.specs.WriterOutput.{PrintsSome};
+ghost use Rattle.cfi_stacks.specs.CoreOutputs.{AreThreadsPrinted, IsCoreOfFiles, IsCoreOfOpened};
+ghost use Rattle.cfi_stacks.specs.CoreOutputs.{IsCoreOutput, IsCoreOwed, IsOfCore, PrintsCoreOwed};
+ghost use Rattle.cfi_stacks.specs.CoreOutputs.{core_memory};
+ghost use Rattle.cfi_stacks.specs.CoreCode.{core_mappings};
+ghost use Rattle.cfi_stacks.specs.ProfileOutputs.{no_memory};
 ghost use Rattle.cfi_stacks.specs.Rooms.{KeepsNoRows};
 
-use crate::core_files::{CoreCode, opened_files, whole_code};
+use crate::asked_threads::{is_asked_for, lacks_thread};
+use crate::core_code::{CoreCode, whole_code};
+use crate::core_errors::{write_core_refusal, write_end};
+use crate::core_files::opened_files;
 use crate::core_quick::print_partial;
 use crate::core_text::print_thread;
 use crate::listing::ThreadListing;
-use crate::sample_text::Room;
-use cfi_cores::{
-    Core, CoreError, CoreMemory, CoreParts, CoreThread, partial_core, read_core, read_core_parts,
-};
-use cfi_object::input::{FileInput, InputError};
-use cfi_object::parts::read_whole;
-use cfi_processes::Name;
+use crate::names::shown_name;
+use crate::room::Room;
+use cfi_cores::{Core, CoreMemory, partial_core, read_core, read_core_parts};
+use cfi_inputs::write_input_refusal;
+use cfi_object::{FileInput, FileParts, read_whole};
+use cfi_processes::Opener;
 use cfi_processes::process_code::ProcessCode;
-use cfi_processes::profile_files::{OpenedFile, Opener, ProfileFile, profile_files};
-use cfi_programs::lines::{write_reason, write_refusal_in, write_refused_name};
-use cfi_programs::style::Format;
+use cfi_processes::profile_files::{OpenedFile, ProfileFile, profile_files};
+use cfi_programs::refusals::{write_reason, write_refusal_in};
 use gimli_cfi::Error;
 use std::alloc::Global;
 use std::io;
 use std::io::Write;
 
-/// Reads the core file, and prints the stack of each thread, in the order of its notes, or
-/// only that of the thread that the listing names.
+/// Reads the core file, and prints the stack of each thread, in the order of its notes, or only
+/// that of the thread that the listing names.
 ///
 /// For each there is a line with the thread, the signal that it got and the name of the process, a
 /// line for each frame, where there is a reason for which the last frame isn't the outermost one a
 /// line with it, and an empty line. The line of a frame has its address in the process, its place
 /// in a file, the function and the file; if it is `raw`, it has no function, and none is looked up.
 /// With `Format::Json` there is a line for each thread instead, an object with the same, and what
-/// is printed below in place of stacks is the member `error` of one (`write_reason`).
-/// The files of code are opened by the names that the core file has for them, and where it has the
-/// build of one, only a file of that build is taken (`cfi_processes::profile_files::read_files`);
-/// what it doesn't have of their memory is read in them. The vdso is read in the core file.
+/// is printed below in place of stacks is the member `error` of one (`write_reason`). The files of
+/// code are opened by the names that the core file has for them, and where it has the build of one,
+/// only a file of that build is taken (`cfi_processes::profile_files::read_files`); what it doesn't
+/// have of their memory is read in them. The vdso is read in the core file.
 ///
 /// Of the core file only the parts are read that are needed (`cfi_cores::read_core_parts`): the
 /// headers and notes, the first pages of files, and each stack from its pointer on; of each file of
@@ -73,12 +73,13 @@ pub fn print_core<O: Opener, I: FileInput, W: Write>(
     output: &mut W,
 ) -> io::Result<u8>
     ensures { (bytes : List ℕ) × AreLeft (I.bytes input.old) bytes
-        × PrintsSome (λ line. IsOwed listing (O.may_open opener.now) O.File.remaining bytes line)
+        × PrintsSome (λ line. IsCoreOwed listing (O.may_open opener.now) O.File.remaining
+        bytes line)
         (W.contents output.old) (W.contents output.new) result }
 {
     match read_core_parts(alloc, input) {
         Ok(parts) => print_parts(alloc, listing, opener, &parts, input, output),
-        Err(error) => write_unread(output, listing.format, error),
+        Err(error) => write_input_refusal(output, listing.format, error),
     }
 }
 
@@ -88,12 +89,12 @@ fn print_parts<O: Opener, I: FileInput, W: Write>(
     alloc: Global,
     listing: ThreadListing,
     opener: &O,
-    parts: &CoreParts,
+    parts: &FileParts,
     input: &mut I,
     output: &mut W,
 ) -> io::Result<u8>
     requires { AreOfInput (I.bytes input.old) (image_of parts.now) }
-    ensures { PrintsOwed listing (O.may_open opener.now) O.File.remaining (I.bytes input.old)
+    ensures { PrintsCoreOwed listing (O.may_open opener.now) O.File.remaining (I.bytes input.old)
         (W.contents output.old) (W.contents output.new) result }
 {
     match partial_core(alloc, parts.image()) {
@@ -113,64 +114,12 @@ pub(crate) fn print_whole<O: Opener, I: FileInput, W: Write>(
     input: &mut I,
     output: &mut W,
 ) -> io::Result<u8>
-    ensures { PrintsOwed listing (O.may_open opener.now) O.File.remaining (I.bytes input.old)
+    ensures { PrintsCoreOwed listing (O.may_open opener.now) O.File.remaining (I.bytes input.old)
         (W.contents output.old) (W.contents output.new) result }
 {
     match read_whole(alloc, input) {
         Ok(bytes) => print_bytes(alloc, listing, opener, bytes.as_slice(), output),
-        Err(error) => write_unread(output, listing.format, error),
-    }
-}
-
-/// Prints why a file isn't read.
-pub(crate) fn write_unread<W: Write>(
-    output: &mut W,
-    format: Format,
-    error: InputError,
-) -> io::Result<u8>
-    ensures { PrintsSome (λ line. (line ≡ no_memory format) ⊎ (line ≡ wrong_input_in format))
-        (W.contents output.old) (W.contents output.new) result }
-{
-    match error {
-        InputError::OutOfMemory => write_refusal_in(output, format, Error::OutOfMemory),
-        _ => write_reason(output, format, "wrong input", 2),
-    }
-}
-
-/// Whether a thread is asked for that no note is of, all of which were read.
-pub(crate) fn lacks_thread(listing: ThreadListing, core: &Core<'_>) -> bool
-    ensures { result ≡ lacks_thread listing (core_view core.now) }
-{
-    match listing.thread {
-        None => false,
-        Some(_) => lacks_any(listing, core),
-    }
-}
-
-/// Whether all notes were read, and none is of a thread that is printed.
-fn lacks_any(listing: ThreadListing, core: &Core<'_>) -> bool
-    ensures { result ≡ lacks_any listing (core_view core.now) }
-{
-    match core.error {
-        None => !has_asked_for(listing, core.threads.as_slice()),
-        Some(_) => false,
-    }
-}
-
-/// Whether one of the threads is printed.
-fn has_asked_for(listing: ThreadListing, threads: &[CoreThread<'_>]) -> bool
-    ensures { result ≡ list_any (is_asked_for listing) (map thread_view threads.now) }
-{
-    threads.iter().any(|thread| is_asked_for(listing, thread))
-}
-
-/// Whether a thread is one that is printed.
-pub(crate) fn is_asked_for(listing: ThreadListing, thread: &CoreThread<'_>) -> bool
-    ensures { result ≡ is_asked_for listing (thread_view thread.now) }
-{
-    match listing.thread {
-        None => true,
-        Some(tid) => u64::from(thread.tid) == tid,
+        Err(error) => write_input_refusal(output, listing.format, error),
     }
 }
 
@@ -182,7 +131,7 @@ fn print_bytes<O: Opener, W: Write>(
     bytes: &[u8],
     output: &mut W,
 ) -> io::Result<u8>
-    ensures { PrintsSome (λ line. IsOutput listing (O.may_open opener.now) O.File.remaining
+    ensures { PrintsSome (λ line. IsCoreOutput listing (O.may_open opener.now) O.File.remaining
         bytes.now line)
         (W.contents output.old) (W.contents output.new) result }
 {
@@ -225,7 +174,7 @@ fn print_opened<W: Write>(
     requires dumped { AreInOrder core.now.segments.items }
     requires whole { are_whole opened.now ≡ true }
     ensures { (all : List Opened) → AreOpenedAs opened.now all
-        → PrintsSome (λ line. IsOfOpened listing (core_view core.now) all line
+        → PrintsSome (λ line. IsCoreOfOpened listing (core_view core.now) all line
         ⊎ (line ≡ no_memory listing.format))
         (W.contents output.old) (W.contents output.new) result }
 {
@@ -247,7 +196,7 @@ fn print_by_files<W: Write>(
     requires dumped { AreInOrder core.now.segments.items }
     requires whole { are_whole opened.now ≡ true }
     ensures { (all : List Opened) → AreOpenedAs opened.now all
-        → PrintsSome (λ line. IsOfFiles listing (core_view core.now) all
+        → PrintsSome (λ line. IsCoreOfFiles listing (core_view core.now) all
         (map known_view files.now) line ⊎ (line ≡ no_memory listing.format))
         (W.contents output.old) (W.contents output.new) result }
 {
@@ -266,15 +215,15 @@ fn print_code<W: Write>(
     code: &CoreCode<'_, '_>,
     output: &mut W,
 ) -> io::Result<u8>
-    requires mappings { code.now.mappings ≡ mappings_of (map known_view files.now)
+    requires mappings { code.now.mappings ≡ core_mappings (map known_view files.now)
         (core_view core.now).segments (core_view core.now).mapped }
-    requires modules { map module_view code.now.modules.items
+    requires modules { map loaded_module_view code.now.modules.items
         ≡ modules_in (map known_view files.now) code.now.mappings }
-    requires files { AreOfFiles files.now code.now.modules.items }
+    requires files { AreModulesOfFiles files.now code.now.modules.items }
     requires dumped { AreInOrder core.now.segments.items }
     requires windows { AreInOrder code.now.windows.items }
-    ensures { PrintsSome (λ line. IsPrinted listing (map known_view files.now)
-        (memory_of (core_view core.now) (map segment_view code.now.windows.items))
+    ensures { PrintsSome (λ line. AreThreadsPrinted listing (map known_view files.now)
+        (core_memory (core_view core.now) (map segment_view code.now.windows.items))
         (core_view core.now) line)
         (W.contents output.old) (W.contents output.new) result }
 {
@@ -293,17 +242,17 @@ fn print_threads<W: Write>(
     room: Room,
     output: &mut W,
 ) -> io::Result<u8>
-    requires mappings { code.now.mappings ≡ mappings_of (map known_view files.now)
+    requires mappings { code.now.mappings ≡ core_mappings (map known_view files.now)
         (core_view core.now).segments (core_view core.now).mapped }
-    requires modules { map module_view code.now.modules.items
+    requires modules { map loaded_module_view code.now.modules.items
         ≡ modules_in (map known_view files.now) code.now.mappings }
-    requires files { AreOfFiles files.now code.now.modules.items }
+    requires files { AreModulesOfFiles files.now code.now.modules.items }
     requires dumped { AreInOrder core.now.segments.items }
     requires windows { AreInOrder code.now.windows.items }
     requires rows { KeepsNoRows room }
     requires frames { HasRoom room.frames.items }
-    ensures { PrintsSome (λ line. IsPrinted listing (map known_view files.now)
-        (memory_of (core_view core.now) (map segment_view code.now.windows.items))
+    ensures { PrintsSome (λ line. AreThreadsPrinted listing (map known_view files.now)
+        (core_memory (core_view core.now) (map segment_view code.now.windows.items))
         (core_view core.now) line)
         (W.contents output.old) (W.contents output.new) result }
 {
@@ -332,37 +281,4 @@ fn print_threads<W: Write>(
         )?;
     }
     write_end(output, listing.format, core.error)
-}
-
-/// The name of the process, if it is known, to be printed.
-pub(crate) fn shown_name(name: Option<&[u8]>) -> Option<Name<'_>>
-    ensures { bytes_of result ≡ option_map (λ name. name.now) name.entry }
-{
-    match name {
-        Some(name) => Some(Name::new(name)),
-        None => None,
-    }
-}
-
-/// Prints the error that ended the notes, if there is one, and returns the status.
-pub(crate) fn write_end<W: Write>(
-    output: &mut W,
-    format: Format,
-    error: Option<CoreError>,
-) -> io::Result<u8>
-    ensures { Prints (ended format [] error)
-        (W.contents output.old) (W.contents output.new) result }
-{
-    match error {
-        None => Ok(0),
-        Some(error) => write_core_refusal(output, format, error),
-    }
-}
-
-/// Prints the name of the error, and returns the status 1.
-fn write_core_refusal<W: Write>(output: &mut W, format: Format, error: CoreError) -> io::Result<u8>
-    ensures { Prints (core_refusal format error)
-        (W.contents output.old) (W.contents output.new) result }
-{
-    write_refused_name(output, format, error.name())
 }

@@ -4,14 +4,14 @@ ghost use Rattle.std.specs.Prelude.{flat_map, option_map};
 ghost use Rattle.cfi_names.specs.Names.{byte_escape, part_view, shown_part};
 ghost use Rattle.cfi_perf.specs.CallChains.{addresses_left};
 ghost use Rattle.cfi_perf.specs.Samples.{sample_view};
-ghost use Rattle.cfi_processes.specs.KnownFiles.{chain_site, kernel_site, known_view};
-ghost use Rattle.cfi_processes.specs.Mappings.{AreInOrder};
+ghost use Rattle.cfi_processes.specs.KnownFiles.{known_view};
+ghost use Rattle.cfi_processes.specs.KernelSites.{chain_site, kernel_site};
+ghost use Rattle.cfi_processes.specs.Mappings.{AreMappedInOrder};
 ghost use Rattle.cfi_processes.specs.Sites.{site_view};
-ghost use Rattle.cfi_processes.specs.ThreadNames.{bytes_of};
-ghost use Rattle.cfi_stacks.specs.FoldedTexts.{base_name, chain_names, file_name, folded_text};
-ghost use Rattle.cfi_stacks.specs.FoldedTexts.{frame_name, user_names};
-ghost use Rattle.cfi_stacks.specs.FoldedTexts.{folded_name, harmless, names_text, site_name};
-ghost use Rattle.cfi_stacks.specs.FoldedTexts.{thread_name, walk_names};
+ghost use Rattle.cfi_processes.specs.ThreadNames.{name_bytes};
+ghost use Rattle.cfi_stacks.specs.FoldedTexts.{base_name, chain_names, file_name, folded_name};
+ghost use Rattle.cfi_stacks.specs.FoldedTexts.{folded_text, frame_name, harmless, names_text};
+ghost use Rattle.cfi_stacks.specs.FoldedTexts.{site_name, thread_name, user_names, walk_names};
 
 use cfi_flame::folded::last_part;
 use cfi_names::{Kind, Part, byte_escape, first_part, is_plain};
@@ -24,7 +24,7 @@ use itoa::Buffer;
 use std::alloc::AllocError;
 
 /// Appends the folded stack of a sample: the thread, and the functions from the outermost one in,
-/// each behind a semicolon, those of user space before the kernel's.
+/// each after a semicolon, those of user space before the kernel's.
 ///
 /// The functions of user space are those of the frames that were found, or of the call chain where
 /// the sample's event copies no stacks. `kernel` is what is mapped as code of the kernel, and
@@ -43,13 +43,13 @@ pub fn push_stack(
     found: Result<Walk, NoFrames>,
     frames: &[StackFrame],
 ) -> Result<(), AllocError>
-    requires kernel { AreInOrder 0 kernel.now.mappings.now }
-    requires order { AreInOrder 0 code.now.mappings.now }
+    requires kernel { AreMappedInOrder 0 kernel.now.mappings.now }
+    requires order { AreMappedInOrder 0 code.now.mappings.now }
     requires count { IfOk found (λ walk. walk.count ≤ length frames.now) }
     ensures { OnOk result (line.new.items ≡ line.old.items ++ folded_text
         (kernel_site (map known_view kernel.now.files.now) kernel.now.mappings.now)
         (map known_view code.now.files.now) code.now.mappings.now
-        (bytes_of name.entry) (sample_view sample.now) found frames.now) }
+        (name_bytes name.entry) (sample_view sample.now) found frames.now) }
 {
     push_thread(line, sample.tid, name)?;
     push_user_names(line, addresses, code, sample, found, frames)?;
@@ -65,7 +65,7 @@ fn push_user_names(
     found: Result<Walk, NoFrames>,
     frames: &[StackFrame],
 ) -> Result<(), AllocError>
-    requires order { AreInOrder 0 code.now.mappings.now }
+    requires order { AreMappedInOrder 0 code.now.mappings.now }
     requires count { IfOk found (λ walk. walk.count ≤ length frames.now) }
     ensures { OnOk result (line.new.items ≡ line.old.items
         ++ user_names (map known_view code.now.files.now) code.now.mappings.now
@@ -85,7 +85,7 @@ fn push_walk(
     found: Result<Walk, NoFrames>,
     frames: &[StackFrame],
 ) -> Result<(), AllocError>
-    requires order { AreInOrder 0 code.now.mappings.now }
+    requires order { AreMappedInOrder 0 code.now.mappings.now }
     requires count { IfOk found (λ walk. walk.count ≤ length frames.now) }
     ensures { OnOk result (line.new.items ≡ line.old.items
         ++ walk_names (map known_view code.now.files.now) code.now.mappings.now
@@ -105,7 +105,7 @@ fn push_chain(
     code: &ProcessCode<'_, '_, '_>,
     addresses: Addresses<'_>,
 ) -> Result<(), AllocError>
-    requires { AreInOrder 0 code.now.mappings.now }
+    requires { AreMappedInOrder 0 code.now.mappings.now }
     ensures { OnOk result (line.new.items ≡ line.old.items ++ chain_names
         (chain_site is_kernel (map known_view code.now.files.now) code.now.mappings.now)
         (addresses_left addresses.entry)) }
@@ -132,7 +132,7 @@ fn push_addresses(
     code: &ProcessCode<'_, '_, '_>,
     addresses: &[u64],
 ) -> Result<(), AllocError>
-    requires { AreInOrder 0 code.now.mappings.now }
+    requires { AreMappedInOrder 0 code.now.mappings.now }
     ensures { OnOk result (line.new.items ≡ line.old.items ++ chain_names
         (chain_site is_kernel (map known_view code.now.files.now) code.now.mappings.now)
         addresses.now) }
@@ -151,7 +151,7 @@ fn push_addresses(
 /// `swapper`.
 fn push_thread(line: &mut Vec<u8>, tid: u32, name: Option<Name<'_>>) -> Result<(), AllocError>
     ensures { OnOk result
-        (line.new.items ≡ line.old.items ++ thread_name tid (bytes_of name.entry)) }
+        (line.new.items ≡ line.old.items ++ thread_name tid (name_bytes name.entry)) }
 {
     match name {
         Some(name) => push_name(line, name.bytes, b'_'),
@@ -177,7 +177,7 @@ fn push_names(
     code: &ProcessCode<'_, '_, '_>,
     frames: &[StackFrame],
 ) -> Result<(), AllocError>
-    requires { AreInOrder 0 code.now.mappings.now }
+    requires { AreMappedInOrder 0 code.now.mappings.now }
     ensures { OnOk result (line.new.items ≡ line.old.items
         ++ names_text (map known_view code.now.files.now) code.now.mappings.now frames.now) }
 {
@@ -196,7 +196,7 @@ fn push_frame(
     code: &ProcessCode<'_, '_, '_>,
     frame: &StackFrame,
 ) -> Result<(), AllocError>
-    requires { AreInOrder 0 code.now.mappings.now }
+    requires { AreMappedInOrder 0 code.now.mappings.now }
     ensures { OnOk result (line.new.items ≡ line.old.items
         ++ frame_name (map known_view code.now.files.now) code.now.mappings.now frame.now) }
 {

@@ -1,5 +1,5 @@
 //! The folded stacks of a profile's samples.
-ghost use Rattle.std.specs.Prelude.{◌≡◌, ◌⊎◌, IfErr, IfOk, List, OnOk, map, true};
+ghost use Rattle.std.specs.Prelude.{◌≡◌, ◌⊎◌, IfErr, IfOk, OnOk, map, true};
 ghost use Rattle.std.specs.List.{flat_map};
 ghost use Rattle.cfi_flame.specs.FoldedCounts.{counted_in, line_text};
 ghost use Rattle.cfi_perf.specs.Events.{record_view};
@@ -7,39 +7,45 @@ ghost use Rattle.cfi_perf.specs.Recordings.{is_sample};
 ghost use Rattle.cfi_perf.specs.Samples.{sample_view};
 ghost use Rattle.cfi_programs.specs.Runs.{out_of_memory};
 ghost use Rattle.cfi_programs.specs.WriterOutput.{Prints, PrintsSome};
-ghost use Rattle.cfi_processes.specs.FileModules.{AreOfFiles};
-ghost use Rattle.cfi_processes.specs.KnownFiles.{kernel_site, known_view, modules_in};
-ghost use Rattle.cfi_processes.specs.Mappings.{AreInOrder};
-ghost use Rattle.cfi_processes.specs.Modules.{module_view};
-ghost use Rattle.cfi_processes.specs.Replays.{AreModulesFor, HasOwnModules, files_in, files_of};
+ghost use Rattle.cfi_processes.specs.FileModules.{AreModulesOfFiles};
+ghost use Rattle.cfi_processes.specs.KnownFiles.{known_view};
+ghost use Rattle.cfi_processes.specs.KernelSites.{kernel_site};
+ghost use Rattle.cfi_processes.specs.ProcessModules.{modules_in};
+ghost use Rattle.cfi_processes.specs.Mappings.{AreMappedInOrder};
+ghost use Rattle.cfi_processes.specs.Modules.{loaded_module_view};
+ghost use Rattle.cfi_processes.specs.Replays.{AreModulesFor, HasOwnModules, replay_known};
+ghost use Rattle.cfi_processes.specs.Replays.{replay_files};
 ghost use Rattle.cfi_processes.specs.SampleStacks.{HasRoom};
-ghost use Rattle.cfi_processes.specs.ThreadNames.{bytes_of};
+ghost use Rattle.cfi_processes.specs.ThreadNames.{name_bytes};
 ghost use Rattle.cfi_programs.specs.declared.style.Format.TheVariants.{Text};
 ghost use Rattle.cfi_stacks.specs.Choices.{choice_view};
-ghost use Rattle.cfi_stacks.specs.Foldings.{CountsRecord, CountsTurn, IsFollowed, IsNotFollowed};
+ghost use Rattle.cfi_stacks.specs.Turns.{CountsRecord, CountsTurn, IsFollowed, IsNotFollowed};
 ghost use Rattle.cfi_stacks.specs.ProfileIndexes.{HoldsOf, IsIndex};
-ghost use Rattle.cfi_stacks.specs.ProfileOutputs.{AreFolded, IsFolded, IsFoldedText, IsUnfolded};
-ghost use Rattle.cfi_stacks.specs.ProfileOutputs.{ended, folded_refusal, known_in, weight};
+ghost use Rattle.cfi_stacks.specs.ProfileOutputs.{AreFolded, IsFolded, IsUnfolded, folded_refusal};
+ghost use Rattle.cfi_stacks.specs.ProfileOutputs.{profile_ended};
+ghost use Rattle.cfi_stacks.specs.ChosenStacks.{IsFoldedText, sample_weight};
+ghost use Rattle.cfi_stacks.specs.KnownSamples.{known_in};
 ghost use Rattle.cfi_stacks.specs.Rooms.{IsRoomFor, KeepsNoRows};
 
-use crate::choice::{Choice, is_left_out, left_after};
+use crate::choice::Choice;
 use crate::folded_text::push_stack;
+use crate::profile_errors::write_end;
 use crate::profile_index::ProfileIndex;
-use crate::run::{follow_other, load_for, write_end};
-use crate::sample_text::{REGISTERS, Room};
+use crate::room::Room;
+use crate::turns::{follow_other, is_left_out, left_after, load_for};
 use cfi_flame::{FoldedError, StackCounts};
 use cfi_inputs::write_input_refusal;
 use cfi_object::input::{FileInput, InputError};
 use cfi_perf::{Event, PerfError, PlaceKind, Record, RecordPlace, Sample};
 use cfi_processes::Name;
-use cfi_processes::process_code::{FileModule, KERNEL, ProcessCode};
+use cfi_processes::process_code::{KERNEL, ProcessCode};
+use cfi_processes::process_modules::FileModule;
 use cfi_processes::profile_files::ProfileFile;
 use cfi_processes::registers::SampleMachine;
 use cfi_processes::replay::Replay;
-use cfi_processes::sample_stack::unwind_sample;
-use cfi_programs::lines::{write_refusal, write_text};
+use cfi_programs::lines::write_text;
+use cfi_programs::refusals::write_refusal;
 use cfi_programs::style::Format;
-use cfi_step::Modules;
 use gimli_cfi::Error;
 use std::alloc::{AllocError, Global};
 use std::io;
@@ -102,8 +108,8 @@ fn fold_records<I: FileInput>(
     }
 }
 
-/// Counts the samples of the records in this room. Neither a sample that isn't chosen nor one
-/// behind the limit is unwound.
+/// Counts the samples of the records in this room. Neither a sample that isn't chosen nor one after
+/// the limit is unwound.
 fn fold_in<I: FileInput>(
     alloc: Global,
     by_period: bool,
@@ -168,14 +174,15 @@ fn fold_place<'k, I: FileInput>(
     counts: &mut StackCounts,
 ) -> Result<Option<u64>, Unfolded>
     requires own { HasOwnModules replay.old }
-    requires cached { IsRoomFor (files_of replay.old) room.old }
-    ensures counted { CountsTurn by_period machine (files_in replay.old) (choice_view choice.now)
+    requires cached { IsRoomFor (replay_files replay.old) room.old }
+    ensures counted { CountsTurn by_period machine (replay_known replay.old)
+        (choice_view choice.now)
         (I.bytes input.old) index.now place.now (known_in replay.old) left (known_in replay.new)
         (counted_in counts.old) (counted_in counts.new) result }
     ensures same { I.bytes input.new ≡ I.bytes input.old }
     ensures own { HasOwnModules replay.new }
-    ensures cached { IsRoomFor (files_of replay.new) room.new }
-    ensures files { files_of replay.new ≡ files_of replay.old }
+    ensures cached { IsRoomFor (replay_files replay.new) room.new }
+    ensures files { replay_files replay.new ≡ replay_files replay.old }
 {
     match place.kind {
         PlaceKind::InFile => match index.sample_bytes(alloc, place, input) {
@@ -211,13 +218,14 @@ fn fold_chosen(
 ) -> Result<Option<u64>, Unfolded>
     requires sample { is_sample (record_view item.now).event ≡ true }
     requires own { HasOwnModules replay.old }
-    requires cached { IsRoomFor (files_of replay.old) room.old }
-    ensures counted { CountsRecord by_period machine (files_in replay.old) (choice_view choice.now)
+    requires cached { IsRoomFor (replay_files replay.old) room.old }
+    ensures counted { CountsRecord by_period machine (replay_known replay.old)
+        (choice_view choice.now)
         (record_view item.now) (known_in replay.old) left (known_in replay.new)
         (counted_in counts.old) (counted_in counts.new) result }
     ensures own { HasOwnModules replay.new }
-    ensures cached { IsRoomFor (files_of replay.new) room.new }
-    ensures files { files_of replay.new ≡ files_of replay.old }
+    ensures cached { IsRoomFor (replay_files replay.new) room.new }
+    ensures files { replay_files replay.new ≡ replay_files replay.old }
 {
     if is_left_out(choice, replay, item) {
         return Ok(left);
@@ -247,14 +255,14 @@ fn fold_followed(
 ) -> Result<(), FoldedError>
     requires modules { AreModulesFor (record_view item.now).event replay.now }
     requires own { HasOwnModules replay.now }
-    requires cached { IsRoomFor (files_of replay.now) room.old }
-    ensures followed { OnOk result (IsFollowed by_period machine (files_in replay.now)
+    requires cached { IsRoomFor (replay_files replay.now) room.old }
+    ensures followed { OnOk result (IsFollowed by_period machine (replay_known replay.now)
         (known_in replay.now) item.now.time (record_view item.now).event
         (counted_in counts.old) (counted_in counts.new)) }
-    ensures refused { IfErr result (IsNotFollowed by_period machine (files_in replay.now)
+    ensures refused { IfErr result (IsNotFollowed by_period machine (replay_known replay.now)
         (known_in replay.now) item.now.time (record_view item.now).event
         (counted_in counts.old)) }
-    ensures cached { IsRoomFor (files_of replay.now) room.new }
+    ensures cached { IsRoomFor (replay_files replay.now) room.new }
 {
     match item.event {
         Event::Sample(sample) => {
@@ -273,7 +281,7 @@ fn fold_followed(
 
 /// Returns how much a sample counts: one, or its period. One also where the period is 0.
 fn weight(by_period: bool, sample: &Sample<'_>) -> u64
-    ensures { result ≡ weight by_period (sample_view sample.now) }
+    ensures { result ≡ sample_weight by_period (sample_view sample.now) }
 {
     if by_period && sample.period != 0 {
         sample.period
@@ -297,36 +305,21 @@ fn fold_sample(
     room: &mut Room,
     line: &mut Vec<u8>,
 ) -> Result<(), AllocError>
-    requires kernel { AreInOrder 0 kernel.now.mappings.now }
-    requires order { AreInOrder 0 code.now.mappings.now }
-    requires modules { map module_view modules.now
+    requires kernel { AreMappedInOrder 0 kernel.now.mappings.now }
+    requires order { AreMappedInOrder 0 code.now.mappings.now }
+    requires modules { map loaded_module_view modules.now
         ≡ modules_in (map known_view code.now.files.now) code.now.mappings.now }
-    requires files { AreOfFiles code.now.files.now modules.now }
+    requires files { AreModulesOfFiles code.now.files.now modules.now }
     requires cached { IsRoomFor code.now.files.now room.old }
     ensures folded { OnOk result (IsFoldedText machine (map known_view code.now.files.now)
         (kernel_site (map known_view kernel.now.files.now) kernel.now.mappings.now)
-        code.now.mappings.now (bytes_of name.entry) (sample_view sample.now) line.new.items) }
+        code.now.mappings.now (name_bytes name.entry) (sample_view sample.now) line.new.items) }
     ensures cached { IsRoomFor code.now.files.now room.new }
 {
-    let Ok(modules) = Modules::new(modules) else {
-        unreachable!()
-    };
-    let count = machine.register_count();
-    let mut registers = [None; REGISTERS];
-    let mut caller = [None; REGISTERS];
-    let frames = room.frames.as_mut_slice();
-    let found = unwind_sample(
-        modules,
-        machine,
-        &sample.user,
-        room.cache.as_mut_slice(),
-        &mut room.context,
-        &mut registers[..count],
-        &mut caller[..count],
-        frames,
-    );
+    let found = room.walk_sample(machine, code, modules, &sample.user);
     line.clear();
     let addresses = &mut room.addresses;
+    let frames = room.frames.as_slice();
     push_stack(line, addresses, kernel, code, name, sample, found, frames)
 }
 
@@ -338,7 +331,7 @@ fn write_counts<W: Write>(
     output: &mut W,
 ) -> io::Result<u8>
     ensures { PrintsSome (λ line.
-        (line ≡ ended Text (flat_map line_text (counted_in counts.now)) error)
+        (line ≡ profile_ended Text (flat_map line_text (counted_in counts.now)) error)
         ⊎ (line ≡ out_of_memory)) (W.contents output.old) (W.contents output.new) result }
 {
     let mut text = Vec::new(alloc);
@@ -350,7 +343,7 @@ fn write_counts<W: Write>(
 
 /// Prints the lines of folded stacks, and then the error that ended the records.
 fn write_folded<W: Write>(text: &[u8], error: Option<PerfError>, output: &mut W) -> io::Result<u8>
-    ensures { Prints (ended Text text.now error)
+    ensures { Prints (profile_ended Text text.now error)
         (W.contents output.old) (W.contents output.new) result }
 {
     write_text(output, text)?;

@@ -33,13 +33,22 @@ pub struct StackStyle {
     pub format: Format,
 }
 
+/// How the frames of a walk are printed.
+#[derive(Clone, Copy)]
+pub(crate) struct FrameStyle {
+    /// Whether functions are left out.
+    pub(crate) raw: bool,
+    /// Whether the address in the process comes first.
+    pub(crate) with_address: bool,
+}
+
 impl Listing {
     ghost use Rattle.std.specs.Prelude.{◌≡◌};
-    ghost use Rattle.cfi_stacks.specs.ProfileOutputs.{format_of, names_functions};
+    ghost use Rattle.cfi_stacks.specs.ProfileOutputs.{listing_format, names_functions};
 
     /// The form of the line that says why there are no more stacks.
     pub(crate) fn format(self) -> Format
-        ensures { result ≡ format_of self }
+        ensures { result ≡ listing_format self }
     {
         match self {
             Listing::Json(_) => Format::Json,

@@ -1,7 +1,6 @@
 //! Where no call frames have the address of a frame.
 ghost use Rattle.std.specs.Prelude.{◌≡◌};
-ghost use Rattle.cfi_stacks.specs.MissingFrames.{has_no_frames, is_absent, lacks_frames};
-ghost use Rattle.cfi_stacks.specs.MissingFrames.{lacks_row};
+ghost use Rattle.cfi_stacks.specs.MissingFrames.{has_no_frames, is_absent, lacks_frames, lacks_row};
 
 use cfi_expression::FrameError;
 use cfi_step::Caller;

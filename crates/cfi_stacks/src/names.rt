@@ -1,7 +1,8 @@
 //! Names that are printed, and of which some are known to be plain.
-ghost use Rattle.std.specs.Prelude.{◌≡◌, ◌++◌, OnOk};
+ghost use Rattle.std.specs.Prelude.{◌≡◌, ◌++◌, OnOk, option_map};
 ghost use Rattle.cfi_names.specs.Names.{shown};
 ghost use Rattle.cfi_programs.specs.WriterOutput.{Writes};
+ghost use Rattle.cfi_processes.specs.ThreadNames.{name_bytes};
 
 use cfi_processes::Name;
 use cfi_programs::lines::write_text;
@@ -40,5 +41,15 @@ pub fn push_known_name(text: &mut Text, name: Name<'_>) -> fmt::Result
         push(text, name.bytes)
     } else {
         Err(fmt::Error)
+    }
+}
+
+/// The name of the process, if it is known, to be printed.
+pub(crate) fn shown_name(name: Option<&[u8]>) -> Option<Name<'_>>
+    ensures { name_bytes result ≡ option_map (λ name. name.now) name.entry }
+{
+    match name {
+        Some(name) => Some(Name::new(name)),
+        None => None,
     }
 }

@@ -4,7 +4,7 @@ ghost use Rattle.std.specs.List.{range_with_len};
 ghost use Rattle.cfi_step.specs.Callers.{on_ok};
 ghost use Rattle.cfi_stacks.specs.NullCalls.{by_link, by_pushed, called_from, caller_of};
 ghost use Rattle.cfi_stacks.specs.NullCalls.{caller_registers, is_null_call, value_in_caller};
-ghost use Rattle.cfi_stacks.specs.NullCalls.{value_of};
+ghost use Rattle.cfi_stacks.specs.NullCalls.{value_in_frame};
 
 use crate::missing_frames::has_no_frames;
 use cfi_expression::frame::register_value;
@@ -94,7 +94,7 @@ fn caller_of<M: Memory>(
 
 /// The same on x86-64.
 fn caller_by_stack<M: Memory>(memory: &M, registers: &[Option<u64>]) -> Result<Caller, FrameError>
-    ensures { result ≡ on_ok (by_pushed (M.number_at memory.now)) (value_of registers.now 7) }
+    ensures { result ≡ on_ok (by_pushed (M.number_at memory.now)) (value_in_frame registers.now 7) }
 {
     match register_value(registers, RSP) {
         Ok(sp) => by_pushed(memory, sp),
@@ -104,7 +104,7 @@ fn caller_by_stack<M: Memory>(memory: &M, registers: &[Option<u64>]) -> Result<C
 
 /// The same on AArch64.
 fn caller_by_link(registers: &[Option<u64>]) -> Result<Caller, FrameError>
-    ensures { result ≡ on_ok (by_link registers.now) (value_of registers.now 31) }
+    ensures { result ≡ on_ok (by_link registers.now) (value_in_frame registers.now 31) }
 {
     match register_value(registers, SP) {
         Ok(sp) => by_link(registers, sp),

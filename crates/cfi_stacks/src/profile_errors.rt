@@ -1,11 +1,13 @@
-//! Lines that say why a profile, or a record of it, can't be read.
-ghost use Rattle.std.specs.Prelude.{◌≡◌, ◌++◌};
+//! Lines that say why the stacks of a profile, or the rest of them, aren't printed.
+ghost use Rattle.std.specs.Prelude.{◌≡◌, ◌++◌, []};
 ghost use Rattle.cfi_programs.specs.WriterOutput.{Prints, Writes};
 ghost use Rattle.cfi_stacks.specs.ProfileErrors.{perf_advice, perf_refusal, perf_words};
+ghost use Rattle.cfi_stacks.specs.ProfileOutputs.{profile_ended, unknown_machine};
 
 use cfi_perf::PerfError;
 use cfi_programs::error_words::parting;
 use cfi_programs::lines::{write_part, write_text};
+use cfi_programs::refusals::write_reason;
 use cfi_programs::style::Format;
 use std::io;
 use std::io::Write;
@@ -63,7 +65,7 @@ fn write_perf_reason<W: Write>(output: &mut W, format: Format, error: PerfError)
     write_part(output, format_args!("{name}{parting}{error}{advice}"))
 }
 
-/// Returns what to do about an error, behind its sentence.
+/// Returns what to do about an error, after its sentence.
 fn perf_advice(error: PerfError) -> &'static str
     ensures { result.now ≡ perf_advice error }
 {
@@ -74,4 +76,27 @@ fn perf_advice(error: PerfError) -> &'static str
         PerfError::Compressed => "; perf record without -z doesn't compress them",
         _ => "",
     }
+}
+
+/// Prints the error that ended the records, if there is one, and returns the status.
+pub(crate) fn write_end<W: Write>(
+    output: &mut W,
+    format: Format,
+    error: Option<PerfError>,
+) -> io::Result<u8>
+    ensures { Prints (profile_ended format [] error)
+        (W.contents output.old) (W.contents output.new) result }
+{
+    match error {
+        None => Ok(0),
+        Some(error) => write_perf_refusal(output, format, error),
+    }
+}
+
+/// Prints that the registers of the profile's machine aren't known, and returns the status 1.
+pub(crate) fn write_unknown_machine<W: Write>(output: &mut W, format: Format) -> io::Result<u8>
+    ensures { Prints (unknown_machine format)
+        (W.contents output.old) (W.contents output.new) result }
+{
+    write_reason(output, format, "unknown machine", 1)
 }

@@ -1,6 +1,6 @@
 //! The index of a profile's records: where its samples are in the file, and the other records.
 ghost use Rattle.std.specs.Prelude.{◌≡◌, ◌≢◌, ◌≤◌, ◌-◌, ◌∷◌, ◌++◌, ℕ, [], List, Ok, IfOk, IfSome};
-ghost use Rattle.std.specs.Prelude.{None, OnOk, Option, Some, drop, length, map, min, option_map};
+ghost use Rattle.std.specs.Prelude.{OnOk, Option, length, map, min, option_map};
 ghost use Rattle.std.specs.Prelude.{◌+◌, ◌^◌, true};
 ghost use Rattle.std.specs.Option.{is_some};
 ghost use Rattle.cfi_perf.specs.declared.windows.RecordWalk.{RecordWalk as RecordWalkOfCode};
@@ -9,19 +9,19 @@ ghost use Rattle.cfi_perf.specs.Events.{record_view};
 ghost use Rattle.cfi_perf.specs.Indexes.{AreIndexed, IsOfBytes, kept_bytes, kept_of, place_for};
 ghost use Rattle.cfi_perf.specs.Indexes.{places_of};
 ghost use Rattle.cfi_perf.specs.Recordings.{is_sample};
-ghost use Rattle.cfi_perf.specs.Windows.{bytes_left, record_alone};
-ghost use Rattle.cfi_processes.specs.Replays.{code_file, wanted_of};
+ghost use Rattle.cfi_perf.specs.Windows.{record_bytes_left, record_alone};
+ghost use Rattle.cfi_processes.specs.WantedFiles.{mapped_code_file, wanted_of};
 ghost use Rattle.cfi_processes.specs.Wanted.{wanted_view};
 ghost use Rattle.cfi_stacks.specs.ProfileIndexes.{HasRecords, IsFoundOf, IsIndexOf, IsKernelFit};
-ghost use Rattle.cfi_stacks.specs.ProfileIndexes.{IsNextIn, IsPartOf, IsPieceOf, IsReadAt};
-ghost use Rattle.cfi_stacks.specs.ProfileIndexes.{IsTallyOf, IsToldOf, IsWholeOf};
-ghost use Rattle.cfi_stacks.specs.ProfileIndexes.{IsWindowIn, Piece, kernel_after, record_of};
+ghost use Rattle.cfi_stacks.specs.ProfileIndexes.{IsNextIn, IsPieceOf, IsReadAt, IsRecordsPart};
+ghost use Rattle.cfi_stacks.specs.ProfileIndexes.{IsTallyOf, IsToldOf, IsWholeOf, IsWindowIn};
+ghost use Rattle.cfi_stacks.specs.ProfileIndexes.{Piece, kernel_after, record_of};
 
 use cfi_elf::bytes::part;
 use cfi_object::input::{FileInput, InputError};
 use cfi_perf::{Event, Lost, PerfError, PlaceKind, Record, RecordIndex, RecordPlace, RecordWalk};
-use cfi_processes::profile_files::{code_file, has_kernel_frames, push_file};
 use cfi_processes::wanted::WantedFile;
+use cfi_processes::wanted_files::{code_file, has_kernel_frames, push_file};
 use std::alloc::{AllocError, Global};
 
 /// How many bytes a window has: few enough for the cache, and enough for several records.
@@ -112,7 +112,7 @@ fn read_bytes<I: FileInput>(
     input: &mut I,
 ) -> Result<Vec<u8>, InputError>
     ensures read { IfOk result (λ part.
-        IsPartOf (I.bytes input.old) walk.now offset size part.items) }
+        IsRecordsPart (I.bytes input.old) walk.now offset size part.items) }
     ensures same { I.bytes input.new ≡ I.bytes input.old }
 {
     match walk.place().checked_add(offset) {
@@ -143,7 +143,7 @@ impl<'p> ProfileIndex<'p> {
 
     /// How many bytes of the records a walk has passed.
     fn passed(&self, walk: &RecordWalk<'_>) -> u64
-        ensures { result ≡ bytes_left self.now.walk - bytes_left walk.now }
+        ensures { result ≡ record_bytes_left self.now.walk - record_bytes_left walk.now }
     {
         self.walk.left().saturating_sub(walk.left())
     }
@@ -155,7 +155,7 @@ impl<'p> ProfileIndex<'p> {
         walk: &mut RecordWalk<'p>,
         window: &[u8],
     ) -> Result<Option<usize>, InputError>
-        requires { min 65535 (bytes_left walk.old) ≤ length window.now }
+        requires { min 65535 (record_bytes_left walk.old) ≤ length window.now }
         ensures next { IfOk result (λ taken. (known : Option (List ℕ)) (pieces : List Piece)
             → HasRecords known self.old.walk → IsFoundOf known self.old walk.old pieces
             → IsWindowIn known self.old walk.old pieces window.now
@@ -231,7 +231,7 @@ impl<'p> ProfileIndex<'p> {
             → IsPieceOf known self.now.walk (kept_of self.now.records) piece
             → piece.place ≡ place.now
             → option_map wanted_view file
-            ≡ code_file (is_some self.now.kernel) piece.found.event) }
+            ≡ mapped_code_file (is_some self.now.kernel) piece.found.event) }
     {
         match place.kind {
             PlaceKind::InFile => Ok(None),
@@ -278,7 +278,7 @@ impl<'p> ProfileIndex<'p> {
         place: &RecordPlace,
         input: &mut I,
     ) -> Result<Vec<u8>, InputError>
-        ensures read { IfOk result (λ part. IsPartOf (I.bytes input.old) self.now.walk
+        ensures read { IfOk result (λ part. IsRecordsPart (I.bytes input.old) self.now.walk
             place.now.offset place.now.size part.items) }
         ensures same { I.bytes input.new ≡ I.bytes input.old }
     {
@@ -292,7 +292,7 @@ impl<'p> ProfileIndex<'p> {
         'p: 'b,
         ensures sample { IfSome result (λ item. is_sample (record_view item).event ≡ true) }
         ensures read { IfSome result (λ item. (known : Option (List ℕ))
-            → IsPartOf known self.now.walk place.now.offset place.now.size bytes.now
+            → IsRecordsPart known self.now.walk place.now.offset place.now.size bytes.now
             → place.now.kind ≡ PlaceKind.InFile
             → IsReadAt known self.now place.now (record_view item)) }
     {

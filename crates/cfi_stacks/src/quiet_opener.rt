@@ -1,6 +1,6 @@
 //! An opener that says nothing.
 
-use cfi_processes::profile_files::Opener;
+use cfi_processes::opener::Opener;
 use cfi_processes::wanted::LinkFolder;
 
 /// Opens what another opener does, and says nothing: for files that are opened again, of which that

@@ -2,8 +2,8 @@
 ghost use Rattle.std.specs.Prelude.{◌≡◌, ◌++◌, [], ◌∷◌, Some, codes, option_map};
 ghost use Rattle.cfi_read_core.specs.RefusalNames.{name_of};
 ghost use Rattle.cfi_programs.specs.WriterOutput.{Writes};
-ghost use Rattle.cfi_stacks.specs.Reasons.{reason_line, reason_of, reason_of_error};
-ghost use Rattle.cfi_stacks.specs.Reasons.{reason_view, reason_without};
+ghost use Rattle.cfi_stacks.specs.Reasons.{end_line, reason_of, reason_of_error, reason_view};
+ghost use Rattle.cfi_stacks.specs.Reasons.{reason_without};
 
 use cfi_processes::sample_stack::NoFrames;
 use cfi_programs::lines::write_part;
@@ -118,10 +118,10 @@ fn carrying(name: &'static str, words: &'static str, error: Error) -> Reason
 }
 
 /// Writes the line of a reason, if there is one: `# ` and the words, and in parentheses the name,
-/// and behind a space the name of the error that it carries.
+/// and after a space the name of the error that it carries.
 pub fn write_reason<W: Write>(output: &mut W, reason: Option<Reason>) -> io::Result<()>
     ensures { Writes (W.contents output.old) (W.contents output.new) result
-        (reason_line (option_map reason_view reason)) }
+        (end_line (option_map reason_view reason)) }
 {
     match reason {
         None => Ok(()),

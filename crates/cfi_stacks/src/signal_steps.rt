@@ -2,8 +2,8 @@
 ghost use Rattle.std.specs.Prelude.{◌≡◌, ◌<◌, length, map};
 ghost use Rattle.std.specs.List.{range_with_len};
 ghost use Rattle.cfi_stacks.specs.SignalTrampolines.{calls_sigreturn, interrupted};
-ghost use Rattle.cfi_stacks.specs.SignalTrampolines.{is_trampoline, pc_saved, place_in};
-ghost use Rattle.cfi_stacks.specs.SignalTrampolines.{registers_by, saved_in};
+ghost use Rattle.cfi_stacks.specs.SignalTrampolines.{interrupted_registers, is_signal_trampoline};
+ghost use Rattle.cfi_stacks.specs.SignalTrampolines.{pc_saved, register_place, saved_in};
 
 use crate::missing_frames::has_no_frames;
 use cfi_expression::frame::register_value;
@@ -78,7 +78,7 @@ impl<K, C, P: Steps<K, C>, M: Memory> Steps<K, C> for SignalSteps<'_, P, M> {
 
 /// Whether the call of `rt_sigreturn` is at the pc.
 fn is_trampoline<M: Memory>(machine: SampleMachine, memory: &M, pc: u64) -> bool
-    ensures { result ≡ is_trampoline machine (M.number_at memory.now) pc }
+    ensures { result ≡ is_signal_trampoline machine (M.number_at memory.now) pc }
 {
     match machine {
         SampleMachine::X86_64 => false,
@@ -123,7 +123,7 @@ fn pc_saved<M: Memory>(memory: &M, context: u64) -> Result<Caller, FrameError>
 
 /// Writes the registers of what was interrupted, if it was found.
 fn write_saved<M: Memory>(memory: &M, found: Result<Caller, FrameError>, caller: &mut [Option<u64>])
-    ensures { caller.new ≡ registers_by (M.number_at memory.now) found
+    ensures { caller.new ≡ interrupted_registers (M.number_at memory.now) found
         (length caller.old) caller.old }
 {
     match found {
@@ -156,7 +156,7 @@ fn saved_in<M: Memory>(memory: &M, context: u64, k: usize) -> Option<u64>
 /// The address at which `struct sigcontext` has a register.
 fn place_in(context: u64, k: usize) -> u64
     requires { k < 33 }
-    ensures { result ≡ place_in context k }
+    ensures { result ≡ register_place context k }
 {
     context.wrapping_add(8 + 8 * k as u64)
 }

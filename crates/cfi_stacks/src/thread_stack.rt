@@ -1,5 +1,5 @@
 //! The frames of a thread of a core file.
-ghost use Rattle.std.specs.Prelude.{◌≡◌, length, true};
+ghost use Rattle.std.specs.Prelude.{◌≡◌, length};
 ghost use Rattle.cfi_cores.specs.CoreThreads.{thread_view};
 ghost use Rattle.cfi_step.specs.CachedRows.{AreCachedFor, AreNumbered, KeepsFor};
 ghost use Rattle.cfi_step.specs.ModuleLists.{module_list};

@@ -4,7 +4,7 @@ use Rattle.cfi_processes.specs.CodeParts.{is_whole}
 use Rattle.cfi_processes.specs.OpenedFiles.{AreOpenedAs, are_whole}
 use Rattle.cfi_processes.proofs.FileLemmas.{whole_pushed}
 use Rattle.cfi_cores.specs.CoreFiles.{core_view}
-use Rattle.cfi_stacks.specs.CoreOutputs.{vdso_file, with_vdso}
+use Rattle.cfi_stacks.specs.CoreCode.{vdso_file, with_vdso_file}
 use Rattle.cfi_stacks.proofs.QuickLemmas.{some_is}
 use Rattle.cfi_stacks.proofs.VdsoFiles.{no_vdso, vdso_pushed}
 use Rattle.cfi_stacks.proofs.core_files.push_vdso.Goals as goal
@@ -12,7 +12,7 @@ use Rattle.cfi_stacks.proofs.core_files.push_vdso.Goals as goal
 pub returns-in_ok-push-in-Some-clause-opened : goal.returns-in_ok-push-in-Some-clause-opened
 returns-in_ok-push-in-Some-clause-opened c = λ all are.
     let core = core_view c.args.core.now in
-    subst (λ (opened : List OpenedFile). AreOpenedAs opened (with_vdso core all)) (sym c.in_ok-push-in-Some.ensures.items)
+    subst (λ (opened : List OpenedFile). AreOpenedAs opened (with_vdso_file core all)) (sym c.in_ok-push-in-Some.ensures.items)
     (vdso_pushed c.args.opened.now.items c.in_ok-file.field-0 c.in-Some.file (vdso_file core) c.in-Some.is c.in_ok-file.ensures.vdso all are)
 
 pub returns-in_ok-push-in-Some-clause-whole : goal.returns-in_ok-push-in-Some-clause-whole

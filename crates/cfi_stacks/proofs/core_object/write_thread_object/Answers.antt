@@ -1,31 +1,33 @@
 use Rattle.cfi_programs.proofs.DumpSectionWritten.{first_refused, last_written}
-use Rattle.std.proofs.Common.{◌++◌, map}
+use Rattle.std.proofs.Common.{◌++◌, map, true}
 use Rattle.cfi_processes.specs.KnownFiles.{known_view}
-use Rattle.cfi_processes.specs.ThreadNames.{bytes_of}
-use Rattle.cfi_stacks.specs.CoreOutputs.{core_walk_objects}
-use Rattle.cfi_stacks.specs.ProfileOutputs.{reason_for}
-use Rattle.cfi_stacks.specs.StackObjects.{listed, object_end, thread_head}
+use Rattle.cfi_processes.specs.ThreadNames.{name_bytes}
+use Rattle.cfi_programs.specs.JsonLines.{separated}
+use Rattle.cfi_stacks.specs.WalkObjects.{walk_objects}
+use Rattle.cfi_stacks.specs.SampleOutputs.{reason_for}
+use Rattle.cfi_stacks.specs.FrameObjects.{object_end}
+use Rattle.cfi_stacks.specs.ThreadMembers.{thread_head}
 use Rattle.cfi_stacks.proofs.core_object.write_thread_object.Goals as goal
 
 pub returns-in_err-write_thread_head : goal.returns-in_err-write_thread_head
 returns-in_err-write_thread_head g c =
-    let head = thread_head c.args.thread.now.tid c.args.thread.now.signal c.args.thread.now.fault (bytes_of c.args.name) in
-    let frames = listed (core_walk_objects c.args.raw (map known_view c.args.code.now.files.now) c.args.code.now.mappings.now c.args.found c.args.frames.now) in
+    let head = thread_head c.args.thread.now.tid c.args.thread.now.signal c.args.thread.now.fault (name_bytes c.args.name) in
+    let frames = separated true (walk_objects (record { raw = c.args.raw; with_address = true }) (map known_view c.args.code.now.files.now) c.args.code.now.mappings.now c.args.found c.args.frames.now) in
     let end = object_end (reason_for c.args.found) in
     first_refused _ _ _ head (frames ++ (end)) c.from_residual.ensures.0 c.in_err-write_thread_head.ensures
 
-pub returns-in_err-write_core_walk : goal.returns-in_err-write_core_walk
-returns-in_err-write_core_walk g c =
-    let head = thread_head c.args.thread.now.tid c.args.thread.now.signal c.args.thread.now.fault (bytes_of c.args.name) in
-    let frames = listed (core_walk_objects c.args.raw (map known_view c.args.code.now.files.now) c.args.code.now.mappings.now c.args.found c.args.frames.now) in
+pub returns-in_err-write_walk : goal.returns-in_err-write_walk
+returns-in_err-write_walk g c =
+    let head = thread_head c.args.thread.now.tid c.args.thread.now.signal c.args.thread.now.fault (name_bytes c.args.name) in
+    let frames = separated true (walk_objects (record { raw = c.args.raw; with_address = true }) (map known_view c.args.code.now.files.now) c.args.code.now.mappings.now c.args.found c.args.frames.now) in
     let end = object_end (reason_for c.args.found) in
     last_written _ _ _ _ head (frames ++ (end)) c.in_ok-write_thread_head.ensures
-    (first_refused _ _ _ frames (end) c.from_residual-in_err-write_core_walk.ensures.0 c.in_err-write_core_walk.ensures)
+    (first_refused _ _ _ frames (end) c.from_residual-in_err-write_walk.ensures.0 c.in_err-write_walk.ensures)
 
 pub returns : goal.returns
 returns g c =
-    let head = thread_head c.args.thread.now.tid c.args.thread.now.signal c.args.thread.now.fault (bytes_of c.args.name) in
-    let frames = listed (core_walk_objects c.args.raw (map known_view c.args.code.now.files.now) c.args.code.now.mappings.now c.args.found c.args.frames.now) in
+    let head = thread_head c.args.thread.now.tid c.args.thread.now.signal c.args.thread.now.fault (name_bytes c.args.name) in
+    let frames = separated true (walk_objects (record { raw = c.args.raw; with_address = true }) (map known_view c.args.code.now.files.now) c.args.code.now.mappings.now c.args.found c.args.frames.now) in
     let end = object_end (reason_for c.args.found) in
     last_written _ _ _ _ head (frames ++ (end)) c.in_ok-write_thread_head.ensures
-    (last_written _ _ _ _ frames (end) c.in_ok-write_core_walk.ensures (rw c.reason_for.ensures at c.write_object_end.ensures))
+    (last_written _ _ _ _ frames (end) c.in_ok-write_walk.ensures (rw c.reason_for.ensures at c.write_object_end.ensures))

@@ -1,8 +1,9 @@
 use Rattle.std.proofs.Common.{subst, sym}
 use Rattle.cfi_elf.specs.Images.{Image, IsImageOf}
 use Rattle.cfi_cores.specs.CoreFiles.{core_view}
-use Rattle.cfi_cores.specs.CoreParts.{image_of, with_all}
-use Rattle.cfi_stacks.specs.CoreOutputs.{IsOfOpened}
+use Rattle.cfi_object.specs.FileParts.{image_of}
+use Rattle.cfi_cores.specs.PartialCores.{with_all}
+use Rattle.cfi_stacks.specs.CoreOutputs.{IsCoreOfOpened}
 use Rattle.cfi_stacks.specs.QuickStacks.{line_of}
 use Rattle.cfi_stacks.proofs.QuickLemmas.{places_in_order, quick_owed, refused_of_parts, some_is}
 use Rattle.cfi_stacks.proofs.core_quick.print_by_parts.Goals as goal
@@ -15,7 +16,7 @@ returns-in-Ok-Some g c =
     let partial = c.args.partial.now in
     quick_owed c.args.listing (g.O.Opener.may_open c.args.opener.now) g.O.File.Read.remaining partial (image_of c.args.parts.now) c.requires.partial (g.I.FileInput.bytes c.args.input.now) c.args.opened.now (line_of c.in-Ok-Some.quick) _ _ c.write_quick.result
     c.requires.parts c.requires.opened c.requires.threads
-    (λ bytes of is all hold. some_is c.in-Ok-Some.field-0 c.in-Ok-Some.quick (λ quick. IsOfOpened c.args.listing (with_all bytes (core_view partial.core) partial.places.items) all (line_of quick)) c.in-Ok-Some.field-0-is
+    (λ bytes of is all hold. some_is c.in-Ok-Some.field-0 c.in-Ok-Some.quick (λ quick. IsCoreOfOpened c.args.listing (with_all bytes (core_view partial.core) partial.places.items) all (line_of quick)) c.in-Ok-Some.field-0-is
     (c.in-Ok-Some.ensures bytes (subst (λ (image : Image). IsImageOf image bytes) (sym c.image.ensures) of) is all hold))
     c.write_quick.ensures
 

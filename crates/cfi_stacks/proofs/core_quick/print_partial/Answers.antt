@@ -1,5 +1,5 @@
 use Rattle.std.proofs.Common.{List, subst, sym, ◌∙◌}
-use Rattle.cfi_cores.specs.CoreParts.{image_of}
+use Rattle.cfi_object.specs.FileParts.{image_of}
 use Rattle.cfi_processes.specs.declared.opened_file.OpenedFile.{OpenedFile}
 use Rattle.cfi_processes.specs.OpenedFiles.{AreOpenedAs}
 use Rattle.cfi_stacks.proofs.QuickLemmas.{printed_lacking}

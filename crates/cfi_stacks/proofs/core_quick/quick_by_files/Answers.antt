@@ -1,6 +1,6 @@
 use Rattle.std.specs.List.{filter_map}
 use Rattle.cfi_cores.specs.CoreFiles.{core_view}
-use Rattle.cfi_stacks.specs.CoreOutputs.{file_window}
+use Rattle.cfi_stacks.specs.CoreWindows.{file_window}
 use Rattle.cfi_stacks.proofs.QuickLemmas.{each_some}
 use Rattle.cfi_stacks.proofs.SortedWindows.{windows_of, windows_sorted}
 use Rattle.cfi_stacks.proofs.core_quick.quick_by_files.Goals as goal

@@ -1,5 +1,5 @@
 use Rattle.std.proofs.Common.{map}
-use Rattle.cfi_cores.specs.CoreParts.{segment_at}
+use Rattle.cfi_cores.specs.PartialCores.{segment_at}
 use Rattle.cfi_cores.specs.CoreSegments.{segment_view}
 use Rattle.cfi_stacks.specs.QuickStacks.{memory_by}
 use Rattle.cfi_stacks.proofs.QuickLemmas.{in_memory}

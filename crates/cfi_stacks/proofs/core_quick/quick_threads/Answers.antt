@@ -2,13 +2,14 @@ use Rattle.std.proofs.Common.{None, ◌∙◌, ◌+◌, [], List, ap, get_or, ma
 use Rattle.std.specs.List.Sorted.{IsNonDecreasingBy}
 use Rattle.cfi_elf.specs.declared.program_header.ProgramHeader.{ProgramHeader}
 use Rattle.cfi_cores.specs.CoreFiles.{core_view}
-use Rattle.cfi_cores.specs.CoreParts.{segment_at, with_all}
+use Rattle.cfi_cores.specs.PartialCores.{segment_at, with_all}
 use Rattle.cfi_cores.specs.declared.thread.CoreThread.{CoreThread as ThreadOfCode}
 use Rattle.cfi_cores.specs.CoreThreads.{thread_view}
-use Rattle.cfi_processes.specs.FileModules.{AreOfFiles}
+use Rattle.cfi_processes.specs.FileModules.{AreModulesOfFiles}
 use Rattle.cfi_processes.specs.KnownFiles.{known_view}
-use Rattle.cfi_processes.specs.ThreadNames.{bytes_of}
-use Rattle.cfi_stacks.specs.CoreOutputs.{mappings_of, memory_of}
+use Rattle.cfi_processes.specs.ThreadNames.{name_bytes}
+use Rattle.cfi_stacks.specs.CoreCode.{core_mappings}
+use Rattle.cfi_stacks.specs.CoreOutputs.{core_memory}
 use Rattle.cfi_stacks.proofs.CoreRunLemmas.{text_there}
 use Rattle.cfi_stacks.proofs.QuickLemmas.{memory_same, quick_printed, same_mappings}
 use Rattle.cfi_stacks.proofs.RoomLemmas.{room_for_all}
@@ -24,7 +25,7 @@ loop-thread-init c = (
       let partial = c.args.partial.now in
       let whole = with_all bytes (core_view partial.core) partial.places.items in
       let files = map known_view c.args.files.now in
-      let memory = memory_of whole windows in
+      let memory = core_memory whole windows in
       subst (λ (text : List ℕ). Printed c.args.listing files memory whole [] (Some []) (Some text)) (sym c.new-text.ensures.items) (none_printed c.args.listing files memory whole (Some [])),
   room_for_all c.args.files.now c.args.room c.requires.frames c.requires.rows,
 )
@@ -37,7 +38,7 @@ loop-thread-preserved-then-not-is_asked_for c = (
       let whole = with_all bytes (core_view partial.core) partial.places.items in
       let threads = c.as_slice-threads.result.now in
       let i = c.loop-thread.thread-index in
-      one_passed c.args.listing (map known_view c.args.files.now) (memory_of whole windows) whole (take i (map thread_view threads)) (take (i + 1) (map thread_view threads)) (thread_view (get_or threads i no_thread)) (Some []) (Some c.loop-thread.text.items)
+      one_passed c.args.listing (map known_view c.args.files.now) (core_memory whole windows) whole (take i (map thread_view threads)) (take (i + 1) (map thread_view threads)) (thread_view (get_or threads i no_thread)) (Some []) (Some c.loop-thread.text.items)
       (next_thread thread_view threads i no_thread c.loop-thread-test.true) (sym c.is_asked_for.ensures ∙ c.if-not-is_asked_for.true) (c.loop-thread.invariant.0 bytes of is windows),
   c.loop-thread.invariant.1,
 )
@@ -57,9 +58,9 @@ loop-thread-preserved c = (
       let mapped = c.as_slice.ensures.all ∙ (c.requires.mappings ∙ same_mappings bytes core partial.places.items is.heads files) in
       let places = c.as_slice-in-loop-thread-2.result.now in
       let lent = memory_same bytes windows places partial.places.items c.as_slice-in-loop-thread-2.ensures.value in
-      one_printed c.args.listing files (memory_of whole windows) whole (take i (map thread_view threads)) (take (i + 1) (map thread_view threads)) (thread_view t) (Some []) (Some c.loop-thread.text.items) (Some c.quick_thread.new.output.items) text
+      one_printed c.args.listing files (core_memory whole windows) whole (take i (map thread_view threads)) (take (i + 1) (map thread_view threads)) (thread_view t) (Some []) (Some c.loop-thread.text.items) (Some c.quick_thread.new.output.items) text
       (next_thread thread_view threads i no_thread c.loop-thread-test.true) (sym c.is_asked_for.ensures ∙ c.if-not-is_asked_for.false) (c.loop-thread.invariant.0 bytes of is windows)
-      (text_there c.args.listing core.machine files c.as_slice.result.now (mappings_of files whole.segments whole.mapped) (record { dumped = map (segment_at bytes) places; mapped = windows }) (record { dumped = whole.segments; mapped = windows }) (bytes_of c.shown_name-name.result) core.name (thread_view t) text mapped lent c.shown_name-name.ensures shows) written,
+      (text_there c.args.listing core.machine files c.as_slice.result.now (core_mappings files whole.segments whole.mapped) (record { dumped = map (segment_at bytes) places; mapped = windows }) (record { dumped = whole.segments; mapped = windows }) (name_bytes c.shown_name-name.result) core.name (thread_view t) text mapped lent c.shown_name-name.ensures shows) written,
   c.in_ok-whole.ensures.cached,
 )
 
@@ -69,11 +70,11 @@ returns c = λ bytes of is windows.
     let whole = with_all bytes (core_view partial.core) partial.places.items in
     let threads = c.as_slice-threads.result.now in
     let i = c.loop-thread.thread-index in
-    quick_printed c.args.listing (map known_view c.args.files.now) (memory_of whole windows) whole (take i (map thread_view threads)) c.loop-thread.text.items c.write_end.new.output.items c.in_ok-status.status
+    quick_printed c.args.listing (map known_view c.args.files.now) (core_memory whole windows) whole (take i (map thread_view threads)) c.loop-thread.text.items c.write_end.new.output.items c.in_ok-status.status
     (all_threads thread_view threads i c.loop-thread-test.false ∙ ap (map thread_view) c.as_slice-threads.ensures.value) (c.loop-thread.invariant.0 bytes of is windows) c.in_ok-status.ensures
 
 pub quick_thread-requires-clause-files : goal.quick_thread-requires-clause-files
-quick_thread-requires-clause-files c = subst (AreOfFiles c.args.files.now) (sym c.as_slice-in-loop-thread.ensures.value) c.requires.files
+quick_thread-requires-clause-files c = subst (AreModulesOfFiles c.args.files.now) (sym c.as_slice-in-loop-thread.ensures.value) c.requires.files
 
 pub quick_thread-requires-clause-places : goal.quick_thread-requires-clause-places
 quick_thread-requires-clause-places c = subst (IsNonDecreasingBy (λ (h : ProgramHeader). h.p_vaddr)) (sym c.as_slice-in-loop-thread-2.ensures.value) c.requires.places

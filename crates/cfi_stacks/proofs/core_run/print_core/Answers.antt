@@ -1,7 +1,7 @@
 use Rattle.std.proofs.Common.{ℕ, List, Option, subst, sym}
 use Rattle.cfi_object.specs.FileParts.{AreOfInput}
-use Rattle.cfi_cores.specs.CoreParts.{image_of}
-use Rattle.cfi_stacks.specs.CoreOutputs.{PrintsOwed}
+use Rattle.cfi_object.specs.FileParts.{image_of}
+use Rattle.cfi_stacks.specs.CoreOutputs.{PrintsCoreOwed}
 use Rattle.cfi_stacks.proofs.QuickLemmas.{unread}
 use Rattle.cfi_stacks.proofs.ReadLemmas.{for_input}
 use Rattle.cfi_stacks.proofs.core_run.print_core.Goals as goal
@@ -11,9 +11,9 @@ print_parts-requires g c = subst (λ (known : Option (List ℕ)). AreOfInput kno
 
 pub returns-in-Ok : goal.returns-in-Ok
 returns-in-Ok g c =
-    subst (λ (known : Option (List ℕ)). PrintsOwed c.args.listing (g.O.Opener.may_open c.args.opener.now) g.O.File.Read.remaining known (g.W.Write.contents c.args.output.now) (g.W.Write.contents c.print_parts.new.output) c.print_parts.result)
+    subst (λ (known : Option (List ℕ)). PrintsCoreOwed c.args.listing (g.O.Opener.may_open c.args.opener.now) g.O.File.Read.remaining known (g.W.Write.contents c.args.output.now) (g.W.Write.contents c.print_parts.new.output) c.print_parts.result)
     c.read_core_parts.ensures.same c.print_parts.ensures
 
 pub returns-in-Err : goal.returns-in-Err
 returns-in-Err g c =
-    for_input (g.I.FileInput.bytes c.args.input.now) _ (λ bytes. unread c.args.listing (g.O.Opener.may_open c.args.opener.now) g.O.File.Read.remaining bytes _ _ c.write_unread.result c.write_unread.ensures)
+    for_input (g.I.FileInput.bytes c.args.input.now) _ (λ bytes. unread c.args.listing (g.O.Opener.may_open c.args.opener.now) g.O.File.Read.remaining bytes _ _ _ c.write_input_refusal.result c.write_input_refusal.ensures)

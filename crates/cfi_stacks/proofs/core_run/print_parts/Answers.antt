@@ -1,6 +1,7 @@
 use Rattle.std.proofs.Common.{subst, sym}
 use Rattle.cfi_elf.specs.Images.{Image, IsImageOf}
-use Rattle.cfi_cores.specs.CoreParts.{IsPartial, image_of}
+use Rattle.cfi_cores.specs.PartialCores.{IsPartial}
+use Rattle.cfi_object.specs.FileParts.{image_of}
 use Rattle.cfi_stacks.proofs.QuickLemmas.{refused_of_parts, some_is}
 use Rattle.cfi_stacks.proofs.core_run.print_parts.Goals as goal
 

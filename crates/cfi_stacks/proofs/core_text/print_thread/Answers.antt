@@ -1,48 +1,14 @@
-use Rattle.std.proofs.Common.{◌∙◌, ap, length, map, refl, rules}
+use Rattle.std.proofs.Common.{ap, map}
 use Rattle.cfi_cores.specs.CoreThreads.{thread_view}
-use Rattle.cfi_step.specs.ModuleLists.{module_list}
 use Rattle.cfi_processes.specs.KnownFiles.{known_view}
-use Rattle.cfi_processes.specs.Modules.{module_view}
-use Rattle.cfi_processes.specs.ThreadNames.{bytes_of}
-use Rattle.cfi_processes.proofs.CodeLemmas.{modules_sorted}
-use Rattle.cfi_stacks.specs.CoreOutputs.{thread_in}
-use Rattle.cfi_stacks.proofs.RoomLemmas.{numbered_before, room_after, rows_after, rows_before}
+use Rattle.cfi_processes.specs.ThreadNames.{name_bytes}
+use Rattle.cfi_stacks.specs.ThreadOutputs.{thread_in_format}
 use Rattle.cfi_stacks.proofs.core_text.print_thread.Goals as goal
 
-pub unreachable-requires : goal.unreachable-requires
-unreachable-requires g c =
-    c.in_default.ensures.sorted (modules_sorted (map known_view c.args.code.now.files.now) c.args.code.now.mappings.now c.args.modules.now c.requires.order c.requires.modules)
-
 pub returns-clause-printed : goal.returns-clause-printed
-returns-clause-printed g c = (
-  thread_in c.args.listing (map known_view c.args.code.now.files.now) c.args.code.now.mappings.now (bytes_of c.args.name) (thread_view c.args.thread.now) c.unwind_thread-found.result c.unwind_thread-found.new.frames,
-  c.print_found.ensures,
-  (
-    module_list c.in-Ok.modules,
-    _,
-    c.unwind_thread-found.result,
-    _,
-    ap (map module_view) c.in-Ok.ensures.sorted.1 ∙ c.requires.modules,
-    ap length c.as_mut_slice-frames.ensures.value ∙ c.requires.cached.0,
-    search rules,
-    c.unwind_thread-found.ensures.unwound,
-    refl,
-  ),
-)
-
-pub unwind_thread-found-requires-clause-numbered : goal.unwind_thread-found-requires-clause-numbered
-unwind_thread-found-requires-clause-numbered g c =
-    numbered_before c.args.code.now.files.now c.args.modules.now (module_list c.in-Ok.modules) c.in-Ok.ensures.sorted.1 c.requires.files
-
-pub unwind_thread-found-requires-clause-cached : goal.unwind_thread-found-requires-clause-cached
-unwind_thread-found-requires-clause-cached g c =
-    rows_before c.args.code.now.files.now c.args.modules.now (module_list c.in-Ok.modules) c.in-Ok.ensures.sorted.1 c.requires.files
-    c.args.room.now.cache.items c.as_mut_slice.result.now c.as_mut_slice.ensures.value c.requires.cached.1
-
-pub returns-clause-cached : goal.returns-clause-cached
-returns-clause-cached g c = (
-  room_after c.args.room.now.frames.len c.args.room.now.frames.items c.unwind_thread-found.new.frames (search rules) c.requires.cached.0,
-  rows_after c.args.code.now.files.now c.args.modules.now (module_list c.in-Ok.modules) c.in-Ok.ensures.sorted.1 c.requires.files
-      c.args.room.now.cache.len c.args.room.now.cache.items c.as_mut_slice.result.now c.unwind_thread-found.new.cache (search rules) c.as_mut_slice.ensures.value c.requires.cached.1
-      c.unwind_thread-found.ensures.kept,
-)
+returns-clause-printed g c =
+    let text = thread_in_format c.args.listing (map known_view c.args.code.now.files.now) c.args.code.now.mappings.now (name_bytes c.args.name) (thread_view c.args.thread.now) c.walk_thread-found.result in (
+      text c.as_slice.result.now,
+      c.print_found.ensures,
+      (c.walk_thread-found.result, _, c.walk_thread-found.ensures.walked, ap text c.as_slice.ensures.value),
+    )

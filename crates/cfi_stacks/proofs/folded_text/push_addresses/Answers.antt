@@ -1,5 +1,6 @@
 use Rattle.std.proofs.Common.{◌≡◌, ◌∙◌, ◌++◌, ◌+◌, ◌-◌, ◌<◌, ◌≤◌, ap, arith, length, map}
-use Rattle.cfi_processes.specs.KnownFiles.{chain_site, known_view}
+use Rattle.cfi_processes.specs.KernelSites.{chain_site}
+use Rattle.cfi_processes.specs.KnownFiles.{known_view}
 use Rattle.cfi_processes.specs.Sites.{Site}
 use Rattle.cfi_stacks.specs.FoldedTexts.{site_name}
 use Rattle.cfi_stacks.proofs.ChainLemmas.{one_chained}

@@ -1,5 +1,6 @@
 use Rattle.std.proofs.Common.{◌≡◌, ◌≤◌, ◌++◌, drop, length, map}
-use Rattle.cfi_processes.specs.KnownFiles.{chain_site, known_view}
+use Rattle.cfi_processes.specs.KernelSites.{chain_site}
+use Rattle.cfi_processes.specs.KnownFiles.{known_view}
 use Rattle.cfi_stacks.specs.FoldedTexts.{chain_names}
 use Rattle.cfi_stacks.proofs.folded_text.push_addresses.Given as goal
 

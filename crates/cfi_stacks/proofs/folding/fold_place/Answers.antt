@@ -1,15 +1,15 @@
 use Rattle.std.proofs.Common.{inl, refl}
 use Rattle.cfi_flame.specs.FoldedCounts.{counted_in}
-use Rattle.cfi_processes.specs.Replays.{files_in}
+use Rattle.cfi_processes.specs.Replays.{replay_known}
 use Rattle.cfi_stacks.specs.Choices.{choice_view}
-use Rattle.cfi_stacks.specs.ProfileOutputs.{known_in}
+use Rattle.cfi_stacks.specs.KnownSamples.{known_in}
 use Rattle.cfi_stacks.proofs.RoomLemmas.{still_room_for}
 use Rattle.cfi_stacks.proofs.SampleTurns.{counts_other}
 use Rattle.cfi_stacks.proofs.folding.fold_place.Goals as goal
 
 pub returns-in-Ok-follow_other-clause-counted : goal.returns-in-Ok-follow_other-clause-counted
 returns-in-Ok-follow_other-clause-counted g c =
-    counts_other c.args.by_period c.args.machine (files_in c.args.replay.now) (choice_view c.args.choice.now) (known_in c.args.replay.now) c.args.left (known_in c.follow_other.new.replay) (g.I.FileInput.bytes c.args.input.now) c.args.index.now c.args.place.now
+    counts_other c.args.by_period c.args.machine (replay_known c.args.replay.now) (choice_view c.args.choice.now) (known_in c.args.replay.now) c.args.left (known_in c.follow_other.new.replay) (g.I.FileInput.bytes c.args.input.now) c.args.index.now c.args.place.now
     (counted_in c.args.counts.now) c.in-Ok-follow_other.left c.in-Ok-follow_other.ensures.followed
 
 pub returns-in-Ok-follow_other-clause-own : goal.returns-in-Ok-follow_other-clause-own

@@ -1,49 +1,19 @@
-use Rattle.std.proofs.Common.{◌∙◌, ◌++◌, ℕ, List, ap, arith, length, map, rules}
-use Rattle.std.proofs.lemmas.Grind.{common_steps}
+use Rattle.std.proofs.Common.{◌∙◌, ◌++◌, List, ap, map, ℕ}
 use Rattle.std.proofs.lemmas.Result.{on_ok_weaker}
-use Rattle.cfi_step.specs.ModuleLists.{module_list}
 use Rattle.cfi_perf.specs.Samples.{sample_view}
-use Rattle.cfi_processes.specs.KnownFiles.{kernel_site, known_view}
-use Rattle.cfi_processes.specs.Modules.{module_view}
-use Rattle.cfi_processes.specs.ThreadNames.{bytes_of}
-use Rattle.cfi_processes.proofs.CodeLemmas.{modules_sorted}
+use Rattle.cfi_processes.specs.KnownFiles.{known_view}
+use Rattle.cfi_processes.specs.KernelSites.{kernel_site}
+use Rattle.cfi_processes.specs.ThreadNames.{name_bytes}
 use Rattle.cfi_stacks.specs.FoldedTexts.{folded_text}
-use Rattle.cfi_stacks.proofs.RoomLemmas.{numbered_before, room_after, rows_after, rows_before}
 use Rattle.cfi_stacks.proofs.folding.fold_sample.Goals as goal
-
-pub unreachable-requires : goal.unreachable-requires
-unreachable-requires c =
-    c.in_default.ensures.sorted (modules_sorted (map known_view c.args.code.now.files.now) c.args.code.now.mappings.now c.args.modules.now c.requires.order c.requires.modules)
 
 pub returns-clause-folded : goal.returns-clause-folded
 returns-clause-folded c =
     let in_kernel = kernel_site (map known_view c.args.kernel.now.files.now) c.args.kernel.now.mappings.now in
-    let text = folded_text in_kernel (map known_view c.args.code.now.files.now) c.args.code.now.mappings.now (bytes_of c.args.name) (sample_view c.args.sample.now) c.unwind_sample-found.result c.unwind_sample-found.new.frames in
+    let text = folded_text in_kernel (map known_view c.args.code.now.files.now) c.args.code.now.mappings.now (name_bytes c.args.name) (sample_view c.args.sample.now) c.walk_sample-found.result in
     on_ok_weaker c.push_stack.result (λ pushed. (
-      module_list c.in-Ok.modules,
+      c.walk_sample-found.result,
       _,
-      c.unwind_sample-found.result,
-      _,
-      ap (map module_view) c.in-Ok.ensures.sorted.1 ∙ c.requires.modules,
-      ap length c.as_mut_slice-frames.ensures.value ∙ c.requires.cached.0,
-      grind (arith, common_steps),
-      c.unwind_sample-found.ensures.unwound,
-      pushed ∙ ap (λ (front : List ℕ). front ++ text) c.clear.ensures.items,
+      c.walk_sample-found.ensures.walked,
+      pushed ∙ (ap (λ (front : List ℕ). front ++ text c.as_slice-frames.result.now) c.clear.ensures.items ∙ ap text c.as_slice-frames.ensures.value),
     )) c.push_stack.ensures
-
-pub unwind_sample-found-requires-clause-numbered : goal.unwind_sample-found-requires-clause-numbered
-unwind_sample-found-requires-clause-numbered c =
-    numbered_before c.args.code.now.files.now c.args.modules.now (module_list c.in-Ok.modules) c.in-Ok.ensures.sorted.1 c.requires.files
-
-pub unwind_sample-found-requires-clause-cached : goal.unwind_sample-found-requires-clause-cached
-unwind_sample-found-requires-clause-cached c =
-    rows_before c.args.code.now.files.now c.args.modules.now (module_list c.in-Ok.modules) c.in-Ok.ensures.sorted.1 c.requires.files
-    c.args.room.now.cache.items c.as_mut_slice.result.now c.as_mut_slice.ensures.value c.requires.cached.1
-
-pub returns-clause-cached : goal.returns-clause-cached
-returns-clause-cached c = (
-  room_after c.args.room.now.frames.len c.args.room.now.frames.items c.unwind_sample-found.new.frames (search rules) c.requires.cached.0,
-  rows_after c.args.code.now.files.now c.args.modules.now (module_list c.in-Ok.modules) c.in-Ok.ensures.sorted.1 c.requires.files
-      c.args.room.now.cache.len c.args.room.now.cache.items c.as_mut_slice.result.now c.unwind_sample-found.new.cache (search rules) c.as_mut_slice.ensures.value c.requires.cached.1
-      c.unwind_sample-found.ensures.kept,
-)

@@ -2,13 +2,13 @@ use Rattle.std.proofs.Common.{◌∙◌, ◌++◌, ℕ, List, ap, inl}
 use Rattle.std.specs.List.{flat_map}
 use Rattle.cfi_flame.specs.FoldedCounts.{counted_in, line_text}
 use Rattle.cfi_programs.specs.declared.style.Format.TheVariants.{Text}
-use Rattle.cfi_stacks.specs.ProfileOutputs.{ended}
+use Rattle.cfi_stacks.specs.ProfileOutputs.{profile_ended}
 use Rattle.cfi_stacks.proofs.folding.write_counts.Goals as goal
 
 pub returns-in-Ok : goal.returns-in-Ok
 returns-in-Ok g c =
     let lines = flat_map line_text (counted_in c.args.counts.now) in (
-      ended Text c.as_slice.result.now c.args.error,
+      profile_ended Text c.as_slice.result.now c.args.error,
       c.write_folded.ensures,
-      inl (ap (λ (text : List ℕ). ended Text text c.args.error) (c.as_slice.ensures.value ∙ c.in-Ok.ensures ∙ ap (λ (front : List ℕ). front ++ lines) c.new-text.ensures.items)),
+      inl (ap (λ (text : List ℕ). profile_ended Text text c.args.error) (c.as_slice.ensures.value ∙ c.in-Ok.ensures ∙ ap (λ (front : List ℕ). front ++ lines) c.new-text.ensures.items)),
     )

@@ -1,7 +1,7 @@
 use Rattle.std.proofs.lemmas.List.{take_rest}
 use Rattle.std.proofs.Common.{◌≡◌, ◌≤◌, ◌-◌, ◌∙◌, ℕ, [], List, Option, IfSome, ap, arith, drop, length, length-drop, refl, subst, sym, take}
 use Rattle.cfi_perf.specs.declared.windows.RecordWalk.{RecordWalk}
-use Rattle.cfi_stacks.specs.ProfileIndexes.{HasRecords, IsNextIn, IsPartOf, IsWindowIn}
+use Rattle.cfi_stacks.specs.ProfileIndexes.{HasRecords, IsNextIn, IsRecordsPart, IsWindowIn}
 use Rattle.cfi_stacks.proofs.FoundLemmas.{no_window, read_on, step_on}
 use Rattle.cfi_stacks.proofs.profile_index.find_records.Goals as goal
 use Rattle.cfi_stacks.proofs.profile_index.find_records.Goals.{then-len-from+in_ok-window, else-len-from}
@@ -27,7 +27,7 @@ returns-in-None-clause-found g c =
       | then-len-from+in_ok-window w ↦
           rw (w.window-is, w.from-is)
           (read_on index rest pieces (drop c.loop.from c.loop.window.items) w.in_ok-window.window.items w.passed.result w.min-size.result known found window w.passed.ensures (omega (arith, w.min-size.ensures, w.left.ensures))
-          (subst (λ (k : Option (List ℕ)). IsPartOf k index.walk w.passed.result w.min-size.result w.in_ok-window.window.items) same w.in_ok-window.ensures.read))
+          (subst (λ (k : Option (List ℕ)). IsRecordsPart k index.walk w.passed.result w.min-size.result w.in_ok-window.window.items) same w.in_ok-window.ensures.read))
       | else-len-from w ↦ rw (w.window-is, w.from-is) window
     ] in
     let all = c.deref.result.now in
@@ -48,7 +48,7 @@ loop-preserved g c =
           rw (w.window-is, w.from-is) (
             omega arith,
             read_on index rest pieces (drop c.loop.from c.loop.window.items) w.in_ok-window.window.items w.passed.result w.min-size.result known found window w.passed.ensures (omega (arith, w.min-size.ensures, w.left.ensures))
-                (subst (λ (k : Option (List ℕ)). IsPartOf k index.walk w.passed.result w.min-size.result w.in_ok-window.window.items) same w.in_ok-window.ensures.read),
+                (subst (λ (k : Option (List ℕ)). IsRecordsPart k index.walk w.passed.result w.min-size.result w.in_ok-window.window.items) same w.in_ok-window.ensures.read),
           )
       | else-len-from w ↦ rw (w.window-is, w.from-is) (inside, window)
     ] in

@@ -1,5 +1,5 @@
 use Rattle.std.proofs.Common.{sym}
-use Rattle.cfi_perf.specs.Profiles.{head_view}
+use Rattle.cfi_perf.specs.ProfileHeads.{head_view}
 use Rattle.cfi_stacks.specs.Choices.{choice_view}
 use Rattle.cfi_stacks.proofs.AroundLemmas.{has_records}
 use Rattle.cfi_stacks.proofs.ShownLemmas.{error_around, of_around}

@@ -1,6 +1,7 @@
 use Rattle.std.proofs.Common.{Some, subst, sym}
-use Rattle.cfi_perf.specs.Profiles.{head_view, profile_view}
-use Rattle.cfi_perf.specs.Sections.{ProfileHead}
+use Rattle.cfi_perf.specs.ProfileHeads.{head_view}
+use Rattle.cfi_perf.specs.Profiles.{profile_view}
+use Rattle.cfi_perf.specs.ProfileHeads.{ProfileHead}
 use Rattle.cfi_stacks.specs.Choices.{choice_view}
 use Rattle.cfi_stacks.specs.ProfileIndexes.{HasRecordsAt}
 use Rattle.cfi_stacks.proofs.AroundLemmas.{has_own_records}

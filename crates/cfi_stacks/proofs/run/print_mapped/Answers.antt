@@ -2,7 +2,7 @@ use Rattle.std.proofs.Common.{◌∙◌, ap, inr, map, refl}
 use Rattle.cfi_inputs.specs.Refusals.{input_refusal}
 use Rattle.cfi_processes.specs.Wanted.{wanted_view}
 use Rattle.cfi_stacks.specs.Choices.{choice_view}
-use Rattle.cfi_stacks.specs.ProfileOutputs.{format_of}
+use Rattle.cfi_stacks.specs.ProfileOutputs.{listing_format}
 use Rattle.cfi_stacks.proofs.ShownLemmas.{of_wanted, shows_more}
 use Rattle.cfi_stacks.proofs.run.print_mapped.Goals as goal
 
@@ -13,4 +13,4 @@ returns-in-Ok g c =
     (λ pieces is. ap (map wanted_view) c.as_slice-wanted.ensures.value ∙ c.in-Ok.ensures (g.I.FileInput.bytes c.args.input.now) pieces is)) c.print_wanted.ensures
 
 pub returns-in-Err : goal.returns-in-Err
-returns-in-Err g c = (input_refusal (format_of c.args.listing) c.in-Err.error, rw c.format.ensures at c.write_input_refusal.ensures, inr (c.in-Err.error, refl))
+returns-in-Err g c = (input_refusal (listing_format c.args.listing) c.in-Err.error, rw c.format.ensures at c.write_input_refusal.ensures, inr (c.in-Err.error, refl))

@@ -2,7 +2,7 @@ use Rattle.std.proofs.Common.{ℕ, List, Option, refl, subst, sym}
 use Rattle.cfi_inputs.specs.Refusals.{input_refusal}
 use Rattle.cfi_stacks.specs.Choices.{choice_view}
 use Rattle.cfi_stacks.specs.ProfileIndexes.{HasRecords, IsIndex}
-use Rattle.cfi_stacks.specs.ProfileOutputs.{format_of}
+use Rattle.cfi_stacks.specs.ProfileOutputs.{listing_format}
 use Rattle.cfi_programs.specs.WriterOutput.{PrintsSome}
 use Rattle.cfi_stacks.proofs.ShownLemmas.{IsOfBytes, of_index, refused_bytes, shows_more}
 use Rattle.cfi_stacks.proofs.run.print_records.Goals as goal
@@ -22,8 +22,8 @@ returns-in-Ok g c =
 
 pub returns-in-Err : goal.returns-in-Err
 returns-in-Err g c = (
-  input_refusal (format_of c.args.listing) c.in-Err.error,
+  input_refusal (listing_format c.args.listing) c.in-Err.error,
   rw c.format.ensures at c.write_input_refusal.ensures,
   refused_bytes c.args.listing (choice_view c.args.choice.now) (g.O.Opener.may_open c.args.opener.now) g.O.File.Read.remaining (g.I.FileInput.bytes c.args.input.now) c.args.walk c.args.machine
-      (input_refusal (format_of c.args.listing) c.in-Err.error) c.requires (c.in-Err.error, refl),
+      (input_refusal (listing_format c.args.listing) c.in-Err.error) c.requires (c.in-Err.error, refl),
 )

@@ -1,9 +1,9 @@
 use Rattle.std.proofs.Common.{inr, refl}
 use Rattle.cfi_inputs.specs.Refusals.{input_refusal}
-use Rattle.cfi_stacks.specs.ProfileOutputs.{format_of}
+use Rattle.cfi_stacks.specs.ProfileOutputs.{listing_format}
 use Rattle.cfi_stacks.proofs.ReadLemmas.{for_input}
 use Rattle.cfi_stacks.proofs.run.print_whole.Goals as goal
 
 pub returns-in-Err : goal.returns-in-Err
 returns-in-Err g c =
-    for_input (g.I.FileInput.bytes c.args.input.now) _ (λ bytes. (input_refusal (format_of c.args.listing) c.in-Err.error, rw c.format.ensures at c.write_input_refusal.ensures, inr (c.in-Err.error, refl)))
+    for_input (g.I.FileInput.bytes c.args.input.now) _ (λ bytes. (input_refusal (listing_format c.args.listing) c.in-Err.error, rw c.format.ensures at c.write_input_refusal.ensures, inr (c.in-Err.error, refl)))

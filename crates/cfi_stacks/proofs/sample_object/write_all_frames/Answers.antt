@@ -3,9 +3,10 @@ use Rattle.std.specs.List.{flat_map}
 use Rattle.cfi_perf.specs.Samples.{kernel_frames, sample_view}
 use Rattle.cfi_programs.specs.JsonLines.{separated}
 use Rattle.cfi_programs.proofs.DumpSectionWritten.{first_refused, last_written}
-use Rattle.cfi_processes.specs.KnownFiles.{kernel_site, known_view}
-use Rattle.cfi_stacks.specs.ProfileOutputs.{user_objects}
-use Rattle.cfi_stacks.specs.StackObjects.{is_nil, sample_frame}
+use Rattle.cfi_processes.specs.KnownFiles.{known_view}
+use Rattle.cfi_processes.specs.KernelSites.{kernel_site}
+use Rattle.cfi_stacks.specs.SampleOutputs.{user_objects}
+use Rattle.cfi_stacks.specs.FrameObjects.{chain_frame, is_nil}
 use Rattle.cfi_stacks.proofs.ObjectLemmas.{led, two_lists}
 use Rattle.cfi_stacks.proofs.sample_object.write_all_frames.Goals as goal
 
@@ -13,7 +14,7 @@ pub returns-in_err-write_chain : goal.returns-in_err-write_chain
 returns-in_err-write_chain g c =
     let s = sample_view c.args.sample.now in
     let in_kernel = kernel_site (map known_view c.args.kernel.now.files.now) c.args.kernel.now.mappings.now in
-    let object : ℕ → List ℕ = λ a. sample_frame c.args.raw true (in_kernel a) in
+    let object : ℕ → List ℕ = λ a. chain_frame c.args.raw true (in_kernel a) in
     let user = user_objects c.args.raw (map known_view c.args.code.now.files.now) c.args.code.now.mappings.now s c.args.found c.args.frames.now in
     rw (two_lists object (kernel_frames s) user)
     (first_refused _ _ _ (separated true (flat_map (led object) (kernel_frames s))) (separated (not (not (is_nil (kernel_frames s)))) user) c.from_residual.ensures.0 (rw c.kernel_frames.ensures at c.in_err-write_chain.ensures))
@@ -22,7 +23,7 @@ pub returns : goal.returns
 returns g c =
     let s = sample_view c.args.sample.now in
     let in_kernel = kernel_site (map known_view c.args.kernel.now.files.now) c.args.kernel.now.mappings.now in
-    let object : ℕ → List ℕ = λ a. sample_frame c.args.raw true (in_kernel a) in
+    let object : ℕ → List ℕ = λ a. chain_frame c.args.raw true (in_kernel a) in
     let user = user_objects c.args.raw (map known_view c.args.code.now.files.now) c.args.code.now.mappings.now s c.args.found c.args.frames.now in
     rw (two_lists object (kernel_frames s) user)
     (last_written _ _ _ _ (separated true (flat_map (led object) (kernel_frames s))) (separated (not (not (is_nil (kernel_frames s)))) user) (rw c.kernel_frames.ensures at c.in_ok-write_chain.ensures)

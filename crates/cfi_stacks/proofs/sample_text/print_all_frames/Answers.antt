@@ -1,8 +1,9 @@
 use Rattle.std.proofs.Common.{map}
 use Rattle.cfi_programs.proofs.DumpSectionWritten.{first_refused, last_written}
 use Rattle.cfi_perf.specs.Samples.{kernel_frames, sample_view}
-use Rattle.cfi_processes.specs.KnownFiles.{kernel_site, known_view}
-use Rattle.cfi_stacks.specs.ProfileOutputs.{chain_text, user_text}
+use Rattle.cfi_processes.specs.KnownFiles.{known_view}
+use Rattle.cfi_processes.specs.KernelSites.{kernel_site}
+use Rattle.cfi_stacks.specs.SampleOutputs.{chain_text, user_text}
 use Rattle.cfi_stacks.proofs.sample_text.print_all_frames.Goals as goal
 
 pub returns-in_err-print_chain : goal.returns-in_err-print_chain

@@ -1,8 +1,9 @@
 use Rattle.std.proofs.Common.{ℕ, ap, map}
 use Rattle.cfi_programs.proofs.WrittenLemmas.{beginning_then, given_all, given_then, writes_refused}
-use Rattle.cfi_processes.specs.KnownFiles.{chain_site, known_view}
+use Rattle.cfi_processes.specs.KernelSites.{chain_site}
+use Rattle.cfi_processes.specs.KnownFiles.{known_view}
 use Rattle.cfi_processes.specs.Sites.{site_view}
-use Rattle.cfi_stacks.specs.StackTexts.{site_line}
+use Rattle.cfi_stacks.specs.FrameLines.{site_line}
 use Rattle.cfi_stacks.proofs.ChainLemmas.{line_then, no_line}
 use Rattle.cfi_stacks.proofs.sample_text.print_chain.Goals as goal
 

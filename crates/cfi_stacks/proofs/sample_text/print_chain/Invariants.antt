@@ -1,8 +1,9 @@
 use Rattle.std.proofs.Common.{map}
 use Rattle.cfi_programs.proofs.WrittenLemmas.{IsGiven}
 use Rattle.cfi_perf.specs.CallChains.{addresses_left}
-use Rattle.cfi_processes.specs.KnownFiles.{chain_site, known_view}
-use Rattle.cfi_stacks.specs.ProfileOutputs.{chain_text}
+use Rattle.cfi_processes.specs.KnownFiles.{known_view}
+use Rattle.cfi_processes.specs.KernelSites.{chain_site}
+use Rattle.cfi_stacks.specs.SampleOutputs.{chain_text}
 use Rattle.cfi_stacks.proofs.sample_text.print_chain.Given as goal
 
 abbrev pub invariant-loop-address : goal.invariant-loop-address

@@ -1,0 +1,27 @@
+-- What the files of a core have of the memory of its process.
+--     AreWindows opened mapped windows      what they have, by its addresses
+use Rattle.std.specs.Prelude.{ℕ, ◌-◌, false, List, Option, drop, find, take}
+use Rattle.std.specs.List.{filter_map}
+use Rattle.std.specs.Option.{option_and_then, option_map}
+use Rattle.std.specs.Str.{bytes_eq}
+use Rattle.cfi_processes.specs.OpenedFiles.{Opened}
+use Rattle.cfi_cores.specs.CoreSegments.{AreSorted, CoreSegment}
+use Rattle.cfi_cores.specs.MappedFiles.{CoreMapping}
+
+abbrev pub mapped_part : CoreMapping → List ℕ → CoreSegment
+mapped_part m bytes = record {
+  start = m.start;
+  bytes = take (m.end - m.start) (drop m.offset bytes);
+  is_executable = false;
+}
+
+abbrev pub bytes_named : List Opened → List ℕ → Option (List ℕ)
+bytes_named opened name =
+    option_and_then (λ one. one.bytes) (find (λ one. bytes_eq one.name name) opened)
+
+abbrev pub file_window : List Opened → CoreMapping → Option CoreSegment
+file_window opened m = option_map (mapped_part m) (bytes_named opened m.name)
+
+-- by rising addresses
+abbrev pub AreWindows : List Opened → List CoreMapping → List CoreSegment → Type 0
+AreWindows opened mapped windows = AreSorted (filter_map (file_window opened) mapped) windows
