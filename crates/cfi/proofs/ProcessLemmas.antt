@@ -14,13 +14,13 @@ use Rattle.cfi_programs.specs.WriterOutput.{Prints, Writes, PrintsSome}
 use Rattle.cfi_programs.proofs.WrittenLemmas.{appends_then, beginning_then, given_part, keeps_is, none_yet, writes_refused}
 use Rattle.cfi_programs.proofs.DumpSectionWritten.{first_refused, last_written}
 use Rattle.cfi_files.specs.FileLines.{file_label, under}
-use Rattle.cfi_object.specs.FileParts.{AreLeft}
+use Rattle.cfi_object.specs.FileInputs.{AreLeft}
 use Rattle.cfi_files.specs.FileOutputs.{PrintsOwed}
 use Rattle.cfi_files.specs.Findings.{ChecksSome, found_line, has_table, is_faithful}
 use Rattle.cfi_files.specs.declared.finding.Finding.{Finding}
 use Rattle.cfi_files.specs.declared.finding.Finding.TheVariants.{Unreadable}
 use Rattle.cfi_files.specs.declared.request.Request.{Request}
-use Rattle.cfi_stacks.specs.CoreOutputs.{IsOwed as IsOwedOfCore}
+use Rattle.cfi_stacks.specs.CoreOutputs.{IsCoreOwed as IsOwedOfCore}
 use Rattle.cfi_stacks.specs.ProfileOutputs.{IsListingOwed as IsOwedOfProfile}
 use Rattle.cfi_stacks.specs.Choices.{Choice}
 use Rattle.cfi_stacks.specs.declared.listing.Listing.{Listing}

@@ -6,7 +6,7 @@ use Rattle.cfi_programs.specs.declared.style.Format.{Format}
 use Rattle.cfi_programs.specs.declared.style.Format.TheVariants.{Text, Json}
 use Rattle.cfi_files.specs.declared.finding.Finding.{Finding}
 use Rattle.cfi_files.specs.declared.finding.Finding.TheVariants.{Faithful, OtherFile}
-use Rattle.cfi_files.specs.Findings.{status_of}
+use Rattle.cfi_files.specs.Findings.{finding_status}
 use Rattle.cfi.specs.declared.files.CheckStyle.{CheckStyle}
 
 -- a file with a faithful table may have no line, and one that isn't an ELF file
@@ -36,4 +36,5 @@ tally_in Json files tables faithful = tally_object files tables faithful
 
 -- the greatest status of what was found
 abbrev pub greatest_status : List Finding → ℕ
-greatest_status findings = fold (λ greatest finding. max greatest (status_of finding)) 0 findings
+greatest_status findings =
+    fold (λ greatest finding. max greatest (finding_status finding)) 0 findings

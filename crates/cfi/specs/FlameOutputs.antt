@@ -2,14 +2,16 @@
 --     IsOwed summary text printed      the output for the bytes of a file
 use Rattle.std.specs.Prelude.{◌≡◌, ◌⊎◌, ℕ, List, ◌++◌, codes}
 use Rattle.std.specs.Fmt.{decimal}
-use Rattle.cfi_flame.specs.Flames.{Drawing, IsOfPlain, IsPlainRefused, as_drawn, drawing_view}
-use Rattle.cfi_flame.specs.FoldedStacks.{plain}
+use Rattle.cfi_flame.specs.Flames.{Drawing, IsGraphOfPlain, IsPlainRefused, as_drawn, drawing_view}
+use Rattle.cfi_flame.specs.PlainTexts.{plain}
 use Rattle.cfi_flame.specs.Functions.{Row}
-use Rattle.cfi_flame.specs.Reports.{IsRanking, IsReport, IsReportRefused}
+use Rattle.cfi_flame.specs.Reports.{IsReport}
+use Rattle.cfi_flame.specs.Rankings.{IsRanking, IsReportRefused}
 use Rattle.cfi_flame.specs.declared.folded.FoldedError.{FoldedError}
 use Rattle.cfi_flame.specs.declared.folded.FoldedError.TheVariants.{OutOfMemory, NotFolded}
 use Rattle.cfi_flame.specs.declared.folded.FoldedError.TheVariants.{NoSamples, TooManySamples}
-use Rattle.cfi_programs.specs.Lines.{Line, line, reason_line, refused_line}
+use Rattle.cfi_programs.specs.Lines.{Line, line}
+use Rattle.cfi_programs.specs.Refusals.{reason_line, refused_line}
 use Rattle.cfi_programs.specs.declared.style.Format.{Format}
 use Rattle.cfi_programs.specs.declared.style.Format.TheVariants.{Text, Json}
 use Rattle.cfi.specs.FunctionObjects.{not_folded_object, objects_text}
@@ -58,7 +60,7 @@ IsOfObjects text printed =
 
 -- of the stacks of a text
 abbrev pub IsMade : OfStacks → List ℕ → List ℕ → Type 0
-IsMade (graph drawing) text made = IsOfPlain (as_drawn drawing) (plain text) made
+IsMade (graph drawing) text made = IsGraphOfPlain (as_drawn drawing) (plain text) made
 IsMade (table Text) text made = IsReport (plain text) made
 IsMade (table Json) text made = AreObjects (plain text) made
 

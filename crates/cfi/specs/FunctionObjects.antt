@@ -3,7 +3,7 @@
 use Rattle.std.specs.Prelude.{ℕ, List, [], ◌∷◌, ◌++◌, codes}
 use Rattle.std.specs.List.{flat_map}
 use Rattle.cfi_flame.specs.Functions.{Row}
-use Rattle.cfi_programs.specs.JsonLines.{escaped, json_number}
+use Rattle.cfi_programs.specs.JsonLines.{json_escaped, json_number}
 
 abbrev pub samples_object : ℕ → List ℕ
 samples_object all = codes "{\"samples\":" ++ (json_number all ++ (codes "}" ++ 10 ∷ []))
@@ -20,7 +20,7 @@ counts_members row =
     ++ (json_number row.total ++ (codes "}" ++ 10 ∷ []))))
 
 abbrev pub function_object : Row → List ℕ
-function_object row = codes "{\"function\":\"" ++ (escaped row.name ++ counts_members row)
+function_object row = codes "{\"function\":\"" ++ (json_escaped row.name ++ counts_members row)
 
 abbrev pub objects_text : ℕ → List Row → List ℕ
 objects_text all rows = samples_object all ++ flat_map function_object rows

@@ -15,7 +15,7 @@ use Rattle.clap.specs.declared.error.kind.ErrorKind.TheVariants.{DisplayHelp, Di
 use Rattle.clap.specs.declared.error.kind.ErrorKind.TheVariants.{OutOfMemory}
 use Rattle.cfi_programs.specs.Lines.{Line}
 use Rattle.cfi_programs.specs.WriterOutput.{IsBeginning, Writes}
-use Rattle.cfi_object.specs.FileParts.{AreLeft}
+use Rattle.cfi_object.specs.FileInputs.{AreLeft}
 use Rattle.cfi_files.specs.FileOutputs.{IsNamedCheck, IsOwed}
 use Rattle.cfi_files.specs.Findings.{ChecksSome, has_table, is_faithful}
 use Rattle.cfi_files.specs.declared.finding.Finding.{Finding}
@@ -24,7 +24,7 @@ use Rattle.cfi_files.specs.declared.request.Request.{Request}
 use Rattle.cfi_processes.specs.CodeMaps.{map_name}
 use Rattle.cfi_processes.specs.Wanted.{FilePlace, at_path, code_map, copy_of, debug_of}
 use Rattle.cfi_processes.specs.Wanted.{kernel_symbols, linked}
-use Rattle.cfi_stacks.specs.CoreOutputs.{IsOwed as IsOwedOfCore}
+use Rattle.cfi_stacks.specs.CoreOutputs.{IsCoreOwed as IsOwedOfCore}
 use Rattle.cfi_stacks.specs.ProfileOutputs.{IsListingOwed as IsOwedOfProfile}
 use Rattle.cfi_stacks.specs.Choices.{Choice}
 use Rattle.cfi_stacks.specs.declared.listing.Listing.{Listing}

@@ -5,7 +5,7 @@ use Rattle.std.specs.Prelude.{ℕ, ◌==◌, ◌&&◌, Bool, [], ◌∷◌, ◌+
 use Rattle.std.specs.Prelude.{drop, length, nat_le, option_map, if◌then◌else◌}
 use Rattle.std.specs.List.{after_first, before_first, position_or_len}
 use Rattle.clap.specs.Words.{Text}
-use Rattle.cfi_flame.specs.FoldedStacks.{number_of}
+use Rattle.cfi_flame.specs.Decimals.{decimal_of}
 use Rattle.cfi.specs.declared.times.Times.{Times}
 
 abbrev pub is_dot : ℕ → Bool
@@ -18,7 +18,7 @@ is_comma c = c == 44
 abbrev pub nanoseconds : Text → Text → Option ℕ
 nanoseconds seconds decimals =
     if nat_le 1 (length seconds) && nat_le (length decimals) 9
-    then number_of (seconds ++ decimals ++ drop (length decimals) (codes "000000000"))
+    then decimal_of (seconds ++ decimals ++ drop (length decimals) (codes "000000000"))
     else None
 
 -- seconds, and behind a dot the decimals

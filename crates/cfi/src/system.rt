@@ -1,10 +1,11 @@
 //! What a run has of the system: its words, the files that they name, and standard error.
-ghost use Rattle.std.specs.Prelude.{◌≡◌, ◌≢◌, ℕ, ⊤, Bool, List, Option, None, IfErr, IfOk, length};
+ghost use Rattle.std.specs.Prelude.{◌≡◌, ℕ, ⊤, Bool, List, Option, None, IfErr, IfOk, length};
 ghost use Rattle.std.specs.Prelude.{map, option_map, refl, string_bytes};
+ghost use Rattle.cfi_object.specs.Readings.{IsReadRefused};
 ghost use Rattle.cfi.specs.Openings.{FileKind, of_any_kind, regular};
 
 use crate::arguments::{asks_for_check, before_mark, marked_words};
-use cfi_inputs::{Beginning, read_as};
+use cfi_inputs::read_elf_or_profile;
 use cfi_names::shown_name;
 use cfi_object::input::copy_part;
 use cfi_object::{FileInput, InputError};
@@ -402,9 +403,9 @@ impl<F: Read> HostFile<F> {
     /// Reads the file to its end, and returns how many bytes it has; of one that begins neither as
     /// an ELF file nor as a profile, which may have no end, as `/dev/zero`, the first bytes alone.
     fn read_whole(&mut self, alloc: Global) -> Result<u64, InputError>
-        ensures { IfErr result (λ e. e ≢ InputError.NotHexadecimal) }
+        ensures { IfErr result IsReadRefused }
     {
-        let bytes = read_as(alloc, Beginning::ElfOrProfile, &mut self.file)?;
+        let bytes = read_elf_or_profile(alloc, &mut self.file)?;
         let length = bytes.len() as u64;
         self.bytes = Some(bytes);
         Ok(length)
@@ -446,7 +447,7 @@ fn read_at<F: Read + Seek>(
     size: u64,
 ) -> Result<Vec<u8>, InputError>
     ensures read { IfOk result (λ part. length part.items ≡ size) }
-    ensures refused { IfErr result (λ e. e ≢ InputError.NotHexadecimal) }
+    ensures refused { IfErr result IsReadRefused }
 {
     let mut part = zeros(alloc, size)?;
     if file.seek(SeekFrom::Start(offset)).is_err() {
@@ -461,7 +462,7 @@ fn read_at<F: Read + Seek>(
 /// Returns so many zeros.
 fn zeros(alloc: Global, size: u64) -> Result<Vec<u8>, InputError>
     ensures zeros { IfOk result (λ zeros. length zeros.items ≡ size) }
-    ensures refused { IfErr result (λ e. e ≢ InputError.NotHexadecimal) }
+    ensures refused { IfErr result IsReadRefused }
 {
     match vec![in alloc; 0u8; size as usize] {
         Ok(zeros) => Ok(zeros),

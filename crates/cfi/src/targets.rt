@@ -12,7 +12,7 @@ ghost use Rattle.cfi.specs.Tasks.{names_view};
 use crate::files::open_named;
 use crate::system::{Kind, System};
 use crate::task::Names;
-use cfi_object::input::read_all;
+use cfi_object::read_all;
 use std::alloc::{AllocError, Global};
 use std::str;
 

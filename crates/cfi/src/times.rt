@@ -1,6 +1,6 @@
 //! The times of `--time`, and numbers with decimals.
 ghost use Rattle.std.specs.Prelude.{◌≡◌};
-ghost use Rattle.cfi_flame.specs.FoldedStacks.{number_from, with_digit};
+ghost use Rattle.cfi_flame.specs.Decimals.{decimal_from, with_digit};
 ghost use Rattle.cfi.specs.Times.{nanoseconds, side_of, time_of, times_of};
 
 /// The decimals of a time that has none.
@@ -60,7 +60,7 @@ fn nanoseconds(seconds: &[u8], decimals: &[u8]) -> Option<u64>
 
 /// Returns the number with more digits, `None` where one is no digit or the number 2^64 or more.
 fn with_digits(number: u64, digits: &[u8]) -> Option<u64>
-    ensures { result ≡ number_from number digits.now }
+    ensures { result ≡ decimal_from number digits.now }
 {
     let mut so_far = number;
     for digit in digits {

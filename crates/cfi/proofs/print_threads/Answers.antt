@@ -1,5 +1,5 @@
 use Rattle.std.proofs.Common.{ℕ, List, Option, subst, sym}
-use Rattle.cfi_object.specs.FileParts.{AreLeft}
+use Rattle.cfi_object.specs.FileInputs.{AreLeft}
 use Rattle.cfi.specs.Folders.{folders_view}
 use Rattle.cfi.specs.Process.{disk_of}
 use Rattle.cfi.proofs.ProcessLemmas.{no_threads, same_threads, threads_of}

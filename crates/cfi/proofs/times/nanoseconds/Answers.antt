@@ -1,5 +1,5 @@
 use Rattle.std.proofs.Common.{◌≡◌, ◌∙◌, sym, Some, None, rules}
-use Rattle.cfi_flame.specs.FoldedStacks.{number_from}
+use Rattle.cfi_flame.specs.Decimals.{decimal_from}
 use Rattle.cfi.proofs.TimesLemmas.{all_parts, by_parts, no_first, no_second, zeros}
 use Rattle.cfi.proofs.times.nanoseconds.Goals as goal
 
@@ -7,7 +7,7 @@ pub returns-in_err-whole : goal.returns-in_err-whole
 returns-in_err-whole c =
     let seconds = c.args.seconds.now in
     let decimals = c.args.decimals.now in
-    let none : number_from 0 seconds ≡ None = search rules in
+    let none : decimal_from 0 seconds ≡ None = search rules in
     let is : c.from_residual.result ≡ None = search rules in
     is ∙ sym (by_parts seconds decimals (search rules) (search rules) (search rules) ∙ no_first seconds decimals (zeros decimals) none)
 
@@ -15,8 +15,8 @@ pub returns-in_err-tenths : goal.returns-in_err-tenths
 returns-in_err-tenths c =
     let seconds = c.args.seconds.now in
     let decimals = c.args.decimals.now in
-    let whole : number_from 0 seconds ≡ Some c.in_ok-whole.whole = search rules in
-    let none : number_from c.in_ok-whole.whole decimals ≡ None = search rules in
+    let whole : decimal_from 0 seconds ≡ Some c.in_ok-whole.whole = search rules in
+    let none : decimal_from c.in_ok-whole.whole decimals ≡ None = search rules in
     let is : c.from_residual-in_err-tenths.result ≡ None = search rules in
     is ∙ sym (by_parts seconds decimals (search rules) (search rules) (search rules) ∙ no_second seconds decimals (zeros decimals) c.in_ok-whole.whole whole none)
 
@@ -24,7 +24,7 @@ pub returns : goal.returns
 returns c =
     let seconds = c.args.seconds.now in
     let decimals = c.args.decimals.now in
-    let whole : number_from 0 seconds ≡ Some c.in_ok-whole.whole = search rules in
-    let tenths : number_from c.in_ok-whole.whole decimals ≡ Some c.in_ok-tenths.tenths = search rules in
-    let last : c.with_digits-3.result ≡ number_from c.in_ok-tenths.tenths (zeros decimals) = search rules in
+    let whole : decimal_from 0 seconds ≡ Some c.in_ok-whole.whole = search rules in
+    let tenths : decimal_from c.in_ok-whole.whole decimals ≡ Some c.in_ok-tenths.tenths = search rules in
+    let last : c.with_digits-3.result ≡ decimal_from c.in_ok-tenths.tenths (zeros decimals) = search rules in
     last ∙ sym (by_parts seconds decimals (search rules) (search rules) (search rules) ∙ all_parts seconds decimals (zeros decimals) c.in_ok-whole.whole c.in_ok-tenths.tenths whole tenths)
