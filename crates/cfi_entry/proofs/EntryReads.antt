@@ -22,7 +22,7 @@ use Rattle.cfi_parts.proofs.InstructionLemmas.{onward_formatted, onward_pointer}
 use Rattle.cfi_entry.specs.Sections.{Section, pointer_context}
 use Rattle.cfi_entry.specs.Augmentations.{Augmentation, no_letters, letter, letters, letters_with_data, augmentation}
 use Rattle.cfi_entry.specs.Cies.{sizes, return_register}
-use Rattle.cfi_entry.specs.Fdes.{addresses, data_if, lsda, lsda_by}
+use Rattle.cfi_entry.specs.Fdes.{addresses, lsda_in_data, lsda, lsda_by}
 use Rattle.std.proofs.lemmas.Bool.{cases_lt}
 
 pub onward_encoding_byte : IsOnward encoding_byte
@@ -224,16 +224,16 @@ onward_addresses section size (Some encoding) =
     onward_bind (pointer encoding (pointer_context section None size)) (λ initial. encoded_value encoding size >>= λ range. give (pointer_value initial, range)) (onward_pointer encoding (pointer_context section None size)) (λ initial.
     onward_bind (encoded_value encoding size) (λ range. give (pointer_value initial, range)) (onward_formatted encoding size) (λ range. onward_give _))
 
-onward_data_if : (b : Bool) (section : Section) (size initial : ℕ) (encoding : Option ℕ) → IsOnward (data_if b section size initial encoding)
-onward_data_if false section size initial encoding = onward_give None
-onward_data_if true section size initial encoding =
+onward_lsda_in_data : (b : Bool) (section : Section) (size initial : ℕ) (encoding : Option ℕ) → IsOnward (lsda_in_data b section size initial encoding)
+onward_lsda_in_data false section size initial encoding = onward_give None
+onward_lsda_in_data true section size initial encoding =
     let inside : Extent → Read (Option Pointer) = λ data_bytes. within data_bytes (lsda_by section size initial encoding) in
     onward_bind offset_leb128 (λ length. split length >>= inside) onward_offset_leb128 (λ length.
     onward_bind (split length) inside (onward_split length) (λ data_bytes. onward_within data_bytes (lsda_by section size initial encoding)))
 
 pub onward_lsda : (section : Section) (size initial : ℕ) (known : Option Augmentation) → IsOnward (lsda section size initial known)
 onward_lsda section size initial None = onward_give None
-onward_lsda section size initial (Some known) = onward_data_if known.has_augmentation_data section size initial known.lsda_encoding
+onward_lsda section size initial (Some known) = onward_lsda_in_data known.has_augmentation_data section size initial known.lsda_encoding
 
 -- ---- address sizes
 

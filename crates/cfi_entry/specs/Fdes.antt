@@ -50,9 +50,9 @@ lsda_by section size initial (Some encoding) = do
   p ← pointer encoding (pointer_context section (Some initial) size)
   give (Some p)
 
-abbrev pub data_if : Bool → Section → ℕ → ℕ → Option ℕ → Read (Option Pointer)
-data_if false section size initial encoding = give None
-data_if true section size initial encoding = do
+abbrev pub lsda_in_data : Bool → Section → ℕ → ℕ → Option ℕ → Read (Option Pointer)
+lsda_in_data false section size initial encoding = give None
+lsda_in_data true section size initial encoding = do
   length ← offset_leb128
   data_bytes ← split length
   within data_bytes (lsda_by section size initial encoding)
@@ -60,7 +60,7 @@ data_if true section size initial encoding = do
 abbrev pub lsda : Section → ℕ → ℕ → Option Augmentation → Read (Option Pointer)
 lsda section size initial None = give None
 lsda section size initial (Some known) =
-    data_if known.has_augmentation_data section size initial known.lsda_encoding
+    lsda_in_data known.has_augmentation_data section size initial known.lsda_encoding
 
 -- ---- the fields, in order, after the id
 

@@ -15,3 +15,5 @@ pub mod ExpressionPlaces
 pub mod AddressSizes
 pub mod ListLimits
 pub mod Refill
+pub mod Bytes
+pub mod Results

@@ -6,14 +6,14 @@
 --     program_state      the machine's state after a program
 --     AreConsecutive, answer_at      what the rows cover, and the result for an address
 use Rattle.std.specs.Prelude.{◌≡◌, ℕ, Bool, if◌then◌else◌, List, [], ◌∷◌, ◌++◌, map, filter_map}
-use Rattle.std.specs.Prelude.{nat_le, nat_lt, ◌&&◌, ◌≤◌, Option, Some, None, Result, Ok, Err}
+use Rattle.std.specs.Prelude.{◌≤◌, Option, Some, None, Result, Ok, Err}
 use Rattle.std.specs.Option.{option_or}
 use Rattle.std.specs.Result.{result_ok}
 use Rattle.cfi_read_core.specs.ReadFunctions.{Readings}
 use Rattle.cfi_read_core.specs.declared.error.Error.{Error}
 use Rattle.cfi_read_core.specs.declared.error.Error.TheVariants.{NoUnwindInfoForAddress}
 use Rattle.cfi_read_core.specs.declared.instruction.CallFrameInstruction.{CallFrameInstruction}
-use Rattle.cfi_state.specs.Row.{Row}
+use Rattle.cfi_state.specs.Row.{Row, row_contains}
 use Rattle.cfi_state.specs.MachineSettings.{Setting, is_move}
 use Rattle.cfi_state.specs.Machine.{Rules, Parts, State, fresh_state, step, end_of_cie}
 use Rattle.cfi_state.specs.RememberedStates.{survivors, before_open}
@@ -164,9 +164,6 @@ module _ {T : Type 0} where
 
   abbrev pub rows_of : List (Result (Row T) Error) → List (Row T)
   rows_of results = filter_map result_ok results
-
-  abbrev pub row_contains : ℕ → Row T → Bool
-  row_contains address row = nat_le row.start_address address && nat_lt address row.end_address
 
   -- the rows follow each other from one address to another; only the last may end before its start
   abbrev pub AreConsecutive : ℕ → List (Row T) → ℕ → Type 0

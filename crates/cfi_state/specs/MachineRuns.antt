@@ -10,12 +10,11 @@ use Rattle.cfi_read_core.specs.ReadFunctions.{Readings, with_first, no_values}
 use Rattle.cfi_read_core.specs.declared.error.Error.{Error}
 use Rattle.cfi_read_core.specs.declared.error.Error.TheVariants.{NoUnwindInfoForAddress}
 use Rattle.cfi_read_core.specs.declared.instruction.CallFrameInstruction.{CallFrameInstruction}
-use Rattle.cfi_state.specs.Row.{Row}
+use Rattle.cfi_state.specs.Row.{Row, row_contains}
 use Rattle.cfi_state.specs.MachineSettings.{Setting, is_move}
 use Rattle.cfi_state.specs.Machine.{State, fresh_state, step, end_of_cie}
 use Rattle.cfi_state.specs.AllocatingOperations.{IsRefusal}
 use Rattle.cfi_state.specs.Allocation.{may_allocate_at, may_allocate_at_end}
-use Rattle.cfi_state.specs.FdeAnswers.{row_contains}
 use Rattle.cfi_state.specs.UnwindTableStates.{TableState, before_last_row, after_last_row}
 
 -- where an instruction, and where the end of the CIE's initial instructions, may allocate

@@ -1,6 +1,6 @@
 -- A row of an unwind table (DWARF 5 section 6.4.1): the unwind rules, and the addresses for which
 -- they hold.
-use Rattle.std.specs.Prelude.{ℕ, ◌<◌, ◌≤◌}
+use Rattle.std.specs.Prelude.{ℕ, Bool, nat_le, nat_lt, ◌&&◌, ◌<◌, ◌≤◌}
 use Rattle.cfi_state.specs.declared.table.rules.CfaRule.{CfaRule}
 use Rattle.cfi_state.specs.Machine.{Parts, Rules, fresh_state}
 
@@ -14,6 +14,10 @@ module _ {T : Type 0} where
   -- from the start address up to the end address, without the latter
   abbrev pub RowContains : ℕ → Row T → Type 0
   RowContains address row = (row.start_address ≤ address) × (address < row.end_address)
+
+  -- the same, computed
+  abbrev pub row_contains : ℕ → Row T → Bool
+  row_contains address row = nat_le row.start_address address && nat_lt address row.end_address
 
   -- the row before the first instruction
   abbrev pub empty_row : Row T

@@ -10,8 +10,8 @@ use Rattle.cfi_read_core.specs.ExpressionPlaces.{LiesIn, HasExpressionIn}
 use Rattle.cfi_parts.proofs.ExpressionPlaces.{all_read_in}
 use Rattle.cfi_state.specs.MachineSettings.{Setting}
 use Rattle.cfi_state.specs.Machine.{State, fresh_state}
-use Rattle.cfi_state.specs.Row.{Row}
-use Rattle.cfi_state.specs.FdeAnswers.{AreConsecutive, row_contains, rows_of, run_answers}
+use Rattle.cfi_state.specs.Row.{Row, row_contains}
+use Rattle.cfi_state.specs.FdeAnswers.{AreConsecutive, rows_of, run_answers}
 use Rattle.cfi_state.specs.MappedStates.{row_lent}
 use Rattle.cfi_state.specs.RowExpressions.{EachOfTable, HasExpressionsIn}
 use Rattle.cfi_state.specs.UnwindTableStates.{TableState, rows_to_come}

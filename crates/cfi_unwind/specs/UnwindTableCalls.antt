@@ -20,7 +20,7 @@ use Rattle.cfi_read_core.specs.declared.error.Error.{Error}
 use Rattle.cfi_read_core.specs.declared.error.Error.TheVariants.{OutOfMemory}
 use Rattle.cfi_read_core.specs.ExpressionPlaces.{LiesIn}
 use Rattle.cfi_parts.specs.Instructions.{Instruction}
-use Rattle.cfi_state.specs.Row.{Row}
+use Rattle.cfi_state.specs.Row.{Row, row_contains}
 use Rattle.cfi_state.specs.MachineSettings.{Setting}
 use Rattle.cfi_state.specs.Machine.{State, fresh_state}
 use Rattle.cfi_state.specs.UnwindContexts.{ContextState, machine_state}
@@ -30,7 +30,7 @@ use Rattle.cfi_state.specs.UnwindTableStates.{TableState, before_last_row, after
 use Rattle.cfi_state.specs.UnwindTableStates.{run_answers_to_come, rows_to_come, IsNext}
 use Rattle.cfi_state.specs.RowExpressions.{EachExpression, EachOfTable}
 use Rattle.cfi_state.specs.Program.{in_fde}
-use Rattle.cfi_state.specs.FdeAnswers.{IsStateAfter, AreConsecutive, row_contains}
+use Rattle.cfi_state.specs.FdeAnswers.{IsStateAfter, AreConsecutive}
 use Rattle.cfi_state.specs.MachineRuns.{current_row, NextAnswer, RunsInitialInstructions}
 use Rattle.cfi_state.specs.MachineRuns.{may_allocate}
 use Rattle.cfi_state.specs.AcceptedInstructions.{AnswersForProgram, AcceptsInitialInstructions}

@@ -10,6 +10,7 @@
 //! Version 0.1.0, after gimli 0.34.0.
 #![tactic(auto)]
 
+mod by_scan;
 pub mod call_count;
 pub mod entry;
 pub mod hdr;

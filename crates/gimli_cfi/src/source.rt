@@ -11,9 +11,9 @@ ghost use Rattle.cfi_state.specs.RowExpressions.{HasExpressionsIn};
 ghost use Rattle.cfi_entry.specs.Sections.{position_of, section_of};
 ghost use Rattle.cfi_unwind.specs.AddressRow.{IsRowByScan};
 
+use crate::by_scan::row_by_scan;
 use crate::hdr::verdict::check_by_header;
 use crate::hdr::{EhFrameHdr, Verdict, row_by_header};
-use crate::table::row_by_scan;
 use cfi_parts::pointer::BaseAddresses;
 use cfi_read_core::address::AddressSize;
 use cfi_read_core::{EndianSlice, Result, RunTimeEndian, Vendor};

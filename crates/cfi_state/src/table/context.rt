@@ -217,7 +217,7 @@ impl<T: ReaderOffset, S: UnwindContextStorage<T>> UnwindContext<T, S> {
     /// Restores the last remembered row, except for its addresses (DWARF 5 section 6.4.2.4). Fails
     /// with `PopWithEmptyStack` if none is remembered. Does not allocate.
     #[inline(never)]
-    pub(crate) fn restore(&mut self) -> Result<()>
+    pub(crate) fn restore_state(&mut self) -> Result<()>
         ensures { Performs ⊥ (context_restore self.old) self.old self.new result }
     {
         if self.depth == 0 {

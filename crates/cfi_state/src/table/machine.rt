@@ -173,7 +173,7 @@ impl<T: ReaderOffset, S: UnwindContextStorage<T>> InstructionVisitor<T, UnwindCo
 
     #[inline(always)]
     fn restore_state(&self, context: &mut UnwindContext<T, S>) -> Self::Answer {
-        context.restore()?;
+        context.restore_state()?;
         Ok(None)
     }
 

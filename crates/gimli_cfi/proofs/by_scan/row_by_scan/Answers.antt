@@ -2,7 +2,7 @@ use Rattle.std.proofs.Common.{◌≡◌, Err, ap, inl, rules}
 use Rattle.cfi_read_core.specs.ReaderCalls.{map_ok}
 use Rattle.cfi_entry.specs.Sections.{section_of}
 use Rattle.gimli_cfi.proofs.TableRows.{by_scan}
-use Rattle.gimli_cfi.proofs.table.row_by_scan.Goals as goal
+use Rattle.gimli_cfi.proofs.by_scan.row_by_scan.Goals as goal
 
 pub returns-in_err-fde-clause-row : goal.returns-in_err-fde-clause-row
 returns-in_err-fde-clause-row g c =
