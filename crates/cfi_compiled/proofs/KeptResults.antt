@@ -8,13 +8,13 @@ use Rattle.cfi_read_core.specs.declared.error.Error.{Error}
 use Rattle.cfi_read_core.specs.declared.error.Error.TheVariants.{NoUnwindInfoForAddress}
 use Rattle.cfi_read_core.specs.ReaderCalls.{map_ok}
 use Rattle.cfi_state.specs.Machine.{Rules}
-use Rattle.gimli_cfi.specs.Words.{Parts}
+use Rattle.cfi_state.specs.Machine.{Parts}
 use Rattle.cfi_compiled.specs.declared.facts.CieFacts.{CieFacts}
 use Rattle.cfi_compiled.specs.declared.rests.KeptRow.{KeptRow}
 use Rattle.cfi_compiled.specs.declared.step_list.NumberedStep.{NumberedStep}
 use Rattle.cfi_compiled.specs.FrameParts.{frame_parts}
 use Rattle.cfi_compiled.specs.KeptRows.{AreNamed, IsGrown, IsRestOf, RestLists, frame_of_kept, parts_of_kept, rest_args, rest_facts, rest_rules, results_in}
-use Rattle.cfi_compiled.specs.CompiledTables.{AreNumbersOf, IsAdded, IsSound, frame_at, frame_numbered, step_named, steps_of}
+use Rattle.cfi_compiled.specs.CompiledTables.{AreNumbersOf, IsAdded, IsSoundTable, frame_at, frame_numbered, step_named, steps_of}
 use Rattle.cfi_compiled.specs.Steps.{Rise, free_from, frame_by_steps}
 use Rattle.cfi_compiled.proofs.Grown.{Extends, Results}
 
@@ -42,11 +42,11 @@ module _ (old new : RestLists) (grown : IsGrown old new) where
   still_named : (rows : List (Result KeptRow Error)) → AreNamed old rows → AreNamed new rows
   still_named rows named i d within = more_named _ _ grown.more (get_or rows i d) (named i d within)
 
-  module _ (rows : List (Result KeptRow Error)) (numbers : List NumberedStep) (sound : IsSound (record { lists = old; rows = rows; numbers = numbers })) where
+  module _ (rows : List (Result KeptRow Error)) (numbers : List NumberedStep) (sound : IsSoundTable (record { lists = old; rows = rows; numbers = numbers })) where
     same : results_in old rows ≡ results_in new rows
     same = sym (same_results rows sound.named)
 
-    pub sound_grown : IsSound (record { lists = new; rows = rows; numbers = numbers })
+    pub sound_grown : IsSoundTable (record { lists = new; rows = rows; numbers = numbers })
     sound_grown = record {
       rise = subst (λ (l : Results). Rise 0 (map (step_named l) numbers)) same sound.rise;
       numbers = subst (λ (l : Results). AreNumbersOf l numbers) same sound.numbers;

@@ -7,7 +7,14 @@ use Rattle.std.proofs.Common.{◌≡◌, ℕ, Bool, Option, Result, Ok, Err, ref
 use Rattle.std.specs.Prelude.{◌⊎◌}
 use Rattle.cfi_unwind.proofs.Laws.{scan_is_due_where_fixed}
 use Rattle.cfi_unwind.specs.Scan.{answer_by}
-use Rattle.gimli_cfi.specs.Words.{Error, Fde, IsFixed, IsRowByScan, OutOfMemory, Row, Section, chosen_fde, row_by_scan, row_of_fde}
+use Rattle.cfi_read_core.specs.declared.error.Error.{Error}
+use Rattle.cfi_entry.specs.Fdes.{Fde}
+use Rattle.cfi_read_core.specs.ListLimits.{IsFixed}
+use Rattle.cfi_unwind.specs.AddressRow.{IsRowByScan, row_by_scan, row_of_fde}
+use Rattle.cfi_read_core.specs.declared.error.Error.TheVariants.{OutOfMemory}
+use Rattle.cfi_state.specs.Row.{Row}
+use Rattle.cfi_entry.specs.Sections.{Section}
+use Rattle.cfi_unwind.specs.Scan.{chosen_fde}
 use Rattle.cfi_compiled.specs.CompiledRows.{parts_by_scan, parts_of_row}
 use Rattle.cfi_compiled.specs.CompiledTables.{TableContents, IsCompiled, parts_at}
 use Rattle.cfi_compiled.specs.FrameParts.{facts_of, frame_of_fde, frame_of_row, parts_of_frame}

@@ -1,6 +1,6 @@
 -- The row of a table alone, of what it lends.
 use Rattle.std.proofs.Common.{◌≡◌, Result, Ok, Err, refl}
-use Rattle.gimli_cfi.specs.Words.{Error}
+use Rattle.cfi_read_core.specs.declared.error.Error.{Error}
 use Rattle.cfi_compiled.specs.CompiledRows.{frame_lent, parts_lent}
 use Rattle.cfi_compiled.specs.FrameParts.{parts_of_frame}
 use Rattle.cfi_compiled.specs.declared.row.CompiledRow.{CompiledRow}

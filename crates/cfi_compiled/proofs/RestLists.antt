@@ -7,7 +7,7 @@ use Rattle.cfi_read_core.specs.declared.common.Register.{Register}
 use Rattle.cfi_state.specs.RulePairs.{IsDistinctRegisters}
 use Rattle.cfi_state.specs.declared.table.rules.RegisterRule.{RegisterRule}
 use Rattle.cfi_compiled.specs.declared.rests.KeptRest.{KeptRest}
-use Rattle.cfi_compiled.specs.KeptRows.{IsKeptIn, rules_at}
+use Rattle.cfi_compiled.specs.KeptRows.{HasRulesIn, rules_at}
 
 abbrev Pairs : Type 0
 Pairs = List (Register × RegisterRule ℕ)
@@ -16,14 +16,14 @@ drop_all_front : (rules more : Pairs) → drop (length rules) (rules ++ more) �
 drop_all_front [] more = refl
 drop_all_front (pair ∷ rules) more = drop_all_front rules more
 
-module _ (rests : List KeptRest) (rules more : Pairs) (kept : All (IsKeptIn rules) rests) where
-  same_rules : (rest : KeptRest) → IsKeptIn rules rest → rules_at (rules ++ more) rest ≡ rules_at rules rest
+module _ (rests : List KeptRest) (rules more : Pairs) (kept : All (HasRulesIn rules) rests) where
+  same_rules : (rest : KeptRest) → HasRulesIn rules rest → rules_at (rules ++ more) rest ≡ rules_at rules rest
   same_rules rest is =
       let long = length-drop rest.begin rules in
       ap (λ (l : Pairs). take (rest.end - rest.begin) l) (drop-append-le rest.begin rules more (omega (arith, is.order, is.inside)))
       ∙ take-append-le (rest.end - rest.begin) (drop rest.begin rules) more (omega (arith, is.order, is.inside, long))
 
-  still : (rest : KeptRest) → IsKeptIn rules rest → IsKeptIn (rules ++ more) rest
+  still : (rest : KeptRest) → HasRulesIn rules rest → HasRulesIn (rules ++ more) rest
   still rest is = record {
     order = is.order;
     inside = let long = length-append rules more in omega (arith, long, is.inside);
@@ -31,7 +31,7 @@ module _ (rests : List KeptRest) (rules more : Pairs) (kept : All (IsKeptIn rule
   }
 
   -- more rules
-  kept_longer : All (IsKeptIn (rules ++ more)) rests
+  kept_longer : All (HasRulesIn (rules ++ more)) rests
   kept_longer i d within = still _ (kept i d within)
 
   -- and their rest
@@ -44,9 +44,9 @@ module _ (rests : List KeptRest) (rules more : Pairs) (kept : All (IsKeptIn rule
         ∙ take_all (rest.end - length rules) (drop (length rules) (rules ++ more)) (omega (arith, long, all, ends))
         ∙ drop_all_front rules more
 
-    pub kept_pushed : IsDistinctRegisters more → All (IsKeptIn (rules ++ more)) (rests ++ rest ∷ [])
+    pub kept_pushed : IsDistinctRegisters more → All (HasRulesIn (rules ++ more)) (rests ++ rest ∷ [])
     kept_pushed distinct =
-        All-push (IsKeptIn (rules ++ more)) rests rest kept_longer
+        All-push (HasRulesIn (rules ++ more)) rests rest kept_longer
         (record {
           order = omega (arith, begins, ends);
           inside = let all = length-append rules more in omega (arith, all, ends);

@@ -5,7 +5,8 @@ use Rattle.std.specs.List.{All}
 use Rattle.std.proofs.lemmas.Bool.{eqb-true}
 use Rattle.std.proofs.lemmas.List.{get_or_append_left, get_or_push, map_push}
 use Rattle.cfi_state.specs.declared.table.rules.CfaRule.TheVariants as cfa
-use Rattle.gimli_cfi.specs.Words.{Error, NoUnwindInfoForAddress}
+use Rattle.cfi_read_core.specs.declared.error.Error.{Error}
+use Rattle.cfi_read_core.specs.declared.error.Error.TheVariants.{NoUnwindInfoForAddress}
 use Rattle.cfi_compiled.specs.declared.rests.KeptRow.{KeptRow}
 use Rattle.cfi_compiled.specs.ResultLists.{IsErrorIn, index_in, error_mark, result_kept, results_kept}
 

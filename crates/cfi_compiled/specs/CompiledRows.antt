@@ -10,8 +10,13 @@
 use Rattle.std.specs.Prelude.{ℕ, List, Option, Result}
 use Rattle.cfi_read_core.specs.declared.common.Register.{Register}
 use Rattle.cfi_state.specs.declared.table.rules.RegisterRule.{RegisterRule}
-use Rattle.gimli_cfi.specs.Words.{Error, Section, Row, Parts}
-use Rattle.gimli_cfi.specs.Words.{IsDistinctRegisters, map_ok, row_by_scan, rules_of}
+use Rattle.cfi_read_core.specs.declared.error.Error.{Error}
+use Rattle.cfi_entry.specs.Sections.{Section}
+use Rattle.cfi_state.specs.Row.{Row}
+use Rattle.cfi_state.specs.Machine.{Parts}
+use Rattle.cfi_state.specs.RulePairs.{IsDistinctRegisters, rules_of}
+use Rattle.cfi_read_core.specs.ReaderCalls.{map_ok}
+use Rattle.cfi_unwind.specs.AddressRow.{row_by_scan}
 use Rattle.cfi_compiled.specs.declared.row.CompiledRow.{CompiledRow}
 use Rattle.cfi_compiled.specs.FrameParts.{FrameParts, frame_parts}
 

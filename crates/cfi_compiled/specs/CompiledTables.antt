@@ -3,13 +3,17 @@
 --         number
 --     results_of, steps_of table      its results, and its steps in the order of their addresses
 --     frame_at table address      what it has for an address; `parts_at` the row alone
---     IsSound table      what holds of each table: the steps rise, and name results that there are
+--     IsSoundTable table      what holds of each table: the steps rise, and name results that there
+--         are
 --     IsCompiled rule_limit stack_limit section table      for every address what the FDE and the
 --         row say that the scan gives, but a row's addresses
 use Rattle.std.specs.Prelude.{◌≡◌, ◌+◌, ◌<◌, ◌≤◌, ◌⊎◌, ℕ, List, [], ◌∷◌, ◌++◌, length, map, get_or}
 use Rattle.std.specs.Prelude.{Option, Some, None, Result, Err}
 use Rattle.std.specs.List.{All}
-use Rattle.gimli_cfi.specs.Words.{Error, NoUnwindInfoForAddress, Parts, Section}
+use Rattle.cfi_read_core.specs.declared.error.Error.{Error}
+use Rattle.cfi_read_core.specs.declared.error.Error.TheVariants.{NoUnwindInfoForAddress}
+use Rattle.cfi_state.specs.Machine.{Parts}
+use Rattle.cfi_entry.specs.Sections.{Section}
 use Rattle.cfi_compiled.specs.FrameParts.{FrameParts, frame_by_scan, parts_of_frame}
 use Rattle.cfi_compiled.specs.declared.rests.KeptRow.{KeptRow}
 use Rattle.cfi_compiled.specs.declared.row.CompiledRow.{CompiledRow}
@@ -39,7 +43,7 @@ steps_of table = map (step_named (results_of table)) table.numbers
 abbrev pub AreNumbersOf : List (Result FrameParts Error) → List NumberedStep → Type 0
 AreNumbersOf results steps = All (λ step. step.number < length results) steps
 
-pub record IsSound (table : TableContents) : Type 0 where
+pub record IsSoundTable (table : TableContents) : Type 0 where
   pub rise : Rise 0 (steps_of table)
   pub numbers : AreNumbersOf (results_of table) table.numbers
   pub named : AreNamed table.lists table.rows

@@ -11,8 +11,14 @@
 use Rattle.std.specs.Prelude.{ℕ, Bool, Option, Result}
 use Rattle.cfi_read_core.specs.declared.common.Register.{Register}
 use Rattle.cfi_unwind.specs.Scan.{scan_answer}
-use Rattle.gimli_cfi.specs.Words.{Error, Fde, Parts, Row, Section, is_trampoline, map_ok}
-use Rattle.gimli_cfi.specs.Words.{row_of_fde}
+use Rattle.cfi_read_core.specs.declared.error.Error.{Error}
+use Rattle.cfi_entry.specs.Fdes.{Fde}
+use Rattle.cfi_state.specs.Machine.{Parts}
+use Rattle.cfi_state.specs.Row.{Row}
+use Rattle.cfi_entry.specs.Sections.{Section}
+use Rattle.cfi_entry.specs.Augmentations.{is_trampoline}
+use Rattle.cfi_read_core.specs.ReaderCalls.{map_ok}
+use Rattle.cfi_unwind.specs.AddressRow.{row_of_fde}
 use Rattle.cfi_compiled.specs.declared.facts.CieFacts.{CieFacts}
 
 pub record FrameParts : Type 0 where

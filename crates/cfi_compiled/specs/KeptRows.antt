@@ -2,7 +2,7 @@
 -- once.
 --     RestLists      the rests, and the rules of all of them in one list
 --     rules_at rules rest      the registers with their rules of a rest
---     IsKeptIn rules rest      its rules are in the list, and no register has two
+--     HasRulesIn rules rest      its rules are in the list, and no register has two
 --     rest_rules, rest_args, rest_facts lists number      what the rest with a number says
 --     frame_of_kept lists row, results_in lists rows      what kept rows say; an error is kept as
 --         it is
@@ -17,7 +17,10 @@ use Rattle.std.specs.List.{All}
 use Rattle.cfi_read_core.specs.declared.common.Register.{Register}
 use Rattle.cfi_state.specs.Machine.{Rules}
 use Rattle.cfi_state.specs.declared.table.rules.RegisterRule.{RegisterRule}
-use Rattle.gimli_cfi.specs.Words.{Error, IsDistinctRegisters, Parts, map_ok, rules_of}
+use Rattle.cfi_read_core.specs.declared.error.Error.{Error}
+use Rattle.cfi_state.specs.RulePairs.{IsDistinctRegisters, rules_of}
+use Rattle.cfi_state.specs.Machine.{Parts}
+use Rattle.cfi_read_core.specs.ReaderCalls.{map_ok}
 use Rattle.cfi_compiled.specs.FrameParts.{FrameParts, frame_parts}
 use Rattle.cfi_compiled.specs.declared.facts.CieFacts.{CieFacts}
 use Rattle.cfi_compiled.specs.declared.rests.KeptRest.{KeptRest}
@@ -31,7 +34,7 @@ abbrev pub rules_at :
     List (Register × RegisterRule ℕ) → KeptRest → List (Register × RegisterRule ℕ)
 rules_at rules rest = slice_range rules rest.begin rest.end
 
-pub record IsKeptIn (rules : List (Register × RegisterRule ℕ)) (rest : KeptRest) : Type 0 where
+pub record HasRulesIn (rules : List (Register × RegisterRule ℕ)) (rest : KeptRest) : Type 0 where
   pub order : rest.begin ≤ rest.end
   pub inside : rest.end ≤ length rules
   pub distinct : IsDistinctRegisters (rules_at rules rest)

@@ -7,7 +7,8 @@ use Rattle.std.specs.Prelude.{◌≡◌, ◌<◌, ◌-◌, ◌^◌, ◌==◌, if
 use Rattle.std.specs.Prelude.{Result, Ok, Err}
 use Rattle.cfi_state.specs.declared.table.rules.CfaRule.{CfaRule}
 use Rattle.cfi_state.specs.declared.table.rules.CfaRule.TheVariants as cfa
-use Rattle.gimli_cfi.specs.Words.{Error, NoUnwindInfoForAddress}
+use Rattle.cfi_read_core.specs.declared.error.Error.{Error}
+use Rattle.cfi_read_core.specs.declared.error.Error.TheVariants.{NoUnwindInfoForAddress}
 use Rattle.cfi_compiled.specs.declared.rests.KeptRow.{KeptRow}
 
 abbrev pub error_mark : ℕ

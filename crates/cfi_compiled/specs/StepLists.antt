@@ -4,6 +4,6 @@ use Rattle.cfi_compiled.specs.declared.step_list.NumberedStep.{NumberedStep}
 use Rattle.cfi_compiled.specs.declared.step_list.StepList.{StepList}
 use Rattle.cfi_compiled.specs.declared.step_list.StepList.TheVariants.{Wide, Paged}
 
-abbrev pub numbered : StepList → List NumberedStep
-numbered (Wide steps) = steps.items
-numbered (Paged paged) = paged.steps
+abbrev pub numbered_steps : StepList → List NumberedStep
+numbered_steps (Wide steps) = steps.items
+numbered_steps (Paged paged) = paged.steps

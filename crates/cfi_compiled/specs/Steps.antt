@@ -8,7 +8,8 @@
 --         one on, and between two
 use Rattle.std.specs.Prelude.{◌≡◌, ℕ, ◌<◌, ◌≤◌, ◌+◌, List, [], ◌∷◌, nat_lt, if◌then◌else◌}
 use Rattle.std.specs.Prelude.{Result, Err, ⊤}
-use Rattle.gimli_cfi.specs.Words.{Error, NoUnwindInfoForAddress}
+use Rattle.cfi_read_core.specs.declared.error.Error.{Error}
+use Rattle.cfi_read_core.specs.declared.error.Error.TheVariants.{NoUnwindInfoForAddress}
 use Rattle.cfi_compiled.specs.FrameParts.{FrameParts}
 
 pub record Step : Type 0 where

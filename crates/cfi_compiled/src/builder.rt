@@ -1,7 +1,8 @@
 //! Tables while they are made.
 ghost use Rattle.std.specs.Prelude.{◌≡◌, ◌≤◌, ◌<◌, ◌+◌, ◌^◌, ℕ, [], length, get_or, Ok};
 ghost use Rattle.std.specs.Prelude.{IfOk, IsTrue, OnOk, Result as TheResult};
-ghost use Rattle.gimli_cfi.specs.Words.{Error as TheError, map_ok};
+ghost use Rattle.cfi_read_core.specs.declared.error.Error.{Error as TheError};
+ghost use Rattle.cfi_read_core.specs.ReaderCalls.{map_ok};
 ghost use Rattle.cfi_compiled.specs.declared.rests.KeptRow.{KeptRow as Kept};
 ghost use Rattle.cfi_compiled.specs.CompiledTables.{IsAdded, IsResultAt, frame_at};
 ghost use Rattle.cfi_compiled.specs.CompiledTables.{frame_numbered, results_of, steps_of};
@@ -19,7 +20,10 @@ use crate::slots::{Slots, Sought};
 use crate::step_list::{NumberedStep, StepList};
 use crate::steps::{NoMemory, StepSink};
 use crate::table::CompiledTable;
-use gimli_cfi::{ArrayLike, Error, Register, RegisterRule, Result, UnwindTableRow};
+use cfi_read_core::{Error, Register, Result};
+use cfi_state::storage::ArrayLike;
+use cfi_state::table::row::UnwindTableRow;
+use cfi_state::table::rules::RegisterRule;
 use std::alloc::Global;
 use std::marker::Model;
 
@@ -35,21 +39,21 @@ pub(crate) struct TableBuilder {
 }
 
 impl Model for TableBuilder {
-    ghost use Rattle.cfi_compiled.specs.CompiledTables.{TableContents, IsSound};
-    ghost use Rattle.cfi_compiled.specs.StepLists.{numbered};
+    ghost use Rattle.cfi_compiled.specs.CompiledTables.{TableContents, IsSoundTable};
+    ghost use Rattle.cfi_compiled.specs.StepLists.{numbered_steps};
 
     ghost Value = { TableContents };
 
     ghost view = { λ table. record {
       lists = table.rests;
       rows = table.rows;
-      numbers = numbered table.steps;
+      numbers = numbered_steps table.steps;
     } };
 
-    ghost invariant = { λ table. IsSound (record {
+    ghost invariant = { λ table. IsSoundTable (record {
       lists = table.rests;
       rows = table.rows;
-      numbers = numbered table.steps;
+      numbers = numbered_steps table.steps;
     }) };
 }
 

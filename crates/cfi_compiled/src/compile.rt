@@ -1,6 +1,7 @@
 //! The compiled table of a section.
 ghost use Rattle.std.specs.Prelude.{◌≡◌, Some, IfOk, IfErr};
-ghost use Rattle.gimli_cfi.specs.Words.{OutOfMemory, section_of};
+ghost use Rattle.cfi_read_core.specs.declared.error.Error.TheVariants.{OutOfMemory};
+ghost use Rattle.cfi_entry.specs.Sections.{section_of};
 ghost use Rattle.cfi_compiled.specs.CompiledTables.{IsCompiled};
 
 use crate::builder::TableBuilder;
@@ -9,9 +10,11 @@ use crate::pieces::{resolve, spans_of};
 use crate::steps::NoMemory;
 use crate::table::CompiledTable;
 use crate::walk::walk_fdes;
-use gimli_cfi::{
-    BaseAddresses, Error, Reader, Result, UnwindContext, UnwindContextStorage, UnwindSection,
-};
+use cfi_parts::pointer::BaseAddresses;
+use cfi_read_core::{Error, Reader, Result};
+use cfi_state::storage::UnwindContextStorage;
+use cfi_state::table::context::UnwindContext;
+use cfi_unwind::unwind_section::UnwindSection;
 use std::alloc::Global;
 
 impl CompiledTable {

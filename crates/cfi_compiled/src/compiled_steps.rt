@@ -6,7 +6,7 @@ ghost use Rattle.cfi_compiled.specs.TableSteps.{step_view, steps_left};
 
 use crate::row::CompiledRow;
 use crate::table::CompiledTable;
-use gimli_cfi::Result;
+use cfi_read_core::Result;
 
 impl CompiledTable {
     /// Iterates over the steps, in the order of their addresses. For an address the table has what

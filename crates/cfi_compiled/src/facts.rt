@@ -1,9 +1,10 @@
 //! What a CIE says of the return from a frame.
 ghost use Rattle.std.specs.Prelude.{◌≡◌};
-ghost use Rattle.gimli_cfi.specs.Words.{fde_view};
+ghost use Rattle.cfi_unwind.specs.FdeViews.{fde_view};
 ghost use Rattle.cfi_compiled.specs.FrameParts.{facts_of};
 
-use gimli_cfi::{FrameDescriptionEntry, Reader, Register};
+use cfi_read_core::{Reader, Register};
+use cfi_unwind::entry::FrameDescriptionEntry;
 
 /// What a step to the caller needs of a CIE beside its rows (DWARF 5 section 6.4.1).
 #[derive(Clone, Copy, Debug)]

@@ -10,10 +10,11 @@ ghost use Rattle.cfi_unwind.specs.FdeViews.{HasCieOf, IsFdeOf, fde_view};
 ghost use Rattle.cfi_unwind.specs.Scan.{fde_readings, read_fde};
 ghost use Rattle.cfi_compiled.specs.CoveringFdes.{covering, outside};
 
-use gimli_cfi::{
-    BaseAddresses, CieCache, CieOrFde, Error, FrameDescriptionEntry, PartialFrameDescriptionEntry,
-    Reader, UnwindSection,
-};
+use cfi_parts::pointer::BaseAddresses;
+use cfi_read_core::{Error, Reader};
+use cfi_unwind::cie_cache::CieCache;
+use cfi_unwind::entry::{CieOrFde, FrameDescriptionEntry, PartialFrameDescriptionEntry};
+use cfi_unwind::unwind_section::UnwindSection;
 use std::alloc::{AllocError, Global};
 
 /// The FDEs before the first error that contain an address, and the error for an address that none

@@ -1,7 +1,10 @@
 //! Hashes of what rows say. What is equal has the same.
 use crate::facts::CieFacts;
 use crate::rests::KeptRow;
-use gimli_cfi::{ArrayLike, CfaRule, Register, RegisterRule, Result, UnwindTableRow};
+use cfi_read_core::{Register, Result};
+use cfi_state::storage::ArrayLike;
+use cfi_state::table::row::UnwindTableRow;
+use cfi_state::table::rules::{CfaRule, RegisterRule};
 
 /// The hash of a kept row, and that of every error.
 pub(crate) fn hash_of_answer(answer: &Result<KeptRow>) -> u32 {

@@ -5,7 +5,8 @@ ghost use Rattle.std.specs.Option.{option_or};
 ghost use Rattle.cfi_unwind.specs.FdeViews.{fde_view};
 ghost use Rattle.cfi_compiled.specs.Pieces.{Ascend, owner, spans_from};
 
-use gimli_cfi::{FrameDescriptionEntry, Reader};
+use cfi_read_core::Reader;
+use cfi_unwind::entry::FrameDescriptionEntry;
 use std::alloc::{AllocError, Global};
 
 /// A piece of address space.

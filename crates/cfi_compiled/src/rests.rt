@@ -1,6 +1,6 @@
 //! What rows and their CIEs say but the rule of the CFA, each kept once.
 ghost use Rattle.std.specs.Prelude.{◌≡◌, ◌<◌, [], length, IfOk, IsTrue};
-ghost use Rattle.gimli_cfi.specs.Words.{IsDistinctRegisters, rules_of};
+ghost use Rattle.cfi_state.specs.RulePairs.{IsDistinctRegisters, rules_of};
 ghost use Rattle.cfi_compiled.specs.CompiledRows.{HasDistinctRegisters, frame_kept};
 ghost use Rattle.cfi_compiled.specs.KeptRows.{IsGrown, IsRestOf, frame_of_kept};
 
@@ -10,7 +10,10 @@ use crate::row::CompiledRow;
 use crate::same::{is_same_facts, is_same_pair};
 use crate::slots::{Slots, Sought};
 use crate::steps::NoMemory;
-use gimli_cfi::{ArrayLike, CfaRule, Register, RegisterRule, UnwindTableRow};
+use cfi_read_core::Register;
+use cfi_state::storage::ArrayLike;
+use cfi_state::table::row::UnwindTableRow;
+use cfi_state::table::rules::{CfaRule, RegisterRule};
 use std::alloc::{AllocError, Global};
 use std::marker::Model;
 
@@ -40,13 +43,13 @@ pub(crate) struct Rests {
 
 impl Model for Rests {
     ghost use Rattle.std.specs.List.{All};
-    ghost use Rattle.cfi_compiled.specs.KeptRows.{IsKeptIn, RestLists};
+    ghost use Rattle.cfi_compiled.specs.KeptRows.{HasRulesIn, RestLists};
 
     ghost Value = { RestLists };
 
     ghost view = { λ r. record { rests = r.rests.items; rules = r.rules.items } };
 
-    ghost invariant = { λ r. All (IsKeptIn r.rules.items) r.rests.items };
+    ghost invariant = { λ r. All (HasRulesIn r.rules.items) r.rests.items };
 }
 
 impl Rests {

@@ -1,13 +1,16 @@
 //! Results as a table keeps them.
 ghost use Rattle.std.specs.Prelude.{◌≡◌, ◌<◌, ◌+◌, ◌^◌, ◌∷◌, ◌++◌, [], length, get_or, Ok, Err};
 ghost use Rattle.std.specs.Prelude.{IfErr, IfOk, OnOk, Result as TheResult};
-ghost use Rattle.gimli_cfi.specs.Words.{Error as TheError, map_ok};
+ghost use Rattle.cfi_read_core.specs.declared.error.Error.{Error as TheError};
+ghost use Rattle.cfi_read_core.specs.ReaderCalls.{map_ok};
 ghost use Rattle.cfi_compiled.specs.declared.rests.KeptRow.{KeptRow as Kept};
 ghost use Rattle.cfi_compiled.specs.ResultLists.{index_in};
 
 use crate::rests::KeptRow;
 use crate::steps::NoMemory;
-use gimli_cfi::{CfaRule, Error, Result, UnwindExpression};
+use cfi_parts::instruction::UnwindExpression;
+use cfi_read_core::{Error, Result};
+use cfi_state::table::rules::CfaRule;
 use std::alloc::Global;
 use std::marker::Model;
 
@@ -27,7 +30,7 @@ pub(crate) struct KeptResults {
 impl Model for KeptResults {
     ghost use Rattle.std.specs.Prelude.{List, Result as TheResult};
     ghost use Rattle.std.specs.List.{All};
-    ghost use Rattle.gimli_cfi.specs.Words.{Error as TheError};
+    ghost use Rattle.cfi_read_core.specs.declared.error.Error.{Error as TheError};
     ghost use Rattle.cfi_compiled.specs.declared.rests.KeptRow.{KeptRow as Kept};
     ghost use Rattle.cfi_compiled.specs.ResultLists.{IsErrorIn, results_kept};
 

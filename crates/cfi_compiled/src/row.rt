@@ -1,11 +1,12 @@
 //! Rows as a compiled table lends them.
 ghost use Rattle.std.specs.Prelude.{◌≡◌};
 ghost use Rattle.std.specs.FinMap.{get};
-ghost use Rattle.gimli_cfi.specs.Words.{rules_of};
+ghost use Rattle.cfi_state.specs.RulePairs.{rules_of};
 ghost use Rattle.cfi_compiled.specs.CompiledRows.{frame_kept, parts_kept, registers_of};
 
 use crate::facts::CieFacts;
-use gimli_cfi::{CfaRule, Register, RegisterRule};
+use cfi_read_core::Register;
+use cfi_state::table::rules::{CfaRule, RegisterRule};
 
 /// What a row says without its addresses: the rule of the CFA, the rules of the registers, and the
 /// size of pushed arguments (DWARF 5 section 6.4.1); with what its CIE says of the return. Borrowed

@@ -1,10 +1,11 @@
 //! Whether what rows say is equal.
 ghost use Rattle.std.specs.Prelude.{◌≡◌, IsTrue};
-ghost use Rattle.gimli_cfi.specs.Words.{map_ok};
+ghost use Rattle.cfi_read_core.specs.ReaderCalls.{map_ok};
 
 use crate::facts::CieFacts;
 use crate::rests::KeptRow;
-use gimli_cfi::{CfaRule, Error, Register, RegisterRule, Result};
+use cfi_read_core::{Error, Register, Result};
+use cfi_state::table::rules::{CfaRule, RegisterRule};
 
 /// Whether two results are the same.
 #[inline(always)]

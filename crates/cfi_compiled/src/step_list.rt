@@ -26,11 +26,11 @@ impl StepList {
     ghost use Rattle.std.specs.Prelude.{IfOk, IfSome, IsTrue, OnOk};
     ghost use Rattle.cfi_compiled.specs.CompiledTables.{EndsWith, IsAdded};
     ghost use Rattle.cfi_compiled.specs.SearchedSteps.{IsNumberAt, IsStepAt, StartsAscend};
-    ghost use Rattle.cfi_compiled.specs.StepLists.{numbered};
+    ghost use Rattle.cfi_compiled.specs.StepLists.{numbered_steps};
 
     /// No step yet.
     pub(crate) fn new(alloc: Global) -> StepList
-        ensures { numbered result ≡ [] }
+        ensures { numbered_steps result ≡ [] }
     {
         StepList::Wide(Vec::new(alloc))
     }
@@ -38,7 +38,7 @@ impl StepList {
     /// Whether the last step has this number.
     #[inline(always)]
     pub(crate) fn ends_with(&self, number: usize) -> bool
-        ensures { IsTrue result → EndsWith number (numbered self.now) }
+        ensures { IsTrue result → EndsWith number (numbered_steps self.now) }
     {
         match self {
             StepList::Wide(steps) => ends_with(steps.as_slice(), number),
@@ -50,9 +50,10 @@ impl StepList {
     /// one from the first on that doesn't fit in these.
     #[inline(always)]
     pub(crate) fn push(&mut self, alloc: Global, step: NumberedStep) -> Result<(), NoMemory>
-        requires { StartsAscend 0 (numbered self.old ++ step ∷ []) }
-        ensures pushed { OnOk result (numbered self.new ≡ numbered self.old ++ step ∷ []) }
-        ensures added { IsAdded step (numbered self.old) (numbered self.new) }
+        requires { StartsAscend 0 (numbered_steps self.old ++ step ∷ []) }
+        ensures pushed { OnOk result
+            (numbered_steps self.new ≡ numbered_steps self.old ++ step ∷ []) }
+        ensures added { IsAdded step (numbered_steps self.old) (numbered_steps self.new) }
     {
         if let StepList::Paged(paged) = self {
             if paged.takes(step.start, step.number) {
@@ -64,9 +65,10 @@ impl StepList {
 
     /// One more step, which doesn't fit in the pages, or where there are none yet.
     fn push_apart(&mut self, alloc: Global, step: NumberedStep) -> Result<(), NoMemory>
-        requires { StartsAscend 0 (numbered self.old ++ step ∷ []) }
-        ensures pushed { OnOk result (numbered self.new ≡ numbered self.old ++ step ∷ []) }
-        ensures added { IsAdded step (numbered self.old) (numbered self.new) }
+        requires { StartsAscend 0 (numbered_steps self.old ++ step ∷ []) }
+        ensures pushed { OnOk result
+            (numbered_steps self.new ≡ numbered_steps self.old ++ step ∷ []) }
+        ensures added { IsAdded step (numbered_steps self.old) (numbered_steps self.new) }
     {
         match self {
             StepList::Paged(paged) => {
@@ -88,8 +90,8 @@ impl StepList {
 
     /// The steps in as little memory as they need: in pages if all fit.
     pub(crate) fn finish(self, alloc: Global) -> Result<StepList, NoMemory>
-        requires { StartsAscend 0 (numbered self) }
-        ensures { IfOk result (λ list. numbered list ≡ numbered self) }
+        requires { StartsAscend 0 (numbered_steps self) }
+        ensures { IfOk result (λ list. numbered_steps list ≡ numbered_steps self) }
     {
         match self {
             StepList::Wide(steps) => StepList::of(alloc, steps),
@@ -103,7 +105,7 @@ impl StepList {
     /// These steps, in pages if they fit.
     fn of(alloc: Global, steps: Vec<NumberedStep>) -> Result<StepList, NoMemory>
         requires { StartsAscend 0 steps.items }
-        ensures { IfOk result (λ list. numbered list ≡ steps.items) }
+        ensures { IfOk result (λ list. numbered_steps list ≡ steps.items) }
     {
         match PagedSteps::of(alloc, steps.as_slice())? {
             Some(paged) => Ok(StepList::Paged(paged)),
@@ -114,7 +116,7 @@ impl StepList {
     /// The number of the last step at or below an address, if there is one.
     #[inline(always)]
     pub(crate) fn number_at(&self, address: u64) -> Option<usize>
-        ensures { IsNumberAt (numbered self.now) address result }
+        ensures { IsNumberAt (numbered_steps self.now) address result }
     {
         match self {
             StepList::Wide(steps) => number_in(steps.as_slice(), address),
@@ -124,7 +126,7 @@ impl StepList {
 
     /// How many steps there are.
     pub(crate) fn len(&self) -> usize
-        ensures { result ≡ length (numbered self.now) }
+        ensures { result ≡ length (numbered_steps self.now) }
     {
         match self {
             StepList::Wide(steps) => steps.len(),
@@ -134,7 +136,7 @@ impl StepList {
 
     /// The step with an index.
     pub(crate) fn get(&self, index: usize) -> Option<NumberedStep>
-        ensures step { IsStepAt (numbered self.now) index result }
+        ensures step { IsStepAt (numbered_steps self.now) index result }
         ensures room { IfSome result (λ _. index + 1 < 2 ^ 64) }
     {
         match self {

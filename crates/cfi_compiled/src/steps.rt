@@ -1,11 +1,14 @@
 //! What takes the results of addresses step by step.
 ghost use Rattle.std.specs.Prelude.{◌≤◌, ◌+◌, ℕ, Result, Ok, Err, OnOk};
-ghost use Rattle.gimli_cfi.specs.Words.{Error as TheError};
+ghost use Rattle.cfi_read_core.specs.declared.error.Error.{Error as TheError};
 ghost use Rattle.cfi_compiled.specs.FrameParts.{FrameParts, frame_parts};
 ghost use Rattle.cfi_compiled.specs.Steps.{IsFrom, SameBelow};
 
 use crate::facts::CieFacts;
-use gimli_cfi::{ArrayLike, Error, Register, RegisterRule, UnwindTableRow};
+use cfi_read_core::{Error, Register};
+use cfi_state::storage::ArrayLike;
+use cfi_state::table::row::UnwindTableRow;
+use cfi_state::table::rules::RegisterRule;
 use std::alloc::{AllocError, AllocFailed};
 
 /// Memory was refused.

@@ -1,17 +1,17 @@
 //! Compiled tables.
 ghost use Rattle.std.specs.Prelude.{◌≡◌, ◌<◌, ◌+◌, ◌^◌, length, IfOk, IfSome};
 ghost use Rattle.cfi_compiled.specs.CompiledRows.{HasDistinctRegisters, frame_lent, parts_lent};
-ghost use Rattle.cfi_compiled.specs.CompiledTables.{IsSound, IsStepAtIndex, frame_at};
+ghost use Rattle.cfi_compiled.specs.CompiledTables.{IsSoundTable, IsStepAtIndex, frame_at};
 ghost use Rattle.cfi_compiled.specs.CompiledTables.{frame_numbered, parts_at};
 ghost use Rattle.cfi_compiled.specs.CompiledTables.{results_of, steps_of};
 ghost use Rattle.cfi_compiled.specs.KeptRows.{AreNamed, results_in};
-ghost use Rattle.cfi_compiled.specs.StepLists.{numbered};
+ghost use Rattle.cfi_compiled.specs.StepLists.{numbered_steps};
 
 use crate::rests::Rests;
 use crate::results::KeptResults;
 use crate::row::CompiledRow;
 use crate::step_list::StepList;
-use gimli_cfi::{Error, Result};
+use cfi_read_core::{Error, Result};
 use std::marker::Model;
 
 /// The unwind rows of a section for all addresses, or the errors in their place.
@@ -45,35 +45,36 @@ pub struct CompiledTable {
 }
 
 impl Model for CompiledTable {
-    ghost use Rattle.cfi_compiled.specs.CompiledTables.{TableContents, IsSound};
-    ghost use Rattle.cfi_compiled.specs.StepLists.{numbered};
+    ghost use Rattle.cfi_compiled.specs.CompiledTables.{TableContents, IsSoundTable};
+    ghost use Rattle.cfi_compiled.specs.StepLists.{numbered_steps};
 
     ghost Value = { TableContents };
 
     ghost view = { λ table. record {
       lists = table.rests;
       rows = table.rows;
-      numbers = numbered table.steps;
+      numbers = numbered_steps table.steps;
     } };
 
-    ghost invariant = { λ table. IsSound (record {
+    ghost invariant = { λ table. IsSoundTable (record {
       lists = table.rests;
       rows = table.rows;
-      numbers = numbered table.steps;
+      numbers = numbered_steps table.steps;
     }) };
 }
 
 impl CompiledTable {
     ghost use Rattle.std.specs.Prelude.{◌≡◌, ◌<◌, ◌+◌, ◌^◌, length, IfOk, IfSome};
-    ghost use Rattle.cfi_compiled.specs.CompiledTables.{IsSound, IsStepAtIndex, frame_at, parts_at};
+    ghost use Rattle.cfi_compiled.specs.CompiledTables.{IsSoundTable, IsStepAtIndex, frame_at};
+    ghost use Rattle.cfi_compiled.specs.CompiledTables.{parts_at};
     ghost use Rattle.cfi_compiled.specs.CompiledTables.{steps_of};
-    ghost use Rattle.cfi_compiled.specs.StepLists.{numbered};
+    ghost use Rattle.cfi_compiled.specs.StepLists.{numbered_steps};
 
     /// The table of these steps, whose numbers are those of the rows.
     pub(crate) fn of(rests: Rests, rows: KeptResults, steps: StepList) -> Self
-        requires { IsSound
-            (record { lists = rests; rows = rows; numbers = numbered steps }) }
-        ensures { result ≡ record { lists = rests; rows = rows; numbers = numbered steps } }
+        requires { IsSoundTable
+            (record { lists = rests; rows = rows; numbers = numbered_steps steps }) }
+        ensures { result ≡ record { lists = rests; rows = rows; numbers = numbered_steps steps } }
     {
         CompiledTable { rests, rows, steps }
     }

@@ -18,10 +18,15 @@ ghost use Rattle.cfi_compiled.specs.Steps.{IsFrom, IsWithin, SameBelow};
 use crate::facts::{CieFacts, facts_of};
 use crate::pieces::{Piece, greater};
 use crate::steps::{NoMemory, StepSink};
-use gimli_cfi::{
-    ArrayLike, BaseAddresses, Error, FrameDescriptionEntry, Reader, Register, RegisterRule,
-    UnwindContext, UnwindContextStorage, UnwindSection, UnwindTable, UnwindTableRow,
-};
+use cfi_parts::pointer::BaseAddresses;
+use cfi_read_core::{Error, Reader, Register};
+use cfi_state::storage::{ArrayLike, UnwindContextStorage};
+use cfi_state::table::context::UnwindContext;
+use cfi_state::table::row::UnwindTableRow;
+use cfi_state::table::rules::RegisterRule;
+use cfi_unwind::entry::FrameDescriptionEntry;
+use cfi_unwind::unwind_section::UnwindSection;
+use cfi_unwind::unwind_table::UnwindTable;
 
 /// Takes the steps of FDEs, piece by piece: each address belongs to the first FDE that contains
 /// it.

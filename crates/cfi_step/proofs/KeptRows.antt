@@ -21,7 +21,7 @@ use Rattle.cfi_step.specs.declared.cached_rows.CachedRow.{CachedRow}
 use Rattle.cfi_step.specs.declared.module.LoadedModule.{LoadedModule}
 use Rattle.cfi_step.specs.declared.step.Caller.{Caller}
 use Rattle.cfi_step.specs.Callers.{AreRecovered}
-use Rattle.cfi_step.specs.CachedRows.{AreAlike, AreCachedFor, AreCachedIn, AreEmpty, AreNumbered, AreRightFor, AreRightIn, IsRightIn, StayRightFor, StayRightIn, holds_row, slot_view}
+use Rattle.cfi_step.specs.CachedRows.{AreAlike, AreCachedFor, AreCachedIn, AreEmpty, AreNumbered, AreRightFor, AreRightIn, IsRightIn, StayRightFor, StayRightIn, is_full, slot_view}
 use Rattle.cfi_step.specs.Modules.{IsFoundIn, IsStepByFound, first_module, has_code, module_section}
 use Rattle.cfi_step.specs.Slots.{HoldsRowOf, KeepsRow, KeepsRowOf, SaysRowOf, Slot}
 use Rattle.cfi_step.specs.Steps.{caller_by}
@@ -109,7 +109,7 @@ module _ {R K T : Type 0} (position : R → Position) (number : T → ℕ) (slot
 module _ {R : Type 0} (position : R → Position) (size : ℕ) (rule_limit stack_limit : Option ℕ) (copies_free : Bool) where
   empty_in : (loaded : LoadedModule R) (cache : List CachedRow) → AreEmpty cache → AreCachedIn position size rule_limit stack_limit copies_free loaded cache
   empty_in loaded cache empty =
-      all_for (λ slot. holds_row slot ≡ false) (IsRightIn position (λ (n : ℕ). n) slot_view size rule_limit stack_limit copies_free loaded) cache
+      all_for (λ slot. is_full slot ≡ false) (IsRightIn position (λ (n : ℕ). n) slot_view size rule_limit stack_limit copies_free loaded) cache
       (λ slot none a holds. absurd (true≢false (sym holds.0 ∙ none))) empty
 
   pub empty_for_all : (modules : List (LoadedModule R)) (cache : List CachedRow) → AreEmpty cache →

@@ -38,7 +38,7 @@ use Rattle.cfi_step.specs.declared.walk.End.{End}
 use Rattle.cfi_step.specs.declared.walk.End.TheVariants.{Failed, NoModule}
 use Rattle.cfi_step.specs.declared.walk.StackFrame.{StackFrame}
 use Rattle.cfi_step.specs.declared.walk.Start.{Start}
-use Rattle.cfi_step.specs.Callers.{AreRecovered, by_rule, cfa_of, expression_value, given, is_signed, on_ok, pc_of, read_part, recovered, recovered_by, return_by, saved_at, value_at}
+use Rattle.cfi_step.specs.Callers.{AreRecovered, by_rule, cfa_of, expression_value, found_value, is_signed, on_ok, pc_of, read_part, recovered, recovered_by, return_by, saved_at, value_at}
 use Rattle.cfi_step.specs.Modules.{IsStepByDebug, IsStepIn, IsStepOr, IsStepVia, address_in_file, first_module, module_section}
 use Rattle.cfi_step.specs.Steps.{IsStepByRow, IsStepBy, caller_by}
 use Rattle.cfi_step.specs.StepsByTable.{IsStepByFrame}
@@ -80,9 +80,9 @@ kept_if : {x x' y y' : Result (Option ℕ) FrameError} (b : Bool) → Kept x x' 
 kept_if true first second = first
 kept_if false first second = second
 
-given_more : (r r' : Result (Option ℕ) FrameError) → Kept r r' → (n : ℕ) → given r ≡ Some n → given r' ≡ Some n
+given_more : (r r' : Result (Option ℕ) FrameError) → Kept r r' → (n : ℕ) → found_value r ≡ Some n → found_value r' ≡ Some n
 given_more (Ok None) r' is n there = absurd (cc)
-given_more (Ok (Some v)) r' is n there = ap given (sym (is.kept refl)) ∙ there
+given_more (Ok (Some v)) r' is n there = ap found_value (sym (is.kept refl)) ∙ there
 given_more (Err e) r' is n there = absurd (cc)
 
 -- ---- a step
@@ -158,7 +158,7 @@ module _ {m m' : ℕ → ℕ → Option ℕ} {rs rs' : List (Option ℕ)} (size 
       -- ---- the registers
 
       abbrev value_in_all : Parts T → ℕ → ℕ → Option ℕ
-      value_in_all parts the_cfa k = given (recovered all section abi number parts the_cfa k)
+      value_in_all parts the_cfa k = found_value (recovered all section abi number parts the_cfa k)
 
       abbrev registers_in_all : Parts T → ℕ → ℕ → List (Option ℕ)
       registers_in_all parts the_cfa count = map (value_in_all parts the_cfa) (range_with_len 0 count)

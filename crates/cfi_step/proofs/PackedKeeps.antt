@@ -11,10 +11,10 @@ use Rattle.cfi_step.specs.declared.function.Function.{Function}
 use Rattle.cfi_step.specs.declared.packed_rows.PackedRow.{PackedRow}
 use Rattle.cfi_step.specs.Functions.{function_of}
 use Rattle.cfi_step.specs.KeptSlots.{HoldsAtMost, Keeps}
-use Rattle.cfi_step.specs.PackedRows.{AreNumbersOf, HoldsRow, IsPackedFor, IsPackedOf, KeepsFound, function_packed}
+use Rattle.cfi_step.specs.PackedRows.{AreSmallNumbersOf, HoldsRow, IsPackedFor, IsPackedOf, KeepsFound, function_packed}
 
 -- a row with the numbers of this row and of this function is the one that says both
-pub packed_at_most : (file a : ℕ) (parts : Parts ℕ) (function : Function) (row : PackedRow) → row.file ≡ file → row.address ≡ a → AreNumbersOf parts function row.numbers → function_packed row ≡ function
+pub packed_at_most : (file a : ℕ) (parts : Parts ℕ) (function : Function) (row : PackedRow) → row.file ≡ file → row.address ≡ a → AreSmallNumbersOf parts function row.numbers → function_packed row ≡ function
     → HoldsAtMost HoldsRow file a (IsPackedOf parts function) row
 packed_at_most file a parts function row of at (cfa, rules, args_size, ra, fde) same other b (kept, of_other, at_b) =
     (sym of_other ∙ of, sym at_b ∙ at, ((λ i. record { cfa = cfa i; rules = rules i; args_size = args_size i }), same))

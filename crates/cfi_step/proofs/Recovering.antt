@@ -15,7 +15,7 @@ use Rattle.cfi_state.specs.Machine.{Parts}
 use Rattle.cfi_state.specs.RulePairs.{numbered_pair, rules_of}
 use Rattle.cfi_expression.specs.Frames.{Frame, known}
 use Rattle.cfi_step.specs.declared.abi.Abi.{Abi}
-use Rattle.cfi_step.specs.Callers.{AreRecovered, by_rule, given, recovered, recovered_by}
+use Rattle.cfi_step.specs.Callers.{AreRecovered, by_rule, found_value, recovered, recovered_by}
 
 module _ {T : Type 0} where
   -- what the row would say with these rules of registers alone
@@ -41,7 +41,7 @@ module _ {T : Type 0} where
     AreRecoveredBy pairs caller = AreRecovered frame section abi number (with_rules parts pairs) the_cfa (length caller) caller
 
     abbrev value_by : ℕ → List (Register × RegisterRule T) → Option ℕ
-    value_by k pairs = given (recovered frame section abi number (with_rules parts pairs) the_cfa k)
+    value_by k pairs = found_value (recovered frame section abi number (with_rules parts pairs) the_cfa k)
 
     -- without a rule a register keeps its value, and the stack pointer is the CFA
     pub none_yet : (pairs : List (Register × RegisterRule T)) (caller written : List (Option ℕ)) → pairs ≡ [] →
@@ -51,8 +51,8 @@ module _ {T : Type 0} where
         let same_length : length written ≡ length caller = ap length is ∙ length-set caller abi.stack_pointer.0 (Some the_cfa) in
         record {
           each = λ k h.
-              let none : value_by k pairs ≡ given (recovered_by frame section abi number the_cfa k None) =
-              ap (value_by k) empty ∙ ap (λ rule. given (recovered_by frame section abi number the_cfa k rule)) (get_of_none k) in
+              let none : value_by k pairs ≡ found_value (recovered_by frame section abi number the_cfa k None) =
+              ap (value_by k) empty ∙ ap (λ rule. found_value (recovered_by frame section abi number the_cfa k rule)) (get_of_none k) in
               ap (λ l. get_or l k None) is ∙ elim (cases_eq k abi.stack_pointer.0) [
                 | inl same ↦ get_or-set_at caller abi.stack_pointer.0 k (Some the_cfa) None same (omega (arith, h, same, same_length)) ∙ sym (none ∙ rw (eq-eqb k abi.stack_pointer.0 same) refl)
                 | inr other ↦ get_or-set_other caller abi.stack_pointer.0 k (Some the_cfa) None other ∙ kept k (omega (arith, h, same_length)) ∙ sym (none ∙ rw (ne_eqb k abi.stack_pointer.0 other) refl)
@@ -63,15 +63,15 @@ module _ {T : Type 0} where
         (caller : List (Option ℕ)) (so_far : AreRecoveredBy pairs caller) where
       by_others : (k : ℕ) → k ≢ pair.0.0 → k < length caller → get_or caller k None ≡ value_by k all
       by_others k other h =
-          so_far.each k h ∙ ap (λ rule. given (recovered_by frame section abi number the_cfa k rule)) (sym (get_apart pair pairs k other)) ∙ ap (value_by k) (sym whole)
+          so_far.each k h ∙ ap (λ rule. found_value (recovered_by frame section abi number the_cfa k rule)) (sym (get_apart pair pairs k other)) ∙ ap (value_by k) (sym whole)
 
       -- the rule holds in place of one of these
-      pub one_more : (value : Option ℕ) (written : List (Option ℕ)) → value ≡ given (by_rule frame section abi number the_cfa pair.0.0 pair.1) → written ≡ slice_set caller pair.0.0 value → AreRecoveredBy all written
+      pub one_more : (value : Option ℕ) (written : List (Option ℕ)) → value ≡ found_value (by_rule frame section abi number the_cfa pair.0.0 pair.1) → written ≡ slice_set caller pair.0.0 value → AreRecoveredBy all written
       one_more value written is_given is =
           let same_length : length written ≡ length caller = ap length is ∙ length-set caller pair.0.0 value in
           let P : ℕ → Type 0 = λ k. value ≡ value_by k all in
           let first : P pair.0.0 =
-          is_given ∙ ap (λ rule. given (recovered_by frame section abi number the_cfa pair.0.0 rule)) (sym (get_first pair pairs)) ∙ ap (value_by pair.0.0) (sym whole) in
+          is_given ∙ ap (λ rule. found_value (recovered_by frame section abi number the_cfa pair.0.0 rule)) (sym (get_first pair pairs)) ∙ ap (value_by pair.0.0) (sym whole) in
           record {
             each = λ k h.
                 ap (λ l. get_or l k None) is ∙ elim (cases_eq k pair.0.0) [

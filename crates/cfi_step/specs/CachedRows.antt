@@ -1,6 +1,6 @@
 -- Rows (DWARF 5 section 6.4.1) that are kept for the next walk of a stack, each by its file and its
 -- address in the file. Keeping them is this library's own: the standard has no such thing.
---     holds_row slot, slot_view slot      whether a slot holds a row, and what it holds
+--     is_full slot, slot_view slot      whether a slot holds a row, and what it holds
 --     AreEmpty cache      no slot holds a row
 --     AreAlike m n      if modules have one number of a file, they have the same call frames
 --     AreNumbered modules      that holds of any two of them
@@ -24,8 +24,8 @@ use Rattle.cfi_step.specs.Slots.{Slot, HoldsRowOf, SaysRowOf}
 
 -- ---- a slot
 
-abbrev pub holds_row : CachedRow → Bool
-holds_row slot = slot.is_kept
+abbrev pub is_full : CachedRow → Bool
+is_full slot = slot.is_kept
 
 abbrev pub parts_cached : CachedRow → Parts ℕ
 parts_cached slot =
@@ -42,7 +42,7 @@ slot_view slot = record {
 }
 
 abbrev pub AreEmpty : List CachedRow → Type 0
-AreEmpty cache = All (λ slot. holds_row slot ≡ false) cache
+AreEmpty cache = All (λ slot. is_full slot ≡ false) cache
 
 -- ---- modules and their files
 

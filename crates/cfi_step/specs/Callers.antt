@@ -37,9 +37,9 @@ on_ok next (Ok x) = next x
 on_ok next (Err e) = Err e
 
 -- none where it is lost or not known, and where what it is made of can't be read
-abbrev pub given : Result (Option ℕ) FrameError → Option ℕ
-given (Ok value) = value
-given (Err e) = None
+abbrev pub found_value : Result (Option ℕ) FrameError → Option ℕ
+found_value (Ok value) = value
+found_value (Err e) = None
 
 abbrev pub read_part : Position → Extent → Position
 read_part section extent =
@@ -132,4 +132,5 @@ module _ (frame : Frame) (section : Position) (abi : Abi) where
     pub record AreRecovered (parts : Parts T) (the_cfa count : ℕ) (caller : List (Option ℕ)) : Type
         0 where
       pub each :
-          (k : ℕ) → k < count → slice_index_or caller k None ≡ given (recovered parts the_cfa k)
+          (k : ℕ) → k < count →
+          slice_index_or caller k None ≡ found_value (recovered parts the_cfa k)

@@ -10,7 +10,7 @@
 --         address may have been kept
 --     IsKept .. loaded a file old new      what the FDE that the module has for an address of the
 --         file has may have been kept
---     AreEmpty rows      none is a row
+--     AreVacant rows      none is a row
 use Rattle.std.specs.Prelude.{◌≡◌, ℕ, ℤ, Bool, false, true, List, map, Option, Some, None}
 use Rattle.std.specs.Prelude.{Result, Ok, Err, IfOk, take, if◌then◌else◌}
 use Rattle.std.specs.List.{All}
@@ -40,17 +40,19 @@ use Rattle.cfi_step.specs.KeptSlots.{Keeps}
 use Rattle.cfi_step.specs.Modules.{IsFoundIn, module_section}
 use Rattle.cfi_step.specs.Marks.{args_size, has_row, is_trampoline, lsda_kind, personality_kind}
 use Rattle.cfi_step.specs.Marks.{is_plain, rule_count}
-use Rattle.cfi_step.specs.PackedRules.{eightfold, numbered, pair_of}
+use Rattle.cfi_step.specs.PackedRules.{eightfold, register_numbered, pair_of}
 
 -- ---- a packed row
 
-abbrev pub listed : SmallNumbers → List PackedRule
-listed n = take (rule_count n.marks) n.rules
+abbrev pub counted_rules : SmallNumbers → List PackedRule
+counted_rules n = take (rule_count n.marks) n.rules
 
 abbrev pub parts_packed : PackedRow → Parts ℕ
 parts_packed row = record {
-  cfa = cfa.RegisterAndOffset (numbered row.numbers.cfa_register) (eightfold row.numbers.cfa_words);
-  rules = rules_of (map pair_of (listed row.numbers));
+  cfa =
+      cfa.RegisterAndOffset (register_numbered row.numbers.cfa_register)
+      (eightfold row.numbers.cfa_words);
+  rules = rules_of (map pair_of (counted_rules row.numbers));
   args_size = args_size row.numbers.marks;
 }
 
@@ -60,11 +62,12 @@ pointer_of pointer.Direct a = Some (Direct a)
 pointer_of pointer.Indirect a = Some (Indirect a)
 
 -- the small numbers are those of the row and of the function
-abbrev pub AreNumbersOf : Parts ℕ → Function → SmallNumbers → Type 0
-AreNumbersOf parts function n =
-    (cfa.RegisterAndOffset (numbered n.cfa_register) (eightfold n.cfa_words) ≡ parts.cfa)
-    × (rules_of (map pair_of (listed n)) ≡ parts.rules)
-    × (args_size n.marks ≡ parts.args_size) × (numbered n.return_address ≡ function.return_address)
+abbrev pub AreSmallNumbersOf : Parts ℕ → Function → SmallNumbers → Type 0
+AreSmallNumbersOf parts function n =
+    (cfa.RegisterAndOffset (register_numbered n.cfa_register) (eightfold n.cfa_words) ≡ parts.cfa)
+    × (rules_of (map pair_of (counted_rules n)) ≡ parts.rules)
+    × (args_size n.marks ≡ parts.args_size)
+    × (register_numbered n.return_address ≡ function.return_address)
     × (n.fde ≡ function.offset)
 
 -- an address of the function, by its distance from that of the row
@@ -78,7 +81,7 @@ function_with row lsda personality = record {
   end = near row row.distances.end;
   lsda = lsda;
   personality = personality;
-  return_address = numbered row.numbers.return_address;
+  return_address = register_numbered row.numbers.return_address;
   is_signal_trampoline = is_trampoline row.numbers.marks;
   offset = row.numbers.fde;
 }
@@ -123,8 +126,8 @@ module _ (rule_limit stack_limit : Option ℕ) (copies_free : Bool) (section : S
 abbrev pub rows_in : RowCache → List PackedRow
 rows_in cache = cache.rows.items
 
-abbrev pub AreEmpty : List PackedRow → Type 0
-AreEmpty rows = All (λ row. is_kept row ≡ false) rows
+abbrev pub AreVacant : List PackedRow → Type 0
+AreVacant rows = All (λ row. is_kept row ≡ false) rows
 
 -- the row of the FDE that the module has for an address of the file may have been kept
 module _ {R : Type 0} (position : R → Position) (size : ℕ) (rule_limit stack_limit : Option ℕ)

@@ -11,8 +11,8 @@ use Rattle.cfi_step.specs.declared.packed_rules.PackedRule.{PackedRule}
 use Rattle.cfi_step.specs.declared.packed_rules.SmallRule.{SmallRule}
 use Rattle.cfi_step.specs.declared.packed_rules.SmallRule.TheVariants as small
 
-abbrev pub numbered : ℕ → Register
-numbered k = record { 0 = k }
+abbrev pub register_numbered : ℕ → Register
+register_numbered k = record { 0 = k }
 
 abbrev pub eightfold : ℤ → ℤ
 eightfold n = int_wrapping_mul w64 n (pos 8)
@@ -30,4 +30,4 @@ rule_by (small.Offset n) = rule.Offset (eightfold n)
 rule_by (small.Constant n) = rule.Constant n
 
 abbrev pub pair_of : PackedRule → Register × RegisterRule ℕ
-pair_of packed = (numbered packed.register, rule_by (small_rule packed.words))
+pair_of packed = (register_numbered packed.register, rule_by (small_rule packed.words))

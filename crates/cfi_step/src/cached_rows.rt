@@ -29,11 +29,11 @@ pub struct CachedRow {
 
 impl CachedRow {
     ghost use Rattle.std.specs.Prelude.{◌≡◌, false};
-    ghost use Rattle.cfi_step.specs.CachedRows.{holds_row};
+    ghost use Rattle.cfi_step.specs.CachedRows.{is_full};
 
     /// An empty slot. Does not allocate.
     pub fn new() -> CachedRow
-        ensures { holds_row result ≡ false }
+        ensures { is_full result ≡ false }
     {
         CachedRow {
             file: 0,
@@ -50,7 +50,7 @@ impl CachedRow {
     /// Empties the slot.
     #[inline]
     pub fn clear(&mut self)
-        ensures { holds_row self.new ≡ false }
+        ensures { is_full self.new ≡ false }
     {
         self.is_kept = false;
     }

@@ -11,11 +11,11 @@ ghost use Rattle.cfi_step.specs.Steps.{IsStepBy};
 use crate::abi::Abi;
 use crate::function::{Function, function_of};
 use crate::module::{LoadedModule, fde_in_module};
+use crate::section::PlacedSection;
 use crate::step::{Caller, step_by_fde};
 use cfi_expression::{Frame, FrameError, Memory};
 use gimli_cfi::{
-    BaseAddresses, FrameDescriptionEntry, Reader, UnwindContext, UnwindContextStorage,
-    UnwindSection,
+    FrameDescriptionEntry, Reader, UnwindContext, UnwindContextStorage, UnwindSection,
 };
 
 /// A step from a frame, with the function of the frame.
@@ -49,16 +49,11 @@ pub fn step_in_function<R: Reader, S: UnwindContextStorage<R::Offset>, M: Memory
 {
     let address = loaded.address_in_file(address);
     let found = fde_in_module(loaded, frame.address_size.bytes(), address);
-    function_step(
-        found,
-        &loaded.frame,
-        &loaded.bases,
-        ctx,
-        address,
-        abi,
-        frame,
-        caller,
-    )
+    let placed = PlacedSection {
+        section: &loaded.frame,
+        bases: &loaded.bases,
+    };
+    function_step(found, &placed, ctx, address, abi, frame, caller)
 }
 
 /// The step by the FDE that was found for the address, or the error in its place, with what the FDE
@@ -73,21 +68,20 @@ pub fn function_step<
     M: Memory,
 >(
     found: gimli_cfi::Result<FrameDescriptionEntry<R>>,
-    section: &Section,
-    bases: &BaseAddresses,
+    placed: &PlacedSection<'_, Section>,
     ctx: &mut UnwindContext<R::Offset, S>,
     address: u64,
     abi: &Abi,
     frame: &Frame<'_, M>,
     caller: &mut [Option<u64>],
 ) -> FunctionStep
-    requires own { IfOk found (IsFdeOf R.position (Section.view section.now).position) }
-    requires cie { IfOk found (HasCieOf R.position (Section.view section.now).position) }
+    requires own { IfOk found (IsFdeOf R.position (Section.view placed.now.section.now).position) }
+    requires cie { IfOk found (HasCieOf R.position (Section.view placed.now.section.now).position) }
     requires room { length caller.old ≤ 0x10000 }
     ensures step { IsStepBy (frame_view M.number_at frame.now)
-        (Section.view section.now).position abi.now R.Offset.number
+        (Section.view placed.now.section.now).position abi.now R.Offset.number
         S.Rules.limit S.Stack.limit S.Rules.copies_free
-        (section_of (Section.view section.now) bases.now) address
+        (section_of (Section.view placed.now.section.now) placed.now.bases.now) address
         (map_ok (fde_view R.position R.Offset.number) found) result.caller caller.new }
     ensures function { result.function
         ≡ function_in (map_ok (fde_view R.position R.Offset.number) found) }
@@ -96,7 +90,7 @@ pub fn function_step<
     match found {
         Ok(fde) => FunctionStep {
             function: Some(function_of(&fde)),
-            caller: step_by_fde(&fde, section, bases, ctx, address, abi, frame, caller),
+            caller: step_by_fde(&fde, placed, ctx, address, abi, frame, caller),
         },
         Err(error) => FunctionStep {
             function: None,

@@ -10,9 +10,9 @@ ghost use Rattle.cfi_step.specs.PackedRows.{IsKept, KeepsFound, rows_in};
 use crate::function::function_of;
 use crate::module::{LoadedModule, fde_in_module};
 use crate::row_cache::RowCache;
+use crate::section::PlacedSection;
 use gimli_cfi::{
-    BaseAddresses, FrameDescriptionEntry, Reader, UnwindContext, UnwindContextStorage,
-    UnwindSection,
+    FrameDescriptionEntry, Reader, UnwindContext, UnwindContextStorage, UnwindSection,
 };
 
 /// Keeps in the cache, under the number of the file, the row that a module has for an address
@@ -36,15 +36,11 @@ pub fn keep_row<R: Reader<Offset = usize>, S: UnwindContextStorage<usize>>(
 {
     let address = loaded.address_in_file(address);
     let found = fde_in_module(loaded, address_size, address);
-    keep_found(
-        found,
-        &loaded.frame,
-        &loaded.bases,
-        cache,
-        file,
-        ctx,
-        address,
-    );
+    let placed = PlacedSection {
+        section: &loaded.frame,
+        bases: &loaded.bases,
+    };
+    keep_found(found, &placed, cache, file, ctx, address);
 }
 
 /// Keeps the row that the FDE has for the address, if one was found. The FDE and its CIE are of the
@@ -55,24 +51,23 @@ pub fn keep_found<
     S: UnwindContextStorage<usize>,
 >(
     found: gimli_cfi::Result<FrameDescriptionEntry<R>>,
-    section: &Section,
-    bases: &BaseAddresses,
+    placed: &PlacedSection<'_, Section>,
     cache: &mut RowCache,
     file: u64,
     ctx: &mut UnwindContext<usize, S>,
     address: u64,
 )
-    requires own { IfOk found (IsFdeOf R.position (Section.view section.now).position) }
-    requires cie { IfOk found (HasCieOf R.position (Section.view section.now).position) }
+    requires own { IfOk found (IsFdeOf R.position (Section.view placed.now.section.now).position) }
+    requires cie { IfOk found (HasCieOf R.position (Section.view placed.now.section.now).position) }
     ensures { KeepsFound S.Rules.limit S.Stack.limit S.Rules.copies_free
-        (section_of (Section.view section.now) bases.now) address
+        (section_of (Section.view placed.now.section.now) placed.now.bases.now) address
         (map_ok (fde_view R.position (λ n. n)) found) file
         (rows_in cache.old) (rows_in cache.new) }
 {
     let Ok(fde) = found else {
         return;
     };
-    match fde.unwind_info_for_address(section, bases, ctx, address) {
+    match fde.unwind_info_for_address(placed.section, placed.bases, ctx, address) {
         Ok(row) => cache.keep(file, address, row, &function_of(&fde)),
         Err(_error) => {}
     }

@@ -11,8 +11,8 @@ use crate::abi::Abi;
 use crate::compiled::step_by_compiled;
 use crate::module::{DebugTable, LoadedModule, fde_in_module};
 use crate::rows::RowRules;
-use crate::slots::{NoRow, RowSlot, held};
-use crate::step::{Caller, step_by_kept, step_by_row};
+use crate::slots::{NoRow, RowSlot, held, keep_row};
+use crate::step::{Caller, step_by_row};
 use cfi_expression::{Frame, FrameError, Memory};
 use gimli_cfi::{Error, Reader, UnwindContext, UnwindContextStorage};
 
@@ -231,19 +231,27 @@ fn step_by_found<
         (frame_view M.number_at frame.now).size S.Rules.limit S.Stack.limit S.Rules.copies_free
         loaded.now cache.old cache.new }
 {
-    match fde_in_module(loaded, frame.address_size.bytes(), address) {
-        Ok(fde) => step_by_kept(
-            &fde,
-            &loaded.frame,
-            &loaded.bases,
-            loaded.file,
-            cache,
-            ctx,
-            address,
-            abi,
-            frame,
-            caller,
-        ),
+    let fde = match fde_in_module(loaded, frame.address_size.bytes(), address) {
+        Ok(fde) => fde,
+        Err(error) => return Err(FrameError::NoRow(error)),
+    };
+    let section = &loaded.frame;
+    let file = loaded.file;
+    let return_address = fde.cie().return_address_register();
+    let is_trampoline = fde.is_signal_trampoline();
+    match fde.unwind_info_for_address(section, &loaded.bases, ctx, address) {
+        Ok(row) => {
+            keep_row(cache, file, address, row, return_address, is_trampoline);
+            step_by_row(
+                row,
+                section,
+                return_address,
+                is_trampoline,
+                abi,
+                frame,
+                caller,
+            )
+        }
         Err(error) => Err(FrameError::NoRow(error)),
     }
 }

@@ -2,7 +2,7 @@
 ghost use Rattle.std.specs.Prelude.{◌≡◌, IfSome, true};
 ghost use Rattle.cfi_expression.specs.Arithmetic.{displaced};
 ghost use Rattle.cfi_step.specs.Marks.{HasCounts};
-ghost use Rattle.cfi_step.specs.PackedRows.{AreNumbersOf, pointer_of};
+ghost use Rattle.cfi_step.specs.PackedRows.{AreSmallNumbersOf, pointer_of};
 ghost use Rattle.cfi_step.specs.PackedRules.{eightfold};
 
 use crate::function::Function;
@@ -61,7 +61,7 @@ impl PackedRow {
     ghost use Rattle.cfi_step.specs.KeptSlots.{HoldsAtMost};
     ghost use Rattle.cfi_step.specs.PackedRows.{HoldsRow, IsPackedOf, function_packed};
     ghost use Rattle.cfi_step.specs.PackedRows.{function_with};
-    ghost use Rattle.cfi_step.specs.PackedRows.{is_kept, listed, parts_packed, plain_packed};
+    ghost use Rattle.cfi_step.specs.PackedRows.{is_kept, counted_rules, parts_packed, plain_packed};
     ghost use Rattle.cfi_step.specs.PackedRules.{eightfold};
 
     /// No row. Does not allocate.
@@ -137,7 +137,7 @@ impl PackedRow {
     /// The rules of registers. If a register occurs twice, its first rule holds.
     #[inline(always)]
     pub fn rules(&self) -> &[PackedRule]
-        ensures { result.now ≡ listed self.now.numbers }
+        ensures { result.now ≡ counted_rules self.now.numbers }
     {
         let count = self.numbers.marks.rule_count();
         if count < RULES {
@@ -291,7 +291,7 @@ fn small_numbers<A: ArrayLike<Item = (Register, RegisterRule<usize>)>>(
     row: &UnwindTableRow<usize, A>,
     function: &Function,
 ) -> Option<SmallNumbers>
-    ensures { IfSome result (AreNumbersOf row.now.parts function.now) }
+    ensures { IfSome result (AreSmallNumbersOf row.now.parts function.now) }
 {
     let CfaRule::RegisterAndOffset { register, offset } = *row.cfa() else {
         return None;

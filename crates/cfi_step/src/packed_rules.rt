@@ -77,7 +77,7 @@ pub(crate) fn packed_rules(rules: &[(Register, RegisterRule<usize>)]) -> Option<
     }
     let mut list = no_rules();
     for index in 0..rules.len() {
-        let Some(rule) = packed(rules[index].0, rules[index].1) else {
+        let Some(rule) = packed_rule(rules[index].0, rules[index].1) else {
             return None;
         };
         list[index] = rule;
@@ -86,7 +86,7 @@ pub(crate) fn packed_rules(rules: &[(Register, RegisterRule<usize>)]) -> Option<
 }
 
 /// The rule in two bytes; `None` if it is not one of these, or if a number is too large.
-fn packed(register: Register, rule: RegisterRule<usize>) -> Option<PackedRule>
+fn packed_rule(register: Register, rule: RegisterRule<usize>) -> Option<PackedRule>
     ensures { IfSome result (λ packed. pair_of packed ≡ (register, rule)) }
 {
     let Ok(register) = u8::try_from(register.0) else {

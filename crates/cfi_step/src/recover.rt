@@ -4,7 +4,8 @@ ghost use Rattle.std.specs.Prelude.{IfOk, OnErr};
 ghost use Rattle.std.specs.FinMap.{get};
 ghost use Rattle.cfi_read_core.specs.MappedInstructions.{map_expression};
 ghost use Rattle.cfi_expression.specs.Frames.{frame_view, known};
-ghost use Rattle.cfi_step.specs.Callers.{AreRecovered, by_rule, cfa_of, expression_value, given};
+ghost use Rattle.cfi_step.specs.Callers.{AreRecovered, by_rule, cfa_of, expression_value};
+ghost use Rattle.cfi_step.specs.Callers.{found_value};
 ghost use Rattle.cfi_step.specs.Callers.{is_signed, recovered, recovered_by, return_address};
 ghost use Rattle.cfi_step.specs.Callers.{saved_at, unsigned};
 
@@ -113,7 +114,7 @@ fn value_by_rule<R: Reader, Section: _UnwindSectionPrivate<R>, T: ReaderOffset, 
     cfa: u64,
     register: Register,
 ) -> Option<u64>
-    ensures { result ≡ given (by_rule (frame_view M.number_at frame.now)
+    ensures { result ≡ found_value (by_rule (frame_view M.number_at frame.now)
         (Section.view section.now).position abi.now T.number cfa register.0 rule.now) }
 {
     match *rule {

@@ -2,7 +2,7 @@
 ghost use Rattle.std.specs.Prelude.{◌≡◌, ◌*◌, IfOk, IfSome, length};
 ghost use Rattle.std.specs.List.{Contains};
 ghost use Rattle.cfi_step.specs.KeptSlots.{Keeps};
-ghost use Rattle.cfi_step.specs.PackedRows.{AreEmpty, HoldsRow, IsPackedOf, rows_in};
+ghost use Rattle.cfi_step.specs.PackedRows.{AreVacant, HoldsRow, IsPackedOf, rows_in};
 
 use crate::function::Function;
 use crate::packed_rows::PackedRow;
@@ -25,12 +25,12 @@ impl RowCache {
     ghost use Rattle.std.specs.Prelude.{◌≡◌, ◌*◌, IfOk, IfSome, length};
     ghost use Rattle.std.specs.List.{Contains};
     ghost use Rattle.cfi_step.specs.KeptSlots.{Keeps};
-    ghost use Rattle.cfi_step.specs.PackedRows.{AreEmpty, HoldsRow, IsPackedOf, rows_in};
+    ghost use Rattle.cfi_step.specs.PackedRows.{AreVacant, HoldsRow, IsPackedOf, rows_in};
 
     /// A cache for four rows in each of so many sets, without one. Fails with `OutOfMemory` if they
     /// cannot be allocated.
     pub fn new(alloc: Global, sets: usize) -> gimli_cfi::Result<RowCache>
-        ensures empty { IfOk result (λ cache. AreEmpty (rows_in cache)) }
+        ensures empty { IfOk result (λ cache. AreVacant (rows_in cache)) }
         ensures room { IfOk result (λ cache. length (rows_in cache) ≡ sets * 4) }
     {
         let Some(count) = sets.checked_mul(WAYS) else {
@@ -49,7 +49,7 @@ impl RowCache {
 
     /// Forgets all rows. Does not allocate.
     pub fn clear(&mut self)
-        ensures { AreEmpty (rows_in self.new) }
+        ensures { AreVacant (rows_in self.new) }
     {
         clear_rows(self.rows.as_mut_slice());
     }
@@ -89,7 +89,7 @@ impl RowCache {
 
 /// Forgets each row.
 fn clear_rows(rows: &mut [PackedRow])
-    ensures { AreEmpty rows.new }
+    ensures { AreVacant rows.new }
 {
     for row in rows {
         row.clear();

@@ -5,16 +5,15 @@ ghost use Rattle.cfi_unwind.specs.FdeViews.{HasCieOf, IsFdeOf, fde_view};
 ghost use Rattle.cfi_unwind.specs.Scan.{chosen_fde};
 ghost use Rattle.cfi_expression.specs.Frames.{frame_view};
 ghost use Rattle.cfi_step.specs.Callers.{AreRecovered};
-ghost use Rattle.cfi_step.specs.Slots.{KeepsRowOf};
 ghost use Rattle.cfi_step.specs.Steps.{IsStepBy, caller_by, row_address};
 
 use crate::abi::Abi;
 use crate::recover::{frame_address, recover_return_address, write_registers};
 use crate::rows::RowRules;
-use crate::slots::{NoRow, RowSlot, keep_row};
+use crate::section::PlacedSection;
 use cfi_expression::{Frame, FrameError, Memory};
 use gimli_cfi::{
-    _UnwindSectionPrivate, BaseAddresses, FrameDescriptionEntry, Reader, Register, UnwindContext,
+    _UnwindSectionPrivate, FrameDescriptionEntry, Reader, Register, UnwindContext,
     UnwindContextStorage, UnwindSection, scan_for_fde,
 };
 
@@ -93,77 +92,36 @@ pub fn step_by_fde<
     M: Memory,
 >(
     fde: &FrameDescriptionEntry<R>,
-    section: &Section,
-    bases: &BaseAddresses,
+    placed: &PlacedSection<'_, Section>,
     ctx: &mut UnwindContext<R::Offset, S>,
     address: u64,
     abi: &Abi,
     frame: &Frame<'_, M>,
     caller: &mut [Option<u64>],
 ) -> Result<Caller, FrameError>
-    requires own { IsFdeOf R.position (Section.view section.now).position fde.now }
-    requires cie { HasCieOf R.position (Section.view section.now).position fde.now }
+    requires own { IsFdeOf R.position (Section.view placed.now.section.now).position fde.now }
+    requires cie { HasCieOf R.position (Section.view placed.now.section.now).position fde.now }
     requires room { length caller.old ≤ 0x10000 }
     ensures step { IsStepBy (frame_view M.number_at frame.now)
-        (Section.view section.now).position abi.now R.Offset.number
+        (Section.view placed.now.section.now).position abi.now R.Offset.number
         S.Rules.limit S.Stack.limit S.Rules.copies_free
-        (section_of (Section.view section.now) bases.now) address
+        (section_of (Section.view placed.now.section.now) placed.now.bases.now) address
         (Ok (fde_view R.position R.Offset.number fde.now)) result caller.new }
     ensures unwritten { OnErr result (caller.new ≡ caller.old) }
 {
-    let mut none: [NoRow<R::Offset>; 0] = [];
-    step_by_kept(
-        fde, section, bases, 0, &mut none, ctx, address, abi, frame, caller,
-    )
-}
-
-/// The same with a cache of rows, where the row is kept under the number of the file.
-pub(crate) fn step_by_kept<
-    R: Reader,
-    Section: UnwindSection<R>,
-    S: UnwindContextStorage<R::Offset>,
-    K: RowSlot + RowRules<Offset = R::Offset>,
-    M: Memory,
->(
-    fde: &FrameDescriptionEntry<R>,
-    section: &Section,
-    bases: &BaseAddresses,
-    file: usize,
-    cache: &mut [K],
-    ctx: &mut UnwindContext<R::Offset, S>,
-    address: u64,
-    abi: &Abi,
-    frame: &Frame<'_, M>,
-    caller: &mut [Option<u64>],
-) -> Result<Caller, FrameError>
-    requires own { IsFdeOf R.position (Section.view section.now).position fde.now }
-    requires cie { HasCieOf R.position (Section.view section.now).position fde.now }
-    requires room { length caller.old ≤ 0x10000 }
-    ensures step { IsStepBy (frame_view M.number_at frame.now)
-        (Section.view section.now).position abi.now R.Offset.number
-        S.Rules.limit S.Stack.limit S.Rules.copies_free
-        (section_of (Section.view section.now) bases.now) address
-        (Ok (fde_view R.position R.Offset.number fde.now)) result caller.new }
-    ensures unwritten { OnErr result (caller.new ≡ caller.old) }
-    ensures kept { KeepsRowOf R.Offset.number S.Rules.limit S.Stack.limit S.Rules.copies_free
-        (section_of (Section.view section.now) bases.now) address
-        (fde_view R.position R.Offset.number fde.now) K.slot file cache.old cache.new }
-{
+    let section = placed.section;
     let return_address = fde.cie().return_address_register();
     let is_trampoline = fde.is_signal_trampoline();
-    match fde.unwind_info_for_address(section, bases, ctx, address) {
-        Ok(row) => {
-            keep_row(cache, file, address, row, return_address, is_trampoline);
-            step_by_row(
-                row,
-                section,
-                return_address,
-                is_trampoline,
-                abi,
-                frame,
-                caller,
-            )
-        }
+    match fde.unwind_info_for_address(section, placed.bases, ctx, address) {
+        Ok(row) => step_by_row(
+            row,
+            section,
+            return_address,
+            is_trampoline,
+            abi,
+            frame,
+            caller,
+        ),
         Err(error) => Err(FrameError::NoRow(error)),
     }
 }
@@ -178,8 +136,7 @@ pub fn step_by_scan<
     S: UnwindContextStorage<R::Offset>,
     M: Memory,
 >(
-    section: &Section,
-    bases: &BaseAddresses,
+    placed: &PlacedSection<'_, Section>,
     ctx: &mut UnwindContext<R::Offset, S>,
     address: u64,
     abi: &Abi,
@@ -188,15 +145,15 @@ pub fn step_by_scan<
 ) -> Result<Caller, FrameError>
     requires { length caller.old ≤ 0x10000 }
     ensures step { IsStepBy (frame_view M.number_at frame.now)
-        (Section.view section.now).position abi.now R.Offset.number
+        (Section.view placed.now.section.now).position abi.now R.Offset.number
         S.Rules.limit S.Stack.limit S.Rules.copies_free
-        (section_of (Section.view section.now) bases.now) address
-        (chosen_fde (section_of (Section.view section.now) bases.now) address)
+        (section_of (Section.view placed.now.section.now) placed.now.bases.now) address
+        (chosen_fde (section_of (Section.view placed.now.section.now) placed.now.bases.now) address)
         result caller.new }
     ensures unwritten { OnErr result (caller.new ≡ caller.old) }
 {
-    match scan_for_fde(section, bases, address) {
-        Ok(fde) => step_by_fde(&fde, section, bases, ctx, address, abi, frame, caller),
+    match scan_for_fde(placed.section, placed.bases, address) {
+        Ok(fde) => step_by_fde(&fde, placed, ctx, address, abi, frame, caller),
         Err(error) => Err(FrameError::NoRow(error)),
     }
 }

@@ -1,7 +1,7 @@
 use Rattle.std.proofs.Common.{subst, sym}
 use Rattle.std.specs.Prelude.{IfOk}
-use Rattle.gimli_cfi.specs.Words.{IsOf}
-use Rattle.gimli_cfi.proofs.Callers.{ok_answered_by}
+use Rattle.cfi_read_core.specs.CallFrameSections.{IsOf}
+use Rattle.cfi_unwind.proofs.Answered.{ok_answered_by}
 use Rattle.cfi_compiled.proofs.fdes.whole.Goals as goal
 
 pub returns-clause-cie_part : goal.returns-clause-cie_part

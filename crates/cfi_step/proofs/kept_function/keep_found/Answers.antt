@@ -12,7 +12,7 @@ pub returns-in-Ok-unwind_info_for_address : goal.returns-in-Ok-unwind_info_for_a
 returns-in-Ok-unwind_info_for_address g c =
     let view = fde_view g.R.Reader.position (λ (n : ℕ). n) in
     let row = c.in-Ok-unwind_info_for_address in
-    let section = section_of (g.Section._UnwindSectionPrivate.view c.args.section.now) c.args.bases.now in
+    let section = section_of (g.Section._UnwindSectionPrivate.view c.args.placed.now.section.now) c.args.placed.now.bases.now in
     subst
     (λ (found : Result Fde Error). KeepsFound g.S.Rules.ArrayLike.limit g.S-Stack-ArrayLike.limit g.S.Rules.CopyList.copies_free section c.args.address found c.args.file (rows_in c.args.cache.now) (rows_in c.keep.new.self))
     (sym (ap (map_ok view) c.in-Ok.is))
@@ -21,10 +21,10 @@ returns-in-Ok-unwind_info_for_address g c =
 
 pub returns-in-Err : goal.returns-in-Err
 returns-in-Err g c =
-    keeps_none g.S.Rules.ArrayLike.limit g.S-Stack-ArrayLike.limit g.S.Rules.CopyList.copies_free (section_of (g.Section._UnwindSectionPrivate.view c.args.section.now) c.args.bases.now) c.args.address
+    keeps_none g.S.Rules.ArrayLike.limit g.S-Stack-ArrayLike.limit g.S.Rules.CopyList.copies_free (section_of (g.Section._UnwindSectionPrivate.view c.args.placed.now.section.now) c.args.placed.now.bases.now) c.args.address
     (map_ok (fde_view g.R.Reader.position (λ (n : ℕ). n)) c.args.found) c.args.file (rows_in c.args.cache.now)
 
 pub returns-in_default : goal.returns-in_default
 returns-in_default g c =
-    keeps_none g.S.Rules.ArrayLike.limit g.S-Stack-ArrayLike.limit g.S.Rules.CopyList.copies_free (section_of (g.Section._UnwindSectionPrivate.view c.args.section.now) c.args.bases.now) c.args.address
+    keeps_none g.S.Rules.ArrayLike.limit g.S-Stack-ArrayLike.limit g.S.Rules.CopyList.copies_free (section_of (g.Section._UnwindSectionPrivate.view c.args.placed.now.section.now) c.args.placed.now.bases.now) c.args.address
     (map_ok (fde_view g.R.Reader.position (λ (n : ℕ). n)) c.args.found) c.args.file (rows_in c.args.cache.now)

@@ -1,6 +1,6 @@
 use Rattle.std.proofs.Common.{◌≤◌, ◌<◌, List, length, sym, ap, subst, ◌∙◌, ⊎_elim, arith}
 use Rattle.cfi_compiled.specs.declared.step_list.NumberedStep.{NumberedStep}
-use Rattle.cfi_compiled.specs.CompiledTables.{IsSound, TableContents, frame_at, frame_numbered, results_of, steps_of}
+use Rattle.cfi_compiled.specs.CompiledTables.{IsSoundTable, TableContents, frame_at, frame_numbered, results_of, steps_of}
 use Rattle.cfi_compiled.specs.KeptRows.{results_in}
 use Rattle.cfi_compiled.specs.Steps.{free_from}
 use Rattle.cfi_compiled.proofs.Searched.{ascends}
@@ -33,7 +33,7 @@ invariant_of-self-in_err-push c =
     let free = subst (λ (f : TableContents). free_from 0 (steps_of f) ≤ c.args.from) (sym c.self.view_is) c.requires.free in
     let within = subst (λ (f : TableContents). c.args.number < length (results_of f)) (sym c.self.view_is) c.requires.number in
     let pushed = rise_pushed results results (unchanged results) _ c.self.invariant.rise c.self.invariant.numbers (record { start = c.args.from; number = c.args.number }) free within in
-    let sound = λ (n : List NumberedStep). IsSound (record { lists = c.self.inside.rests; rows = rows; numbers = n }) in
+    let sound = λ (n : List NumberedStep). IsSoundTable (record { lists = c.self.inside.rests; rows = rows; numbers = n }) in
     ⊎_elim
     (λ same. subst sound (sym same) c.self.invariant)
     (λ more. subst sound (sym more) (record { rise = pushed.0; numbers = pushed.1; named = c.self.invariant.named }))
