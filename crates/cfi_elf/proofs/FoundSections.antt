@@ -6,7 +6,7 @@ use Rattle.std.proofs.lemmas.Slice.Eq.{bytes_eq-Decides}
 use Rattle.cfi_elf.specs.declared.error.ElfError.{ElfError}
 use Rattle.cfi_elf.specs.declared.section_header.SectionHeader.{SectionHeader}
 use Rattle.cfi_elf.specs.ElfFiles.{File}
-use Rattle.cfi_elf.specs.FoundSections.{HasName, IsFirst, IsFoundIn}
+use Rattle.cfi_elf.specs.FoundSections.{HasName, IsFirstNamed, IsFoundIn}
 use Rattle.cfi_elf.specs.Results.{and_then}
 use Rattle.cfi_elf.specs.Searches.{first_by, if_passed}
 use Rattle.cfi_elf.specs.Sections.{Section, header_named, is_named}
@@ -97,7 +97,7 @@ module _ (file : File) (table names name : List ℕ) (tables : section_table fil
   searched = rw (tables, strings) refl
 
   pub first_found : (header : SectionHeader) (section : Section) → Ok (Some header) ≡ header_named file name → section.address ≡ header.sh_addr → Ok section.bytes ≡ contents file header →
-      IsFirst file table names name section
+      IsFirstNamed file table names name section
   first_found header section found address bytes =
       let first = first_is (is_named names name) (section_headers file table) header (sym searched ∙ sym found) in record {
         index = first.index;

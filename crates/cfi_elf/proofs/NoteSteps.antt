@@ -7,7 +7,7 @@ use Rattle.std.proofs.lemmas.List.{length-drop}
 use Rattle.cfi_elf.specs.declared.error.ElfError.{ElfError}
 use Rattle.cfi_elf.specs.declared.notes.NoteHeader.{NoteHeader}
 use Rattle.cfi_elf.specs.Fields.{first_bytes, until_zero}
-use Rattle.cfi_elf.specs.Notes.{First, Note, Notes, cut_item, first_note, items, no_notes, note_by, note_header, notes_of, notes_up_to, notes_with, padded, with_first}
+use Rattle.cfi_elf.specs.Notes.{FirstNote, Note, Notes, cut_item, first_note, note_items, no_notes, note_by, note_header, notes_of, notes_up_to, notes_with, padded, with_first_note}
 use Rattle.cfi_elf.specs.BuildIds.{is_build_id}
 
 -- ---- a note takes a byte at least
@@ -16,20 +16,20 @@ not_none : {A : Type 0} (b : Bool) (o : Option A) (x : A) → (if b then None el
 not_none true o x is = absurd (cc)
 not_none false o x is = (refl, is)
 
-same_others : (o o' : Option (List ℕ)) (note : List ℕ → List ℕ → Note) (others : List ℕ) (found : First) →
+same_others : (o o' : Option (List ℕ)) (note : List ℕ → List ℕ → Note) (others : List ℕ) (found : FirstNote) →
     option_and_then (λ name. option_map (λ desc. record { note = note name desc; others = others }) o') o ≡ Some found → others ≡ found.others
 same_others None o' note others found is = absurd (cc)
 same_others (Some name) None note others found is = absurd (cc)
 same_others (Some name) (Some desc) note others found is = others_of is
   where
-    behind : Option First → List ℕ
+    behind : Option FirstNote → List ℕ
     behind None = []
     behind (Some f) = f.others
 
-    others_of : ◌≡◌ {A = Option First} (Some (record { note = note name desc; others = others })) (Some found) → others ≡ found.others
+    others_of : ◌≡◌ {A = Option FirstNote} (Some (record { note = note name desc; others = others })) (Some found) → others ≡ found.others
     others_of e = ap behind e
 
-by_fewer : (header : NoteHeader) (names : List ℕ) (found : First) → note_by header names ≡ Some found → length found.others ≤ length names
+by_fewer : (header : NoteHeader) (names : List ℕ) (found : FirstNote) → note_by header names ≡ Some found → length found.others ≤ length names
 by_fewer header names found is =
     let descs = drop (padded header.n_namesz) names in
     let others = drop (padded header.n_descsz) descs in
@@ -40,7 +40,7 @@ by_fewer header names found is =
     omega (arith, count, less, less')
 
 module _ (big : Bool) where
-  fewer : (bytes : List ℕ) (found : First) → first_note big bytes ≡ Some found → length found.others < length bytes
+  fewer : (bytes : List ℕ) (found : FirstNote) → first_note big bytes ≡ Some found → length found.others < length bytes
   unfolding first_note
   fewer bytes found is =
       let large = not_none (nat_lt (length bytes) 12) (note_by (note_header big bytes) (drop 12 bytes)) found is in
@@ -51,9 +51,9 @@ module _ (big : Bool) where
 
   -- ---- as many steps as there are bytes are enough
 
-  with_same : (o : Option First) (f g : List ℕ → Notes) → ((found : First) → o ≡ Some found → f found.others ≡ g found.others) → notes_with o f ≡ notes_with o g
+  with_same : (o : Option FirstNote) (f g : List ℕ → Notes) → ((found : FirstNote) → o ≡ Some found → f found.others ≡ g found.others) → notes_with o f ≡ notes_with o g
   with_same None f g h = refl
-  with_same (Some found) f g h = ap (with_first found.note) (h found refl)
+  with_same (Some found) f g h = ap (with_first_note found.note) (h found refl)
 
   no_bytes : (bytes : List ℕ) (others : Notes) → length bytes ≤ 0 → (if length bytes == 0 then no_notes false else others) ≡ no_notes false
   no_bytes bytes others none = let e : length bytes ≡ 0 = omega arith in rw e refl
@@ -81,13 +81,13 @@ module _ (big : Bool) where
   pub none_met : (bytes : List ℕ) → (length bytes == 0) ≡ true → notes_of big bytes ≡ no_notes false
   none_met bytes none = step bytes ∙ ap (λ (b : Bool). if b then no_notes false else notes_with (first_note big bytes) (notes_of big)) none
 
-  met : (bytes : List ℕ) (o : Option First) → (length bytes == 0) ≡ false → o ≡ first_note big bytes → notes_of big bytes ≡ notes_with o (notes_of big)
+  met : (bytes : List ℕ) (o : Option FirstNote) → (length bytes == 0) ≡ false → o ≡ first_note big bytes → notes_of big bytes ≡ notes_with o (notes_of big)
   met bytes o some is =
       step bytes
       ∙ (ap (λ (b : Bool). if b then no_notes false else notes_with (first_note big bytes) (notes_of big)) some
-      ∙ ap (λ (o : Option First). notes_with o (notes_of big)) (sym is))
+      ∙ ap (λ (o : Option FirstNote). notes_with o (notes_of big)) (sym is))
 
-  pub first_met : (bytes : List ℕ) (found : First) → (length bytes == 0) ≡ false → Some found ≡ first_note big bytes → notes_of big bytes ≡ with_first found.note (notes_of big found.others)
+  pub first_met : (bytes : List ℕ) (found : FirstNote) → (length bytes == 0) ≡ false → Some found ≡ first_note big bytes → notes_of big bytes ≡ with_first_note found.note (notes_of big found.others)
   first_met bytes found some is = met bytes (Some found) some is
 
   pub cut_met : (bytes : List ℕ) → (length bytes == 0) ≡ false → None ≡ first_note big bytes → notes_of big bytes ≡ no_notes true
@@ -114,22 +114,22 @@ one_list (n ∷ ns) [] x true e = absurd cc
 one_list (n ∷ ns) (m ∷ ms) x y e =
     let first : n ≡ m = cc in
     let rest : items_of ns x ≡ items_of ms y = cc in
-    ap₂ with_first first (one_list ns ms x y rest)
+    ap₂ with_first_note first (one_list ns ms x y rest)
 
 -- a note comes first
-pub first_is : (old new : Notes) (note : Note) → items old ≡ Ok note ∷ items new → old ≡ with_first note new
+pub first_is : (old new : Notes) (note : Note) → note_items old ≡ Ok note ∷ note_items new → old ≡ with_first_note note new
 first_is old new note e = one_list old.notes (note ∷ new.notes) old.is_cut new.is_cut e
 
 -- or the error, which ends them
-pub error_is : (old new : Notes) (error : ElfError) → items old ≡ Err error ∷ items new → old ≡ no_notes true
+pub error_is : (old new : Notes) (error : ElfError) → note_items old ≡ Err error ∷ note_items new → old ≡ no_notes true
 error_is old new error e = by old.notes old.is_cut e
   where
-    by : (ns : List Note) (x : Bool) → items_of ns x ≡ Err error ∷ items new → all_of ns x ≡ no_notes true
+    by : (ns : List Note) (x : Bool) → items_of ns x ≡ Err error ∷ note_items new → all_of ns x ≡ no_notes true
     by [] false e = absurd cc
     by [] true e = refl
     by (n ∷ ns) x e = absurd cc
 
-pub none_are : (old : Notes) → items old ≡ [] → old ≡ no_notes false
+pub none_are : (old : Notes) → note_items old ≡ [] → old ≡ no_notes false
 none_are old e = one_list old.notes [] old.is_cut false e
 
 -- ---- the note with an identification of the file's build
@@ -137,21 +137,21 @@ none_are old e = one_list old.notes [] old.is_cut false e
 abbrev id_among : Notes → Option (List ℕ)
 id_among all = option_map (λ note. note.desc) (find is_build_id all.notes)
 
-by_first : (note : Note) (others : Notes) (b : Bool) → is_build_id note ≡ b → id_among (with_first note others) ≡ (if b then Some note.desc else id_among others)
+by_first : (note : Note) (others : Notes) (b : Bool) → is_build_id note ≡ b → id_among (with_first_note note others) ≡ (if b then Some note.desc else id_among others)
 by_first note others b is = by b is
   where
-    by : (b : Bool) → is_build_id note ≡ b → id_among (with_first note others) ≡ (if b then Some note.desc else id_among others)
+    by : (b : Bool) → is_build_id note ≡ b → id_among (with_first_note note others) ≡ (if b then Some note.desc else id_among others)
     by true e = rw e refl
     by false e = rw e refl
 
-pub id_found : (old new : Notes) (note : Note) → items old ≡ Ok note ∷ items new → is_build_id note ≡ true → Some note.desc ≡ id_among old
+pub id_found : (old new : Notes) (note : Note) → note_items old ≡ Ok note ∷ note_items new → is_build_id note ≡ true → Some note.desc ≡ id_among old
 id_found old new note e is = sym (ap id_among (first_is old new note e) ∙ by_first note new true is)
 
-pub id_not_yet : (old new : Notes) (note : Note) → items old ≡ Ok note ∷ items new → is_build_id note ≡ false → id_among new ≡ id_among old
+pub id_not_yet : (old new : Notes) (note : Note) → note_items old ≡ Ok note ∷ note_items new → is_build_id note ≡ false → id_among new ≡ id_among old
 id_not_yet old new note e is = sym (ap id_among (first_is old new note e) ∙ by_first note new false is)
 
-pub no_id_cut : (old new : Notes) (error : ElfError) → items old ≡ Err error ∷ items new → None ≡ id_among old
+pub no_id_cut : (old new : Notes) (error : ElfError) → note_items old ≡ Err error ∷ note_items new → None ≡ id_among old
 no_id_cut old new error e = sym (ap id_among (error_is old new error e))
 
-pub no_id_left : (old : Notes) → items old ≡ [] → None ≡ id_among old
+pub no_id_left : (old : Notes) → note_items old ≡ [] → None ≡ id_among old
 no_id_left old e = sym (ap id_among (none_are old e))

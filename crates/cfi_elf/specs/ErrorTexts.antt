@@ -62,9 +62,9 @@ number_of_elf (UnknownRelocation kind) = Some kind
 number_of_elf (NoRelocationSymbol index) = Some index
 number_of_elf _ = None
 
-abbrev pub number_text : Option ℕ → List ℕ
-number_text None = []
-number_text (Some n) = decimal n
+abbrev pub optional_decimal : Option ℕ → List ℕ
+optional_decimal None = []
+optional_decimal (Some n) = decimal n
 
 abbrev pub text_of_elf : ElfError → List ℕ
-text_of_elf error = sentence_of_elf error ++ number_text (number_of_elf error)
+text_of_elf error = sentence_of_elf error ++ optional_decimal (number_of_elf error)

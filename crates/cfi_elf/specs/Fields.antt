@@ -1,32 +1,20 @@
 -- Bytes, and records of them whose fields have names.
---     part bytes offset size      size bytes from an offset on, if there are so many
 --     first_bytes n bytes      the first n bytes, if there are so many
---     before_zero bytes      the bytes before the first zero, if there is one
---     until_zero bytes      the same, or all where there is none
+--     until_zero bytes      the bytes before the first zero, or all where there is none
 --     number_at big bytes offset width      the number that so many bytes from an offset on are
 --     field big bytes fields name      the number in the field of this name
 --     entries size bytes      the records of one size in a table, as many as fit it whole
 use Rattle.std.specs.Prelude.{ℕ, ◌+◌, ◌*◌, ◌/◌, Bool, List, length, take, map, find, Option, Some}
-use Rattle.std.specs.Prelude.{None, option_map, position, nat_le, ◌==◌, bytes_eq, slice_range}
-use Rattle.std.specs.Prelude.{sum_by, if◌then◌else◌}
+use Rattle.std.specs.Prelude.{None, nat_le, bytes_eq, slice_range, sum_by, if◌then◌else◌}
 use Rattle.std.specs.Int.{Width, byte_len}
 use Rattle.std.specs.List.{range_with_len}
+pub use Rattle.cfi_read_core.specs.Bytes.{before_zero, part}
 use Rattle.cfi_read_core.specs.Numbers.{number_of}
 use Rattle.cfi_elf.specs.Options.{or_this}
-
-abbrev pub part : List ℕ → ℕ → ℕ → Option (List ℕ)
-part bytes offset size =
-    if nat_le (offset + size) (length bytes)
-    then Some (slice_range bytes offset (offset + size))
-    else None
 
 abbrev pub first_bytes : ℕ → List ℕ → Option (List ℕ)
 first_bytes n bytes = if nat_le n (length bytes) then Some (take n bytes) else None
 
-abbrev pub before_zero : List ℕ → Option (List ℕ)
-before_zero bytes = option_map (λ n. take n bytes) (position (λ x. x == 0) bytes)
-
--- the same, or all where there is none
 abbrev pub until_zero : List ℕ → List ℕ
 until_zero bytes = or_this bytes (before_zero bytes)
 

@@ -1,6 +1,7 @@
 -- Which section a name finds, by the indices of section headers.
 --     HasName names name header      it is the header of a section, and the name of that is this
---     IsFirst file table names name section      the section of the first header that has the name
+--     IsFirstNamed file table names name section      the section of the first header that has
+--         the name
 --     FindsSection file name found      where the headers and the names of sections can be read:
 --         the section of the first header that has the name, or none where no header has it
 use Rattle.std.specs.Prelude.{◌≡◌, ◌≢◌, ◌<◌, ℕ, List, Option, Some, None, Ok, slice_get}
@@ -15,7 +16,7 @@ use Rattle.cfi_elf.specs.SectionTables.{section_headers, section_table}
 abbrev pub HasName : List ℕ → List ℕ → SectionHeader → Type 0
 HasName names name header = (header.sh_type ≢ 0) × (name_at names header.sh_name ≡ Ok name)
 
-pub record IsFirst (file : File) (table names name : List ℕ) (section : Section) : Type 0 where
+pub record IsFirstNamed (file : File) (table names name : List ℕ) (section : Section) : Type 0 where
   pub index : ℕ
   pub header : SectionHeader
   pub at_index : slice_get (section_headers file table) index ≡ Some header
@@ -27,7 +28,7 @@ pub record IsFirst (file : File) (table names name : List ℕ) (section : Sectio
   pub bytes_are : contents file header ≡ Ok section.bytes
 
 abbrev pub IsFoundIn : File → List ℕ → List ℕ → List ℕ → Option Section → Type 0
-IsFoundIn file table names name (Some section) = IsFirst file table names name section
+IsFoundIn file table names name (Some section) = IsFirstNamed file table names name section
 IsFoundIn file table names name None =
     (j : ℕ) (header : SectionHeader) → slice_get (section_headers file table) j ≡ Some header →
     HasName names name header → ⊥

@@ -40,15 +40,15 @@ abbrev pub padded : ℕ → ℕ
 padded n = (n + 3) / 4 * 4
 
 -- The first note, and the bytes that follow.
-pub record First : Type 0 where
+pub record FirstNote : Type 0 where
   pub note : Note
   pub others : List ℕ
 
-abbrev pub first_view : FirstOfCode → First
+abbrev pub first_view : FirstOfCode → FirstNote
 first_view f = record { note = note_view f.note; others = f.others.now }
 
 -- the name, the bytes that pad it, what the note says, and what pads that, which may be cut
-abbrev pub note_by : NoteHeader → List ℕ → Option First
+abbrev pub note_by : NoteHeader → List ℕ → Option FirstNote
 note_by header names =
     let descs = drop (padded header.n_namesz) names in
     option_and_then (λ name. option_map (λ desc. record {
@@ -57,7 +57,7 @@ note_by header names =
     }) (first_bytes header.n_descsz descs)) (first_bytes header.n_namesz names)
 
 -- the header has twelve bytes
-unfoldable pub first_note : Bool → List ℕ → Option First
+unfoldable pub first_note : Bool → List ℕ → Option FirstNote
 first_note big bytes =
     if nat_lt (length bytes) 12 then None
     else note_by (note_header big bytes) (drop 12 bytes)
@@ -72,13 +72,13 @@ pub record Notes : Type 0 where
 abbrev pub no_notes : Bool → Notes
 no_notes is_cut = record { notes = []; is_cut = is_cut }
 
-abbrev pub with_first : Note → Notes → Notes
-with_first note others = record { notes = note ∷ others.notes; is_cut = others.is_cut }
+abbrev pub with_first_note : Note → Notes → Notes
+with_first_note note others = record { notes = note ∷ others.notes; is_cut = others.is_cut }
 
 -- the first note, and those of the bytes that follow
-abbrev pub notes_with : Option First → (List ℕ → Notes) → Notes
+abbrev pub notes_with : Option FirstNote → (List ℕ → Notes) → Notes
 notes_with None others = no_notes true
-notes_with (Some found) others = with_first found.note (others found.others)
+notes_with (Some found) others = with_first_note found.note (others found.others)
 
 -- at most n
 unfoldable pub notes_up_to : ℕ → Bool → List ℕ → Notes
@@ -98,16 +98,16 @@ cut_item true = Err NoteCut ∷ []
 cut_item false = []
 
 -- each note, and the error
-abbrev pub items : Notes → List (Result Note ElfError)
-items all = map Ok all.notes ++ cut_item all.is_cut
+abbrev pub note_items : Notes → List (Result Note ElfError)
+note_items all = map Ok all.notes ++ cut_item all.is_cut
 
 abbrev pub notes_left : NotesOfCode → Notes
 notes_left walk = notes_of walk.big_endian walk.bytes.now
 
 -- What `next` returned: the first of the notes that were left, or the error that ends them. After
 -- an error none are left.
-abbrev pub Meets : Result (Option Note) ElfError → Notes → Notes → Type 0
-Meets (Ok None) old new = (old ≡ no_notes false) × (new ≡ no_notes false)
-Meets (Ok (Some note)) old new = old ≡ with_first note new
-Meets (Err e) old new =
+abbrev pub IsNextNote : Result (Option Note) ElfError → Notes → Notes → Type 0
+IsNextNote (Ok None) old new = (old ≡ no_notes false) × (new ≡ no_notes false)
+IsNextNote (Ok (Some note)) old new = old ≡ with_first_note note new
+IsNextNote (Err e) old new =
     (e ≡ NoteCut) × (old ≡ no_notes true) × (new ≡ no_notes false)

@@ -15,20 +15,25 @@ abbrev pub sign_extended : ℕ → ℕ
 sign_extended number =
     if nat_lt number 0x80000000 then number else number + 0xffffffff00000000
 
+-- the addend in two's complement
+abbrev pub addend_of : Class → ℕ → ℕ
+addend_of class addend = by_class class (sign_extended addend) addend
+
 -- ELF32_R_SYM and ELF32_R_TYPE, ELF64_R_SYM and ELF64_R_TYPE: r_info has the type in its low 8 bits
 -- or in its low 32
+abbrev pub types : Class → ℕ
+types class = by_class class 0x100 0x100000000
+
 abbrev pub relocation : Class → Bool → Bool → List ℕ → Relocation
 relocation class has_addend big bytes =
     let value = field big bytes (relocation_fields class has_addend) in
     let info = value (codes "r_info") in
-    let types = by_class class 0x100 0x100000000 in
-    let addend = value (codes "r_addend") in
     record {
       r_offset = value (codes "r_offset");
-      symbol = info / types;
-      kind = info % types;
+      symbol = info / types class;
+      kind = info % types class;
       r_addend =
-          if has_addend then Some (by_class class (sign_extended addend) addend) else None;
+          if has_addend then Some (addend_of class (value (codes "r_addend"))) else None;
     }
 
 abbrev pub relocations : File → Bool → List ℕ → List Relocation

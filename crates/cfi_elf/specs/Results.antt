@@ -1,11 +1,7 @@
 -- Results one after the other.
 use Rattle.std.specs.Prelude.{Bool, List, [], ◌∷◌, Option, Some, None, Result, Ok, Err}
 use Rattle.std.specs.Prelude.{if◌then◌else◌}
-
--- the first error, or what comes of the value
-abbrev pub and_then : {A B E : Type 0} → Result A E → (A → Result B E) → Result B E
-and_then (Ok x) next = next x
-and_then (Err e) next = Err e
+pub use Rattle.cfi_read_core.specs.Results.{and_then}
 
 -- this error where there is nothing
 abbrev pub or_missing : {A E : Type 0} → E → Option A → Result A E

@@ -2,13 +2,13 @@
 ghost use Rattle.std.specs.Prelude.{◌≡◌, ◌≤◌, length};
 ghost use Rattle.cfi_elf.specs.declared.error.ElfError.TheVariants.{UnknownClass};
 ghost use Rattle.cfi_elf.specs.declared.error.ElfError.TheVariants.{UnknownDataEncoding};
-ghost use Rattle.cfi_elf.specs.declared.file_header.Class.TheVariants.{Elf32, Elf64};
 ghost use Rattle.cfi_elf.specs.ElfFiles.{byte_orders, classes, identification};
 ghost use Rattle.cfi_elf.specs.Headers.{file_header, file_header_bytes};
 ghost use Rattle.cfi_elf.specs.Options.{meaning};
 ghost use Rattle.cfi_elf.specs.Results.{or_missing};
 
 use crate::bytes::Record;
+use crate::class_fields::by_class;
 use crate::constants::EV_CURRENT;
 use crate::error::ElfError;
 use cfi_read_core::RunTimeEndian;
@@ -130,17 +130,6 @@ pub(crate) fn parse_file_header(class: Class, fields: Record<'_>) -> FileHeader
     requires { file_header_bytes class ≤ length fields.bytes.now }
     ensures { result ≡ file_header class fields.entry.big_endian fields.entry.bytes.now }
 {
-    match class {
-        Class::Elf32 => file_header_32(fields),
-        Class::Elf64 => file_header_64(fields),
-    }
-}
-
-/// That of a file of 32 bits.
-fn file_header_32(fields: Record<'_>) -> FileHeader
-    requires { 52 ≤ length fields.bytes.now }
-    ensures { result ≡ file_header Elf32 fields.entry.big_endian fields.entry.bytes.now }
-{
     FileHeader {
         kind: ObjectKind {
             e_type: fields.half(16),
@@ -148,40 +137,15 @@ fn file_header_32(fields: Record<'_>) -> FileHeader
             e_version: fields.word(20),
         },
         offsets: TableOffsets {
-            e_phoff: u64::from(fields.word(28)),
-            e_shoff: u64::from(fields.word(32)),
+            e_phoff: fields.widened(class, 28, 32),
+            e_shoff: fields.widened(class, 32, 40),
         },
         sizes: TableSizes {
-            e_phentsize: fields.half(42),
-            e_phnum: fields.half(44),
-            e_shentsize: fields.half(46),
-            e_shnum: fields.half(48),
-            e_shstrndx: fields.half(50),
-        },
-    }
-}
-
-/// That of a file of 64 bits.
-fn file_header_64(fields: Record<'_>) -> FileHeader
-    requires { 64 ≤ length fields.bytes.now }
-    ensures { result ≡ file_header Elf64 fields.entry.big_endian fields.entry.bytes.now }
-{
-    FileHeader {
-        kind: ObjectKind {
-            e_type: fields.half(16),
-            e_machine: fields.half(18),
-            e_version: fields.word(20),
-        },
-        offsets: TableOffsets {
-            e_phoff: fields.xword(32),
-            e_shoff: fields.xword(40),
-        },
-        sizes: TableSizes {
-            e_phentsize: fields.half(54),
-            e_phnum: fields.half(56),
-            e_shentsize: fields.half(58),
-            e_shnum: fields.half(60),
-            e_shstrndx: fields.half(62),
+            e_phentsize: fields.half(by_class(class, 42, 54)),
+            e_phnum: fields.half(by_class(class, 44, 56)),
+            e_shentsize: fields.half(by_class(class, 46, 58)),
+            e_shnum: fields.half(by_class(class, 48, 60)),
+            e_shstrndx: fields.half(by_class(class, 50, 62)),
         },
     }
 }

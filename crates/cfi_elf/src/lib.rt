@@ -15,6 +15,7 @@ mod best_name;
 mod build_id;
 pub mod bytes;
 pub mod checksum;
+mod class_fields;
 pub mod constants;
 pub mod debug_link;
 pub mod elf_file;

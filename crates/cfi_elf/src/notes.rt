@@ -2,7 +2,7 @@
 ghost use Rattle.std.specs.Prelude.{◌≡◌, ◌≤◌, ⊤, length, option_map};
 ghost use Rattle.cfi_read_core.specs.ByteOrder.{is_big};
 ghost use Rattle.cfi_read_core.specs.ReaderCalls.{map_ok};
-ghost use Rattle.cfi_elf.specs.Notes.{Meets, first_note, first_view, note_header, note_view};
+ghost use Rattle.cfi_elf.specs.Notes.{IsNextNote, first_note, first_view, note_header, note_view};
 ghost use Rattle.cfi_elf.specs.Notes.{notes_left, notes_of, padded};
 
 use crate::bytes::{Record, bytes_from, first_bytes, until_zero};
@@ -71,7 +71,7 @@ impl<'input> Notes<'input> {
     /// Fails with `NoteCut` where what is left is no whole note; after that it returns `None`. Does
     /// not allocate.
     pub fn next(&mut self) -> Result<Option<Note<'input>>, ElfError>
-        ensures { Meets (map_ok (option_map note_view) result)
+        ensures { IsNextNote (map_ok (option_map note_view) result)
             (notes_left self.old) (notes_left self.new) }
     {
         if self.bytes.is_empty() {
@@ -92,13 +92,13 @@ impl<'input> Notes<'input> {
 
 impl<'input> Iterator for Notes<'input> {
     ghost use Rattle.std.specs.Iterator.{YieldsFirstBy, item_count};
-    ghost use Rattle.cfi_elf.specs.Notes.{items};
+    ghost use Rattle.cfi_elf.specs.Notes.{note_items};
 
     type Item = Result<Note<'input>, ElfError>;
 
-    ghost next_gives = { YieldsFirstBy (map_ok note_view) (λ walk. items (notes_left walk)) };
+    ghost next_gives = { YieldsFirstBy (map_ok note_view) (λ walk. note_items (notes_left walk)) };
 
-    ghost remaining = { item_count (λ walk. items (notes_left walk)) };
+    ghost remaining = { item_count (λ walk. note_items (notes_left walk)) };
 
     #[inline(always)]
     fn next(&mut self) -> Option<Result<Note<'input>, ElfError>> {

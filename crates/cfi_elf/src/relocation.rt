@@ -1,8 +1,8 @@
 //! The relocations of a section (System V ABI chapter 4, "Relocation").
-ghost use Rattle.std.specs.Prelude.{◌≡◌, ◌<◌, ◌≤◌, length, true, false, slice_get};
-ghost use Rattle.cfi_elf.specs.declared.file_header.Class.TheVariants.{Elf32, Elf64};
-ghost use Rattle.cfi_elf.specs.Relocations.{relocation, relocation_bytes, sign_extended};
-ghost use Rattle.cfi_elf.specs.Relocations.{relocations};
+ghost use Rattle.std.specs.Prelude.{◌≡◌, ◌<◌, ◌≤◌, ◌/◌, ◌%◌, length, slice_get};
+ghost use Rattle.cfi_elf.specs.Layouts.{by_class};
+ghost use Rattle.cfi_elf.specs.Relocations.{addend_of, relocation, relocation_bytes, relocations};
+ghost use Rattle.cfi_elf.specs.Relocations.{sign_extended, types};
 ghost use Rattle.cfi_elf.specs.ElfFiles.{file_view};
 
 use crate::bytes::{Record, entry};
@@ -50,84 +50,46 @@ pub(crate) fn relocation_size(class: Class, has_addend: bool) -> u64
     }
 }
 
-/// The relocation in these bytes.
+/// The relocation in these bytes: `Elf32_Rel` or `Elf64_Rel`, or with an addend `Elf32_Rela` or
+/// `Elf64_Rela`.
 pub(crate) fn parse_relocation(class: Class, has_addend: bool, fields: Record<'_>) -> Relocation
     requires { relocation_bytes class has_addend ≤ length fields.bytes.now }
     ensures { result
         ≡ relocation class has_addend fields.entry.big_endian fields.entry.bytes.now }
 {
+    let (symbol, kind) = parse_info(class, fields.widened(class, 4, 8));
+    let r_addend = if has_addend {
+        Some(addend_of(class, fields.widened(class, 8, 16)))
+    } else {
+        None
+    };
+    Relocation {
+        r_offset: fields.widened(class, 0, 0),
+        symbol,
+        kind,
+        r_addend,
+    }
+}
+
+/// The symbol and the type that `r_info` has.
+fn parse_info(class: Class, info: u64) -> (u32, u32)
+    requires { info < by_class class 0x100000000 0x10000000000000000 }
+    ensures { result ≡ (info / types class, info % types class) }
+{
     match class {
-        Class::Elf32 => {
-            if has_addend {
-                rela_32(fields)
-            } else {
-                rel_32(fields)
-            }
-        }
-        Class::Elf64 => {
-            if has_addend {
-                rela_64(fields)
-            } else {
-                rel_64(fields)
-            }
-        }
+        Class::Elf32 => ((info / 0x100) as u32, (info % 0x100) as u32),
+        Class::Elf64 => ((info / 0x1_0000_0000) as u32, (info % 0x1_0000_0000) as u32),
     }
 }
 
-/// That of a file of 32 bits, without an addend (`Elf32_Rel`).
-fn rel_32(fields: Record<'_>) -> Relocation
-    requires { 8 ≤ length fields.bytes.now }
-    ensures { result ≡ relocation Elf32 false fields.entry.big_endian fields.entry.bytes.now }
+/// The addend in two's complement of 64 bits.
+fn addend_of(class: Class, addend: u64) -> u64
+    requires { addend < by_class class 0x100000000 0x10000000000000000 }
+    ensures { result ≡ addend_of class addend }
 {
-    let info = fields.word(4);
-    Relocation {
-        r_offset: u64::from(fields.word(0)),
-        symbol: info / 0x100,
-        kind: info % 0x100,
-        r_addend: None,
-    }
-}
-
-/// That of a file of 32 bits, with an addend (`Elf32_Rela`).
-fn rela_32(fields: Record<'_>) -> Relocation
-    requires { 12 ≤ length fields.bytes.now }
-    ensures { result ≡ relocation Elf32 true fields.entry.big_endian fields.entry.bytes.now }
-{
-    let info = fields.word(4);
-    let addend = sign_extended(fields.word(8));
-    Relocation {
-        r_offset: u64::from(fields.word(0)),
-        symbol: info / 0x100,
-        kind: info % 0x100,
-        r_addend: Some(addend),
-    }
-}
-
-/// That of a file of 64 bits, without an addend (`Elf64_Rel`).
-fn rel_64(fields: Record<'_>) -> Relocation
-    requires { 16 ≤ length fields.bytes.now }
-    ensures { result ≡ relocation Elf64 false fields.entry.big_endian fields.entry.bytes.now }
-{
-    let info = fields.xword(8);
-    Relocation {
-        r_offset: fields.xword(0),
-        symbol: (info / 0x1_0000_0000) as u32,
-        kind: (info % 0x1_0000_0000) as u32,
-        r_addend: None,
-    }
-}
-
-/// That of a file of 64 bits, with an addend (`Elf64_Rela`).
-fn rela_64(fields: Record<'_>) -> Relocation
-    requires { 24 ≤ length fields.bytes.now }
-    ensures { result ≡ relocation Elf64 true fields.entry.big_endian fields.entry.bytes.now }
-{
-    let info = fields.xword(8);
-    Relocation {
-        r_offset: fields.xword(0),
-        symbol: (info / 0x1_0000_0000) as u32,
-        kind: (info % 0x1_0000_0000) as u32,
-        r_addend: Some(fields.xword(16)),
+    match class {
+        Class::Elf32 => sign_extended(addend as u32),
+        Class::Elf64 => addend,
     }
 }
 

@@ -1,9 +1,9 @@
 //! Section headers (System V ABI chapter 4, "Section Header").
 ghost use Rattle.std.specs.Prelude.{◌≡◌, ◌<◌, ◌≤◌, length};
-ghost use Rattle.cfi_elf.specs.declared.file_header.Class.TheVariants.{Elf32, Elf64};
 ghost use Rattle.cfi_elf.specs.Headers.{section_header, section_header_bytes};
 
 use crate::bytes::Record;
+use crate::class_fields::by_class;
 use crate::file_header::Class;
 
 /// A section header: what a section is, its address, where it is in the file, and what it is linked
@@ -39,44 +39,14 @@ pub(crate) fn parse_section_header(class: Class, fields: Record<'_>) -> SectionH
     requires { section_header_bytes class ≤ length fields.bytes.now }
     ensures { result ≡ section_header class fields.entry.big_endian fields.entry.bytes.now }
 {
-    match class {
-        Class::Elf32 => section_header_32(fields),
-        Class::Elf64 => section_header_64(fields),
-    }
-}
-
-/// That of a file of 32 bits.
-#[inline(always)]
-fn section_header_32(fields: Record<'_>) -> SectionHeader
-    requires { 40 ≤ length fields.bytes.now }
-    ensures { result ≡ section_header Elf32 fields.entry.big_endian fields.entry.bytes.now }
-{
     SectionHeader {
         sh_name: fields.word(0),
         sh_type: fields.word(4),
-        sh_flags: u64::from(fields.word(8)),
-        sh_addr: u64::from(fields.word(12)),
-        sh_offset: u64::from(fields.word(16)),
-        sh_size: u64::from(fields.word(20)),
-        sh_link: fields.word(24),
-        sh_info: fields.word(28),
-    }
-}
-
-/// That of a file of 64 bits.
-#[inline(always)]
-fn section_header_64(fields: Record<'_>) -> SectionHeader
-    requires { 64 ≤ length fields.bytes.now }
-    ensures { result ≡ section_header Elf64 fields.entry.big_endian fields.entry.bytes.now }
-{
-    SectionHeader {
-        sh_name: fields.word(0),
-        sh_type: fields.word(4),
-        sh_flags: fields.xword(8),
-        sh_addr: fields.xword(16),
-        sh_offset: fields.xword(24),
-        sh_size: fields.xword(32),
-        sh_link: fields.word(40),
-        sh_info: fields.word(44),
+        sh_flags: fields.widened(class, 8, 8),
+        sh_addr: fields.widened(class, 12, 16),
+        sh_offset: fields.widened(class, 16, 24),
+        sh_size: fields.widened(class, 20, 32),
+        sh_link: fields.word(by_class(class, 24, 40)),
+        sh_info: fields.word(by_class(class, 28, 44)),
     }
 }

@@ -1,10 +1,10 @@
 //! Symbols of a symbol table (System V ABI chapter 4, "Symbol Table").
 ghost use Rattle.std.specs.Prelude.{◌≡◌, ◌<◌, ◌≤◌, length};
-ghost use Rattle.cfi_elf.specs.declared.file_header.Class.TheVariants.{Elf32, Elf64};
 ghost use Rattle.cfi_elf.specs.Headers.{symbol, symbol_bytes};
 ghost use Rattle.cfi_elf.specs.Symbols.{has_type_of_function, is_function};
 
 use crate::bytes::Record;
+use crate::class_fields::by_class;
 use crate::constants::{SHN_UNDEF, STT_FUNC, STT_GNU_IFUNC};
 use crate::file_header::Class;
 
@@ -37,39 +37,12 @@ pub(crate) fn parse_symbol(class: Class, fields: Record<'_>) -> Symbol
     requires { symbol_bytes class ≤ length fields.bytes.now }
     ensures { result ≡ symbol class fields.entry.big_endian fields.entry.bytes.now }
 {
-    match class {
-        Class::Elf32 => symbol_32(fields),
-        Class::Elf64 => symbol_64(fields),
-    }
-}
-
-/// That of a file of 32 bits.
-#[inline(always)]
-fn symbol_32(fields: Record<'_>) -> Symbol
-    requires { 16 ≤ length fields.bytes.now }
-    ensures { result ≡ symbol Elf32 fields.entry.big_endian fields.entry.bytes.now }
-{
     Symbol {
         st_name: fields.word(0),
-        st_value: u64::from(fields.word(4)),
-        st_size: u64::from(fields.word(8)),
-        st_info: fields.byte(12),
-        st_shndx: fields.half(14),
-    }
-}
-
-/// That of a file of 64 bits.
-#[inline(always)]
-fn symbol_64(fields: Record<'_>) -> Symbol
-    requires { 24 ≤ length fields.bytes.now }
-    ensures { result ≡ symbol Elf64 fields.entry.big_endian fields.entry.bytes.now }
-{
-    Symbol {
-        st_name: fields.word(0),
-        st_value: fields.xword(8),
-        st_size: fields.xword(16),
-        st_info: fields.byte(4),
-        st_shndx: fields.half(6),
+        st_value: fields.widened(class, 4, 8),
+        st_size: fields.widened(class, 8, 16),
+        st_info: fields.byte(by_class(class, 12, 4)),
+        st_shndx: fields.half(by_class(class, 14, 6)),
     }
 }
 

@@ -7,3 +7,4 @@ pub mod WholeParts
 pub mod SectionReads
 mod RegistersNamed
 mod NumbersRead
+mod Lacking

@@ -8,7 +8,7 @@ use Rattle.cfi_elf.specs.declared.image.FilePart.{FilePart}
 use Rattle.cfi_elf.specs.Images.{ArePartsOf, Image, IsPartOf, Part, part_view, parts_view}
 use Rattle.cfi_elf.specs.Fields.{part}
 use Rattle.cfi_object.specs.FileInputs.{AreLeft, IsLength, IsPartRead}
-use Rattle.cfi_object.specs.FileParts.{AreOfInput, are_apart, is_apart, is_free}
+use Rattle.cfi_object.specs.FileParts.{AreOfInput, IsLongerTo, IsWhole, IsWithFree, IsWithMore, IsWithRange, are_apart, goes_on, is_apart, is_free}
 use Rattle.cfi_object.proofs.Splices.{spliced, spliced_after, spliced_before, spliced_length, spliced_part}
 
 -- ---- parts of bytes
@@ -223,6 +223,41 @@ pub more_read : (known : Option (List ℕ)) (n : ℕ) (first : List ℕ) (parts 
 more_read known n first parts more read end e free part of =
     subst (λ (parts : List Part). AreOfInput known (record { length = n; first = first; parts = parts })) (sym (ap parts_view e ∙ more_parts parts read.offset read refl))
     (with_more known (record { length = n; first = first; parts = parts_view parts }) read.offset end read.bytes.items free part of)
+
+-- ---- which bytes were read
+
+pub longer_to : (known : Option (List ℕ)) (image : Image) (end : ℕ) (xs more : List ℕ) → more ≡ image.first ++ xs → IsPartRead known (length image.first) (end - length image.first) xs → IsLongerTo end image (record image { first = more })
+longer_to known image end xs more e (size, read) = record { read = xs; has = size; is = ap (λ (first : List ℕ). record image { first = first }) e }
+
+abbrev image_by : ℕ → List ℕ → List Part → Image
+image_by n first parts = record { length = n; first = first; parts = parts }
+
+pub more_to : (known : Option (List ℕ)) (n : ℕ) (first : List ℕ) (parts more : List FilePart) (read : FilePart) (end : ℕ) → more ≡ parts ++ read ∷ [] → IsPartRead known read.offset (end - read.offset) read.bytes.items →
+    IsWithMore read.offset end (image_by n first (parts_view parts)) (image_by n first (parts_view more))
+more_to known n first parts more read end e (size, part) = record {
+  read = read.bytes.items;
+  has = size;
+  is = ap (image_by n first) (ap parts_view e ∙ more_parts parts read.offset read refl);
+}
+
+pub ok_then : {A E : Type 0} {P Q : A → Type 0} (r : Result A E) → ((x : A) → P x → Q x) → IfOk r P → IfOk r Q
+ok_then (Ok x) next given = next x given
+ok_then (Err e) next given = tt
+
+pub free_more : (start end : ℕ) (old new : Image) → is_free old start end ≡ true → IsWithMore start end old new → IsWithFree start end old new
+free_more start end old new free is = record { more = λ e. is; kept = λ e. cc }
+
+pub free_kept : (start end : ℕ) (old new : Image) → is_free old start end ≡ false → new ≡ old → IsWithFree start end old new
+free_kept start end old new none same = record { more = λ e. cc; kept = λ e. same }
+
+pub range_longer : (offset end : ℕ) (old new : Image) → goes_on old offset end ≡ true → IsLongerTo end old new → IsWithRange offset end old new
+range_longer offset end old new on is = record { longer = λ e. is; more = λ e f. cc; all = λ e f. cc }
+
+pub range_more : (offset end : ℕ) (old new : Image) → goes_on old offset end ≡ false → is_free old offset end ≡ true → IsWithMore offset end old new → IsWithRange offset end old new
+range_more offset end old new off free is = record { longer = λ e. cc; more = λ e f. is; all = λ e f. cc }
+
+pub range_all : (offset end : ℕ) (old new : Image) → goes_on old offset end ≡ false → is_free old offset end ≡ false → IsWhole new → IsWithRange offset end old new
+range_all offset end old new off none is = record { longer = λ e. cc; more = λ e f. cc; all = λ e f. is }
 
 -- ---- all bytes
 

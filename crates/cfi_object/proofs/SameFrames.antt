@@ -7,7 +7,7 @@ use Rattle.cfi_elf.specs.Sections.{Section}
 use Rattle.cfi_elf.proofs.SameResults.{Same, same_ok, same_then}
 use Rattle.cfi_elf.proofs.Images.{in_whole, same_debug_frame, same_eh_frame_hdr_segment, same_loaded_bytes, same_section_address, same_section_named}
 use Rattle.gimli_cfi.specs.declared.source.SectionKind.TheVariants.{DebugFrame}
-use Rattle.cfi_object.specs.CallFrames.{by_name_or_segment, data_base, debug_frame_of, eh_frame_address, eh_frame_at, eh_frame_of, frames_by_header, frames_by_segment, frames_named, if_there, loaded_at, loaded_frames, named_frames, or_address, section_in}
+use Rattle.cfi_object.specs.CallFrames.{by_name_or_segment, data_base, debug_frame_of, eh_frame_address, eh_frame_at, eh_frame_of, frames_by_header, frames_by_segment, frames_named, if_there, loaded_at, loaded_frames, named_frames, or_address, given_section}
 
 same_or_else : (found : Option ℕ) (r r' : Result (Option ℕ) ElfError) → Same r r' → Same (or_address found r) (or_address found r')
 same_or_else (Some address) r r' same = same_ok (Some address)
@@ -69,4 +69,4 @@ module _ (file : File) (bytes : List ℕ) (of : IsImageOf file.image bytes) wher
   unfolding debug_frame_of
   same_debug =
       same_then (same_debug_frame file of) (λ found.
-      same_ok (option_map (λ (section : Section). section_in file DebugFrame section.bytes) found))
+      same_ok (option_map (λ (section : Section). given_section file DebugFrame section.bytes) found))

@@ -38,8 +38,8 @@ bases_at section text base header = record {
 }
 
 -- a section, as the file's header says of all, with no bases and no header
-abbrev pub section_in : File → SectionKind → List ℕ → GivenSection
-section_in file kind bytes = record {
+abbrev pub given_section : File → SectionKind → List ℕ → GivenSection
+given_section file kind bytes = record {
   kind = kind;
   endian = file.identification.«data»;
   address_size = address_size_of (class_of_file file);
@@ -52,7 +52,7 @@ section_in file kind bytes = record {
 -- .eh_frame with its bases, and its header if there is one
 abbrev pub eh_frame_at : File → Section → Option ℕ → Option ℕ → Option Section → GivenSection
 eh_frame_at file section text base header =
-    record (section_in file EhFrame section.bytes) {
+    record (given_section file EhFrame section.bytes) {
       bases =
           bases_at (Some section.address) text base
           (option_map (λ header. header.address) header);
@@ -135,4 +135,4 @@ eh_frame_of file = section_named file (codes ".eh_frame") >>= by_name_or_segment
 unfoldable pub debug_frame_of : File → Result (Option GivenSection) ElfError
 debug_frame_of file = do
   found ← debug_frame file
-  Ok (option_map (λ section. section_in file DebugFrame section.bytes) found)
+  Ok (option_map (λ section. given_section file DebugFrame section.bytes) found)

@@ -3,8 +3,12 @@
 --         is needed
 --     AreEnough needed image      nor for the headers that lead to these
 --     IsEnoughOf known needed image      parts of a file that are enough
-use Rattle.std.specs.Prelude.{◌≡◌, ℕ, Bool, true, List, Option, IfOk}
+--     AreLacking needed image place      the bytes at a place lack for it, by offset and size
+--     AreAsked needed image      parts of which each was lacking when it was read, or all bytes
+use Rattle.std.specs.Prelude.{◌≡◌, ◌⊎◌, ◌≤◌, ℕ, zero, suc, Bool, true, List, Option, Result, Err}
+use Rattle.std.specs.Prelude.{IfOk, IsOkAnd}
 use Rattle.cfi_elf.specs.declared.error.ElfError.{ElfError}
+use Rattle.cfi_elf.specs.declared.error.ElfError.TheVariants.{NotRead}
 use Rattle.cfi_elf.specs.DebugLinks.{debug_link}
 use Rattle.cfi_elf.specs.ElfFiles.{File, elf_file_of}
 use Rattle.cfi_elf.specs.Images.{Image, IsNotRead, IsRead}
@@ -13,7 +17,7 @@ use Rattle.cfi_elf.specs.PltSections.{plt_parts}
 use Rattle.cfi_elf.specs.SymbolTables.{symbol_table}
 use Rattle.cfi_object.specs.declared.needed.Needed.{Needed}
 use Rattle.cfi_object.specs.CallFrames.{debug_frame_of, eh_frame_of}
-use Rattle.cfi_object.specs.FileParts.{AreOfInput}
+use Rattle.cfi_object.specs.FileParts.{AreOfInput, IsBeginning, IsWhole, IsWithPart}
 
 -- that an error is another one than that bytes were not read
 abbrev pub IsOther : ElfError → Type 0
@@ -47,3 +51,46 @@ AreEnough needed image = IsRead (elf_file_of image) × IfOk (elf_file_of image) 
 
 abbrev pub IsEnoughOf : Option (List ℕ) → Needed → Image → Type 0
 IsEnoughOf known needed image = AreOfInput known image × AreEnough needed image
+
+-- ---- what lacks, by its offset and size
+
+abbrev pub Lacks : {A : Type 0} → Result A ElfError → ℕ × ℕ → Type 0
+Lacks r place = r ≡ Err (NotRead place.0 place.1)
+
+abbrev pub LacksBuild : Bool → File → ℕ × ℕ → Type 0
+LacksBuild build file place =
+    (build ≡ true) × (Lacks (build_id file) place ⊎ Lacks (debug_link file) place)
+
+abbrev pub LacksFrames : File → ℕ × ℕ → Type 0
+LacksFrames file place = Lacks (eh_frame_of file) place ⊎ Lacks (debug_frame_of file) place
+
+abbrev pub LacksSymbols : Bool → File → ℕ × ℕ → Type 0
+LacksSymbols symbols file place = (symbols ≡ true) × Lacks (symbol_table file) place
+
+abbrev pub LacksPlt : Bool → File → ℕ × ℕ → Type 0
+LacksPlt plt file place = (plt ≡ true) × Lacks (plt_parts file) place
+
+abbrev pub LacksOne : Needed → File → ℕ × ℕ → Type 0
+LacksOne needed file place =
+    LacksBuild needed.build file place ⊎ (LacksFrames file place
+    ⊎ (LacksSymbols needed.symbols file place ⊎ LacksPlt needed.plt file place))
+
+abbrev pub AreLacking : Needed → Image → ℕ × ℕ → Type 0
+AreLacking needed image place =
+    Lacks (elf_file_of image) place
+    ⊎ IsOkAnd (elf_file_of image) (λ file. LacksOne needed file place)
+
+-- ---- the parts that are read
+
+-- the beginning of the file, and n parts, each of which was lacking
+abbrev pub AreRead : Needed → ℕ → Image → Type 0
+AreRead needed zero image = IsBeginning 4096 image
+AreRead needed (suc n) image =
+    (old : Image) × (place : ℕ × ℕ) × AreRead needed n old × AreLacking needed old place
+    × IsWithPart place.0 place.1 old image
+
+-- after 32 parts or more the whole file
+abbrev pub AreAsked : Needed → Image → Type 0
+AreAsked needed image =
+    ((n : ℕ) × (n ≤ 32) × AreRead needed n image)
+    ⊎ (((n : ℕ) × (32 ≤ n) × (old : Image) × AreRead needed n old) × IsWhole image)

@@ -9,7 +9,7 @@ ghost use Rattle.cfi_object.specs.CallFrames.{bases_at, data_base, debug_frame_o
 ghost use Rattle.cfi_object.specs.CallFrames.{eh_frame_address, eh_frame_at, eh_frame_of};
 ghost use Rattle.cfi_object.specs.CallFrames.{frames_by_header, frames_by_segment};
 ghost use Rattle.cfi_object.specs.CallFrames.{frames_named, named_frames};
-ghost use Rattle.cfi_object.specs.CallFrames.{section_in};
+ghost use Rattle.cfi_object.specs.CallFrames.{given_section};
 
 use cfi_elf::{ElfError, ElfFile, Section};
 use gimli_cfi::{
@@ -64,19 +64,19 @@ pub fn debug_frame<'file>(file: &ElfFile<'file>) -> Result<Option<SectionSource<
     ensures { map_ok (option_map source_view) result ≡ debug_frame_of (file_view file.now) }
 {
     match file.debug_frame()? {
-        Some(section) => Ok(Some(section_in(file, SectionKind::DebugFrame, section.bytes))),
+        Some(section) => Ok(Some(given_section(file, SectionKind::DebugFrame, section.bytes))),
         None => Ok(None),
     }
 }
 
 /// Returns a section of these bytes, as the file's header says of all. It has no bases and no
 /// header. Does not allocate.
-pub fn section_in<'file>(
+pub fn given_section<'file>(
     file: &ElfFile<'file>,
     kind: SectionKind,
     bytes: &'file [u8],
 ) -> SectionSource<'file>
-    ensures { source_view result ≡ section_in (file_view file.now) kind bytes.now }
+    ensures { source_view result ≡ given_section (file_view file.now) kind bytes.now }
 {
     SectionSource {
         kind,
@@ -157,7 +157,7 @@ fn eh_frame_at<'file>(
     ensures { source_view result ≡ eh_frame_at (file_view file.now) (section_view section.entry)
         text data_base (option_map section_view header.entry) }
 {
-    let frames = section_in(file, SectionKind::EhFrame, section.bytes);
+    let frames = given_section(file, SectionKind::EhFrame, section.bytes);
     match header {
         Some(header) => SectionSource {
             bases: bases_at(Some(section.address), text, data_base, Some(header.address)),

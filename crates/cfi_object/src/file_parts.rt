@@ -18,7 +18,9 @@ pub struct FileParts {
 impl FileParts {
     ghost use Rattle.std.specs.Prelude.{◌≡◌, IfOk, length, true};
     ghost use Rattle.cfi_elf.specs.Images.{image_view, whole};
-    ghost use Rattle.cfi_object.specs.FileParts.{AreOfInput, IsAllOf, image_of, is_free};
+    ghost use Rattle.cfi_object.specs.FileParts.{AreOfInput, IsAllOf, IsBeginning, IsLongerTo};
+    ghost use Rattle.cfi_object.specs.FileParts.{IsWithFree, IsWithMore, IsWithPart, image_of};
+    ghost use Rattle.cfi_object.specs.FileParts.{is_free};
 
     /// Returns all bytes of a file as its only part. Does not allocate.
     pub fn whole(alloc: Global, bytes: Vec<u8>) -> FileParts
@@ -49,6 +51,7 @@ impl FileParts {
         input: &mut I,
     ) -> Result<FileParts, InputError>
         ensures read { IfOk result (λ parts. AreOfInput (I.bytes input.old) (image_of parts)) }
+        ensures first { IfOk result (λ parts. IsBeginning size (image_of parts)) }
         ensures same { I.bytes input.new ≡ I.bytes input.old }
     {
         let length = input.length(alloc)?;
@@ -93,6 +96,8 @@ impl FileParts {
     ) -> Result<FileParts, InputError>
         requires { AreOfInput (I.bytes input.old) (image_of self) }
         ensures read { IfOk result (λ parts. AreOfInput (I.bytes input.old) (image_of parts)) }
+        ensures part { IfOk result (λ parts. IsWithPart offset size (image_of self)
+            (image_of parts)) }
         ensures same { I.bytes input.new ≡ I.bytes input.old }
     {
         let reached = self.first.len() as u64;
@@ -119,6 +124,8 @@ impl FileParts {
     ) -> Result<FileParts, InputError>
         requires { AreOfInput (I.bytes input.old) (image_of self) }
         ensures read { IfOk result (λ parts. AreOfInput (I.bytes input.old) (image_of parts)) }
+        ensures part { IfOk result (λ parts. IsWithFree start end (image_of self)
+            (image_of parts)) }
         ensures same { I.bytes input.new ≡ I.bytes input.old }
     {
         if self.is_free(start, end) {
@@ -138,6 +145,7 @@ impl FileParts {
         requires read { AreOfInput (I.bytes input.old) (image_of self) }
         requires free { is_free (image_of self) (length (image_of self).first) end ≡ true }
         ensures read { IfOk result (λ parts. AreOfInput (I.bytes input.old) (image_of parts)) }
+        ensures longer { IfOk result (λ parts. IsLongerTo end (image_of self) (image_of parts)) }
         ensures same { I.bytes input.new ≡ I.bytes input.old }
     {
         let mut parts = self;
@@ -160,6 +168,8 @@ impl FileParts {
         requires read { AreOfInput (I.bytes input.old) (image_of self) }
         requires free { is_free (image_of self) offset end ≡ true }
         ensures read { IfOk result (λ parts. AreOfInput (I.bytes input.old) (image_of parts)) }
+        ensures more { IfOk result (λ parts. IsWithMore offset end (image_of self)
+            (image_of parts)) }
         ensures same { I.bytes input.new ≡ I.bytes input.old }
     {
         let mut parts = self;

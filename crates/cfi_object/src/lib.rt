@@ -15,7 +15,7 @@ pub mod reading;
 pub mod register_names;
 pub mod target;
 
-pub use call_frames::{bases_at, debug_frame, eh_frame, section_in};
+pub use call_frames::{bases_at, debug_frame, eh_frame, given_section};
 pub use file_parts::FileParts;
 pub use input::{FileInput, InputError, read_whole};
 pub use machine_names::names_in;

@@ -1,10 +1,12 @@
 //! What is needed of a file, and the reading of the parts that have it.
-ghost use Rattle.std.specs.Prelude.{◌≡◌, IfErr, IfNone, IfOk};
+ghost use Rattle.std.specs.Prelude.{◌≡◌, IfErr, IfNone, IfOk, IfSome};
 ghost use Rattle.cfi_elf.specs.ElfFiles.{file_view};
 ghost use Rattle.cfi_elf.specs.Images.{image_view};
 ghost use Rattle.cfi_object.specs.FileParts.{image_of};
-ghost use Rattle.cfi_object.specs.NeededParts.{AreEnough, HasAll, HasBuild, HasFrames, HasPlt};
-ghost use Rattle.cfi_object.specs.NeededParts.{HasSymbols, IsEnoughOf, IsOther};
+ghost use Rattle.cfi_object.specs.NeededParts.{AreAsked, AreEnough, AreLacking, HasAll, HasBuild};
+ghost use Rattle.cfi_object.specs.NeededParts.{HasFrames, HasPlt, HasSymbols, IsEnoughOf, IsOther};
+ghost use Rattle.cfi_object.specs.NeededParts.{Lacks, LacksBuild, LacksFrames, LacksOne, LacksPlt};
+ghost use Rattle.cfi_object.specs.NeededParts.{LacksSymbols};
 
 use crate::call_frames::{debug_frame, eh_frame};
 use crate::file_parts::FileParts;
@@ -42,6 +44,7 @@ pub fn read_parts<I: FileInput>(
     input: &mut I,
 ) -> Result<FileParts, InputError>
     ensures read { IfOk result (λ parts. IsEnoughOf (I.bytes input.old) needed (image_of parts)) }
+    ensures asked { IfOk result (λ parts. AreAsked needed (image_of parts)) }
     ensures same { I.bytes input.new ≡ I.bytes input.old }
 {
     let mut parts = FileParts::begin(alloc, FIRST_SIZE, input)?;
@@ -57,7 +60,8 @@ pub fn read_parts<I: FileInput>(
 
 /// Returns the offset and the size of a part that is needed and was not read, if there is one.
 fn unread(image: Image<'_>, needed: Needed) -> Option<(u64, u64)>
-    ensures { IfNone result (AreEnough needed (image_view image.entry)) }
+    ensures none { IfNone result (AreEnough needed (image_view image.entry)) }
+    ensures some { IfSome result (AreLacking needed (image_view image.entry)) }
 {
     match ElfFile::of_image(image) {
         Ok(file) => unread_in(&file, needed),
@@ -67,7 +71,8 @@ fn unread(image: Image<'_>, needed: Needed) -> Option<(u64, u64)>
 
 /// Returns the same for a file whose header was read.
 fn unread_in(file: &ElfFile<'_>, needed: Needed) -> Option<(u64, u64)>
-    ensures { IfNone result (HasAll needed (file_view file.now)) }
+    ensures none { IfNone result (HasAll needed (file_view file.now)) }
+    ensures some { IfSome result (LacksOne needed (file_view file.now)) }
 {
     // Each is a search by name, so the next is asked only where this one lacks nothing.
     if let Some(place) = unread_build(file, needed.build) {
@@ -84,7 +89,8 @@ fn unread_in(file: &ElfFile<'_>, needed: Needed) -> Option<(u64, u64)>
 
 /// Returns the same for the note of the build and the link to the debug file.
 fn unread_build(file: &ElfFile<'_>, build: bool) -> Option<(u64, u64)>
-    ensures { IfNone result (HasBuild build (file_view file.now)) }
+    ensures none { IfNone result (HasBuild build (file_view file.now)) }
+    ensures some { IfSome result (LacksBuild build (file_view file.now)) }
 {
     if !build {
         return None;
@@ -97,7 +103,8 @@ fn unread_build(file: &ElfFile<'_>, build: bool) -> Option<(u64, u64)>
 
 /// Returns the same for the two sections of call frames and what belongs to them.
 fn unread_frames(file: &ElfFile<'_>) -> Option<(u64, u64)>
-    ensures { IfNone result (HasFrames (file_view file.now)) }
+    ensures none { IfNone result (HasFrames (file_view file.now)) }
+    ensures some { IfSome result (LacksFrames (file_view file.now)) }
 {
     if let Some(place) = lack_of(eh_frame(file)) {
         return Some(place);
@@ -107,7 +114,8 @@ fn unread_frames(file: &ElfFile<'_>) -> Option<(u64, u64)>
 
 /// Returns the same for the symbols.
 fn unread_symbols(file: &ElfFile<'_>, symbols: bool) -> Option<(u64, u64)>
-    ensures { IfNone result (HasSymbols symbols (file_view file.now)) }
+    ensures none { IfNone result (HasSymbols symbols (file_view file.now)) }
+    ensures some { IfSome result (LacksSymbols symbols (file_view file.now)) }
 {
     if !symbols {
         return None;
@@ -117,7 +125,8 @@ fn unread_symbols(file: &ElfFile<'_>, symbols: bool) -> Option<(u64, u64)>
 
 /// Returns the same for the procedure linkage table.
 fn unread_plt(file: &ElfFile<'_>, plt: bool) -> Option<(u64, u64)>
-    ensures { IfNone result (HasPlt plt (file_view file.now)) }
+    ensures none { IfNone result (HasPlt plt (file_view file.now)) }
+    ensures some { IfSome result (LacksPlt plt (file_view file.now)) }
 {
     if !plt {
         return None;
@@ -127,7 +136,8 @@ fn unread_plt(file: &ElfFile<'_>, plt: bool) -> Option<(u64, u64)>
 
 /// Returns what was not read, where that is why a call failed.
 fn lack_of<T: Copy>(returned: Result<T, ElfError>) -> Option<(u64, u64)>
-    ensures { IfNone result (IfErr returned IsOther) }
+    ensures none { IfNone result (IfErr returned IsOther) }
+    ensures some { IfSome result (Lacks returned) }
 {
     match returned {
         Ok(_) => None,
@@ -137,7 +147,8 @@ fn lack_of<T: Copy>(returned: Result<T, ElfError>) -> Option<(u64, u64)>
 
 /// Returns what an error says was not read.
 fn place_in(error: ElfError) -> Option<(u64, u64)>
-    ensures { IfNone result (IsOther error) }
+    ensures none { IfNone result (IsOther error) }
+    ensures some { IfSome result (λ place. error ≡ ElfError.NotRead place.0 place.1) }
 {
     match error {
         ElfError::NotRead { offset, size } => Some((offset, size)),

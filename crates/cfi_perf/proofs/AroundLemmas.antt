@@ -32,7 +32,7 @@ use Rattle.cfi_perf.specs.ProfileHeads.{ProfileHead, head_of}
 use Rattle.cfi_perf.specs.Sections.{Sections, architecture_in, after_records, build_ids, descriptions, event_table, feature_place, feature_section, or_nothing, records_at}
 use Rattle.cfi_perf.specs.Architectures.{machine_by, text_in}
 use Rattle.cfi_perf.specs.FileHeaders.{byte_order, file_header, header_fields, in_one_file}
-use Rattle.cfi_perf.specs.FileParts.{Parts, part_after, parts_around, file_parts}
+use Rattle.cfi_perf.specs.FileParts.{SectionBytes, part_after, parts_around, file_parts}
 use Rattle.cfi_perf.proofs.FixedReads.{fixed_header, fixed_size, same_from}
 use Rattle.cfi_perf.proofs.RecordSteps.{part_fits}
 use Rattle.cfi_perf.proofs.WindowSteps.{front_part}
@@ -156,7 +156,7 @@ if_same true z f x y same = refl
 if_same false z f x y same = ap f (same refl)
 
 -- parts that are the same where these are at hand
-module _ (s : Sections) (p : Parts) (agree : (place : FileSection) → is_some (s.parts place) ≡ true → p place ≡ s.parts place) where
+module _ (s : Sections) (p : SectionBytes) (agree : (place : FileSection) → is_some (s.parts place) ≡ true → p place ≡ s.parts place) where
   abbrev moved : Sections
   moved = record s { parts = p }
 

@@ -2,23 +2,23 @@
 use Rattle.std.proofs.Common.{◌≡◌, ◌<◌, ◌≤◌, ◌+◌, ◌-◌, ℕ, Bool, true, false, List, None, Result, Ok, Err, ap, ◌∙◌, arith}
 use Rattle.std.specs.Prelude.{if◌then◌else◌}
 use Rattle.cfi_perf.specs.declared.error.PerfError.{PerfError}
-use Rattle.cfi_perf.specs.RecordFrames.{Framed, split_record}
+use Rattle.cfi_perf.specs.RecordFrames.{FramedRecord, split_record}
 use Rattle.cfi_perf.specs.BuildIds.{entry_id, id_up_to, id_with, is_entry_named}
 use Rattle.cfi_perf.proofs.EntrySteps.{one_more}
 
 module _ (count index : ℕ) (big : Bool) (name table : List ℕ) where
   -- an entry of the first is found
-  first_is : (inside : index < count) (r : Result Framed PerfError) → split_record big table ≡ r → id_up_to (count - index) big name table ≡ id_with name r (id_up_to (count - (index + 1)) big name)
+  first_is : (inside : index < count) (r : Result FramedRecord PerfError) → split_record big table ≡ r → id_up_to (count - index) big name table ≡ id_with name r (id_up_to (count - (index + 1)) big name)
   unfolding id_up_to
   first_is inside r is =
       ap (λ (n : ℕ). id_up_to n big name table) (one_more count index inside)
-      ∙ ap (λ (r : Result Framed PerfError). id_with name r (id_up_to (count - (index + 1)) big name)) is
+      ∙ ap (λ (r : Result FramedRecord PerfError). id_with name r (id_up_to (count - (index + 1)) big name)) is
 
-  pub entry_here : (entry : Framed) → index < count → split_record big table ≡ Ok entry → is_entry_named name entry ≡ true → id_up_to (count - index) big name table ≡ entry_id entry
+  pub entry_here : (entry : FramedRecord) → index < count → split_record big table ≡ Ok entry → is_entry_named name entry ≡ true → id_up_to (count - index) big name table ≡ entry_id entry
   entry_here entry inside is named =
       first_is inside (Ok entry) is ∙ ap (λ (b : Bool). if b then entry_id entry else id_up_to (count - (index + 1)) big name entry.others) named
 
-  pub entry_passed : (entry : Framed) → index < count → split_record big table ≡ Ok entry → is_entry_named name entry ≡ false
+  pub entry_passed : (entry : FramedRecord) → index < count → split_record big table ≡ Ok entry → is_entry_named name entry ≡ false
       → id_up_to (count - index) big name table ≡ id_up_to (count - (index + 1)) big name entry.others
   entry_passed entry inside is other =
       first_is inside (Ok entry) is ∙ ap (λ (b : Bool). if b then entry_id entry else id_up_to (count - (index + 1)) big name entry.others) other

@@ -14,7 +14,7 @@ use Rattle.cfi_read_core.specs.ByteOrder.{is_big}
 use Rattle.cfi_perf.specs.ByteReads.{entries}
 use Rattle.cfi_perf.specs.EventNames.{after_others}
 use Rattle.cfi_perf.specs.EventTables.{EventTable, KnownEvent, ProfileEvent, first_with_id, has_id, known_event, numbered_event, numbers_in, event_table_view}
-use Rattle.cfi_perf.specs.FileParts.{Parts, parts_at_hand}
+use Rattle.cfi_perf.specs.FileParts.{SectionBytes, parts_at_hand}
 use Rattle.cfi_perf.proofs.EntrySteps.{one_more}
 
 -- ---- what comes after others
@@ -54,7 +54,7 @@ all_entries count read made over same =
 abbrev pub has_number : ℕ → List ℕ → Bool
 has_number id numbers = list_any (λ known. known == id) numbers
 
-pub ids_found : (big : Bool) (parts : Parts) (entry : EventEntry) (id : ℕ) (bytes : List ℕ) → Some bytes ≡ parts entry.ids →
+pub ids_found : (big : Bool) (parts : SectionBytes) (entry : EventEntry) (id : ℕ) (bytes : List ℕ) → Some bytes ≡ parts entry.ids →
     has_number id (entries (length bytes / 8) (unsigned w64) (slice_over bytes big).source 0) ≡ has_id (known_event big parts entry) id
 ids_found big parts entry id bytes is = ap (λ (o : Option (List ℕ)). has_number id (numbers_in big o)) is
 

@@ -13,7 +13,7 @@ use Rattle.cfi_perf.specs.declared.sample.Sample.{Sample as SampleOfCode}
 use Rattle.cfi_perf.specs.declared.windows.RecordWalk.{RecordWalk}
 use Rattle.cfi_perf.specs.declared.error.PerfError.{PerfError}
 use Rattle.cfi_perf.specs.Events.{Event, OtherEvent, Record, event_view, record_view}
-use Rattle.cfi_perf.specs.Indexes.{kept_bytes, place_kind, AreAt, AreIndexed, IsRecordAt, IsKeptIn, IsOfBytes, offset_for, record_by}
+use Rattle.cfi_perf.specs.Indexes.{kept_bytes, place_kind, AreAt, AreIndexed, IsRecordAt, IsWithinKept, IsOfBytes, offset_for, record_by}
 use Rattle.cfi_perf.specs.Windows.{record_alone}
 use Rattle.cfi_perf.proofs.WindowSteps.{front_range}
 
@@ -23,12 +23,12 @@ with_time time event = Ok (record { time = time; event = event })
 module _ (walk : RecordWalk) (all : List ℕ) where
   -- ---- more bytes are kept
 
-  kept_longer : (kind : PlaceKind) (place : RecordPlace) (count more : ℕ) → IsKeptIn kind count place → count ≤ more → IsKeptIn kind more place
+  kept_longer : (kind : PlaceKind) (place : RecordPlace) (count more : ℕ) → IsWithinKept kind count place → count ≤ more → IsWithinKept kind more place
   kept_longer InFile place count more within less = tt
   kept_longer Kept place count more within less = omega (arith, within, less)
   kept_longer Nothing place count more within less = tt
 
-  same_record : (kind : PlaceKind) (place : RecordPlace) (kept more : List ℕ) → IsKeptIn kind (length kept) place → record_by kind walk all (kept ++ more) place ≡ record_by kind walk all kept place
+  same_record : (kind : PlaceKind) (place : RecordPlace) (kept more : List ℕ) → IsWithinKept kind (length kept) place → record_by kind walk all (kept ++ more) place ≡ record_by kind walk all kept place
   same_record InFile place kept more within = refl
   same_record Kept place kept more within = ap (record_alone walk) (front_range kept more place.offset (place.offset + place.size) within (omega arith))
   same_record Nothing place kept more within = refl

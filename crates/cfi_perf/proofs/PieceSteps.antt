@@ -10,8 +10,8 @@ use Rattle.cfi_perf.specs.declared.windows.RecordWalk.{RecordWalk}
 use Rattle.cfi_perf.specs.EventTables.{EventTable, event_table_view}
 use Rattle.cfi_perf.specs.Events.{Record}
 use Rattle.cfi_perf.specs.RecordFrames.{record_header}
-use Rattle.cfi_perf.specs.Records.{First, first_record, with_record}
-use Rattle.cfi_perf.specs.RecordFrames.{Framed, after_record, split_record, uncounted_size}
+use Rattle.cfi_perf.specs.Records.{FirstRecord, first_record, with_record}
+use Rattle.cfi_perf.specs.RecordFrames.{FramedRecord, after_record, split_record, uncounted_size}
 use Rattle.cfi_perf.specs.RecordTypes.{record_by_type}
 use Rattle.cfi_perf.specs.Results.{and_then, or_error}
 use Rattle.cfi_perf.specs.ByteReads.{part, read_from}
@@ -38,7 +38,7 @@ module _ (big : Bool) (bytes rest : List ℕ) where
   abbrev all : List ℕ
   all = bytes ++ rest
 
-  framed_more : (found : Framed) → split_record big bytes ≡ Ok found → found.others ≡ [] → split_record big all ≡ Ok (record { header = found.header; body = found.body; others = rest })
+  framed_more : (found : FramedRecord) → split_record big bytes ≡ Ok found → found.others ≡ [] → split_record big all ≡ Ok (record { header = found.header; body = found.body; others = rest })
   unfolding split_record
   framed_more found is none =
       let header = gave (or_error RecordCut (read_from big bytes record_header)) (with_header big bytes) found is in
@@ -54,22 +54,22 @@ module _ (big : Bool) (bytes rest : List ℕ) where
       let second = large big all header.value some in
       let third = sized_by big all header.value (Some body.value) (front_part bytes rest 8 (header.value.size - 8) fits ∙ was) in
       let after : drop header.value.size all ≡ drop header.value.size bytes ++ rest = drop-append-le header.value.size bytes rest (omega (arith, fits, some)) in
-      let last = after_more (uncounted_size big header.value body.value) (drop header.value.size bytes) rest others.value others.was (ap (λ (f : Framed). f.others) same ∙ none) in
+      let last = after_more (uncounted_size big header.value body.value) (drop header.value.size bytes) rest others.value others.was (ap (λ (f : FramedRecord). f.others) same ∙ none) in
       first ∙ (second ∙ (third ∙ (ap (λ (l : List ℕ). and_then (after_record big header.value body.value l) (with_others header.value body.value)) after
       ∙ (ap (λ (r : Result (List ℕ) PerfError). and_then r (with_others header.value body.value)) last
-      ∙ ap (λ (f : Framed). with_others f.header f.body rest) same))))
+      ∙ ap (λ (f : FramedRecord). with_others f.header f.body rest) same))))
 
   module _ (events : EventTable) where
-    first_more : (found : First) → first_record events big bytes ≡ Ok found → found.others ≡ [] → first_record events big all ≡ Ok (record { first = found.first; others = rest })
+    first_more : (found : FirstRecord) → first_record events big bytes ≡ Ok found → found.others ≡ [] → first_record events big all ≡ Ok (record { first = found.first; others = rest })
     unfolding first_record
     first_more found is none =
         let frame = gave (split_record big bytes) (λ frame. and_then (record_by_type events big frame.header frame.body) (with_frame events big frame)) found is in
         let first = gave (record_by_type events big frame.value.header frame.value.body) (with_frame events big frame.value) found frame.gives in
         let same : record { first = first.value; others = frame.value.others } ≡ found = let e = first.gives in cc in
-        let more = framed_more frame.value frame.was (ap (λ (f : First). f.others) same ∙ none) in
-        let kept : Framed = record { header = frame.value.header; body = frame.value.body; others = rest } in
-        ap (λ (r : Result Framed PerfError). and_then r (λ frame. and_then (record_by_type events big frame.header frame.body) (with_frame events big frame))) more
-        ∙ (ap (λ (r : Result Record PerfError). and_then r (with_frame events big kept)) first.was ∙ ap (λ (f : First). with_frame events big kept f.first) same)
+        let more = framed_more frame.value frame.was (ap (λ (f : FirstRecord). f.others) same ∙ none) in
+        let kept : FramedRecord = record { header = frame.value.header; body = frame.value.body; others = rest } in
+        ap (λ (r : Result FramedRecord PerfError). and_then r (λ frame. and_then (record_by_type events big frame.header frame.body) (with_frame events big frame))) more
+        ∙ (ap (λ (r : Result Record PerfError). and_then r (with_frame events big kept)) first.was ∙ ap (λ (f : FirstRecord). with_frame events big kept f.first) same)
 
 -- ---- a record that is alone
 

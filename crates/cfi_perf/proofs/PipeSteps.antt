@@ -3,18 +3,18 @@ use Rattle.std.proofs.Common.{◌≡◌, ◌<◌, ◌≤◌, ◌+◌, ◌-◌, �
 use Rattle.std.specs.Prelude.{if◌then◌else◌}
 use Rattle.cfi_perf.specs.declared.error.PerfError.{PerfError}
 use Rattle.cfi_perf.specs.Pipes.{attributes_up_to, build_ids_up_to, build_ids_with, count_with, events_of, feature_up_to, is_feature, section_with}
-use Rattle.cfi_perf.specs.RecordFrames.{Framed, split_record}
+use Rattle.cfi_perf.specs.RecordFrames.{FramedRecord, split_record}
 use Rattle.cfi_perf.proofs.EntrySteps.{one_more}
 
 module _ (count index : ℕ) (big : Bool) (records : List ℕ) where
   -- ---- how many have attributes
-  first_counted : index < count → (r : Result Framed PerfError) → split_record big records ≡ r → attributes_up_to (count - index) big records ≡ count_with r (attributes_up_to (count - (index + 1)) big)
+  first_counted : index < count → (r : Result FramedRecord PerfError) → split_record big records ≡ r → attributes_up_to (count - index) big records ≡ count_with r (attributes_up_to (count - (index + 1)) big)
   unfolding attributes_up_to
   first_counted inside r is =
       ap (λ (n : ℕ). attributes_up_to n big records) (one_more count index inside)
-      ∙ ap (λ (r : Result Framed PerfError). count_with r (attributes_up_to (count - (index + 1)) big)) is
+      ∙ ap (λ (r : Result FramedRecord PerfError). count_with r (attributes_up_to (count - (index + 1)) big)) is
 
-  pub one_counted : (r : Framed) → index < count → split_record big records ≡ Ok r → attributes_up_to (count - index) big records ≡ events_of r + attributes_up_to (count - (index + 1)) big r.others
+  pub one_counted : (r : FramedRecord) → index < count → split_record big records ≡ Ok r → attributes_up_to (count - index) big records ≡ events_of r + attributes_up_to (count - (index + 1)) big r.others
   one_counted r inside is = first_counted inside (Ok r) is
 
   pub none_counted : (e : PerfError) → index < count → split_record big records ≡ Err e → attributes_up_to (count - index) big records ≡ 0
@@ -26,17 +26,17 @@ module _ (count index : ℕ) (big : Bool) (records : List ℕ) where
 
   -- ---- which has a feature
   module _ (number : ℕ) where
-    first_section : index < count → (r : Result Framed PerfError) → split_record big records ≡ r → feature_up_to (count - index) big number records ≡ section_with big number r (feature_up_to (count - (index + 1)) big number)
+    first_section : index < count → (r : Result FramedRecord PerfError) → split_record big records ≡ r → feature_up_to (count - index) big number records ≡ section_with big number r (feature_up_to (count - (index + 1)) big number)
     unfolding feature_up_to
     first_section inside r is =
         ap (λ (n : ℕ). feature_up_to n big number records) (one_more count index inside)
-        ∙ ap (λ (r : Result Framed PerfError). section_with big number r (feature_up_to (count - (index + 1)) big number)) is
+        ∙ ap (λ (r : Result FramedRecord PerfError). section_with big number r (feature_up_to (count - (index + 1)) big number)) is
 
-    pub section_here : (r : Framed) → index < count → split_record big records ≡ Ok r → is_feature big number r ≡ true → feature_up_to (count - index) big number records ≡ Some (drop 8 r.body)
+    pub section_here : (r : FramedRecord) → index < count → split_record big records ≡ Ok r → is_feature big number r ≡ true → feature_up_to (count - index) big number records ≡ Some (drop 8 r.body)
     section_here r inside is has =
         first_section inside (Ok r) is ∙ ap (λ (b : Bool). if b then Some (drop 8 r.body) else feature_up_to (count - (index + 1)) big number r.others) has
 
-    pub section_later : (r : Framed) → index < count → split_record big records ≡ Ok r → is_feature big number r ≡ false
+    pub section_later : (r : FramedRecord) → index < count → split_record big records ≡ Ok r → is_feature big number r ≡ false
         → feature_up_to (count - index) big number records ≡ feature_up_to (count - (index + 1)) big number r.others
     section_later r inside is other =
         first_section inside (Ok r) is ∙ ap (λ (b : Bool). if b then Some (drop 8 r.body) else feature_up_to (count - (index + 1)) big number r.others) other
@@ -49,17 +49,17 @@ module _ (count index : ℕ) (big : Bool) (records : List ℕ) where
     no_section passed = let none : count - index ≡ 0 = omega arith in ap (λ (n : ℕ). feature_up_to n big number records) none
 
   -- ---- from which on they have builds
-  first_build : index < count → (r : Result Framed PerfError) → split_record big records ≡ r → build_ids_up_to (count - index) big records ≡ build_ids_with records r (build_ids_up_to (count - (index + 1)) big)
+  first_build : index < count → (r : Result FramedRecord PerfError) → split_record big records ≡ r → build_ids_up_to (count - index) big records ≡ build_ids_with records r (build_ids_up_to (count - (index + 1)) big)
   unfolding build_ids_up_to
   first_build inside r is =
       ap (λ (n : ℕ). build_ids_up_to n big records) (one_more count index inside)
-      ∙ ap (λ (r : Result Framed PerfError). build_ids_with records r (build_ids_up_to (count - (index + 1)) big)) is
+      ∙ ap (λ (r : Result FramedRecord PerfError). build_ids_with records r (build_ids_up_to (count - (index + 1)) big)) is
 
-  pub build_here : (r : Framed) → index < count → split_record big records ≡ Ok r → (r.header.kind == 67) ≡ true → build_ids_up_to (count - index) big records ≡ records
+  pub build_here : (r : FramedRecord) → index < count → split_record big records ≡ Ok r → (r.header.kind == 67) ≡ true → build_ids_up_to (count - index) big records ≡ records
   build_here r inside is has =
       first_build inside (Ok r) is ∙ ap (λ (b : Bool). if b then records else build_ids_up_to (count - (index + 1)) big r.others) has
 
-  pub build_later : (r : Framed) → index < count → split_record big records ≡ Ok r → (r.header.kind == 67) ≡ false
+  pub build_later : (r : FramedRecord) → index < count → split_record big records ≡ Ok r → (r.header.kind == 67) ≡ false
       → build_ids_up_to (count - index) big records ≡ build_ids_up_to (count - (index + 1)) big r.others
   build_later r inside is other =
       first_build inside (Ok r) is ∙ ap (λ (b : Bool). if b then records else build_ids_up_to (count - (index + 1)) big r.others) other

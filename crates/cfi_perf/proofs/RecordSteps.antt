@@ -12,8 +12,8 @@ use Rattle.cfi_perf.specs.Events.{Record}
 use Rattle.cfi_perf.specs.Results.{and_then, or_error}
 use Rattle.cfi_perf.specs.ByteReads.{part, read_from}
 use Rattle.cfi_perf.specs.RecordFrames.{record_header}
-use Rattle.cfi_perf.specs.Records.{First, Records, first_record, no_records, records_of, records_up_to, records_with, until_cut, with_record}
-use Rattle.cfi_perf.specs.RecordFrames.{Framed, after_record, split_record, uncounted_size}
+use Rattle.cfi_perf.specs.Records.{FirstRecord, Records, first_record, no_records, records_of, records_up_to, records_with, until_cut, with_record}
+use Rattle.cfi_perf.specs.RecordFrames.{FramedRecord, after_record, split_record, uncounted_size}
 use Rattle.cfi_perf.specs.RecordTypes.{record_by_type}
 use Rattle.cfi_perf.proofs.Chains.{gave, not_missing, not_refused}
 
@@ -39,27 +39,27 @@ pub no_more_after : (big : Bool) (header : RecordHeader) (body after others : Li
 no_more_after big header body after others is = after_size after others (uncounted_size big header body) is
 
 -- what follows the record in a result, or else this
-abbrev others_of : Result Framed PerfError → List ℕ → List ℕ
+abbrev others_of : Result FramedRecord PerfError → List ℕ → List ℕ
 others_of (Ok found) other = found.others
 others_of (Err e) other = other
 
-same_others : (header : RecordHeader) (body others : List ℕ) (found : Framed) → ◌≡◌ {A = Result Framed PerfError} (Ok (record { header = header; body = body; others = others })) (Ok found) → length others ≡ length found.others
-same_others header body others found is = ap (λ (r : Result Framed PerfError). length (others_of r others)) is
+same_others : (header : RecordHeader) (body others : List ℕ) (found : FramedRecord) → ◌≡◌ {A = Result FramedRecord PerfError} (Ok (record { header = header; body = body; others = others })) (Ok found) → length others ≡ length found.others
+same_others header body others found is = ap (λ (r : Result FramedRecord PerfError). length (others_of r others)) is
 
 -- the steps of a record, each with what the ones before gave
-abbrev pub with_others : RecordHeader → List ℕ → List ℕ → Result Framed PerfError
+abbrev pub with_others : RecordHeader → List ℕ → List ℕ → Result FramedRecord PerfError
 with_others header body others = Ok (record { header = header; body = body; others = others })
 
-abbrev pub with_body : Bool → List ℕ → RecordHeader → List ℕ → Result Framed PerfError
+abbrev pub with_body : Bool → List ℕ → RecordHeader → List ℕ → Result FramedRecord PerfError
 with_body big bytes header body = and_then (after_record big header body (drop header.size bytes)) (with_others header body)
 
-abbrev pub sized : Bool → List ℕ → RecordHeader → Result Framed PerfError
+abbrev pub sized : Bool → List ℕ → RecordHeader → Result FramedRecord PerfError
 sized big bytes header = and_then (ok_or (part bytes 8 (header.size - 8)) RecordCut) (with_body big bytes header)
 
-abbrev pub with_header : Bool → List ℕ → RecordHeader → Result Framed PerfError
+abbrev pub with_header : Bool → List ℕ → RecordHeader → Result FramedRecord PerfError
 with_header big bytes header = if nat_lt header.size 8 then Err (RecordSize header.size) else sized big bytes header
 
-framed_fewer : (big : Bool) (bytes : List ℕ) (found : Framed) → split_record big bytes ≡ Ok found → length found.others < length bytes
+framed_fewer : (big : Bool) (bytes : List ℕ) (found : FramedRecord) → split_record big bytes ≡ Ok found → length found.others < length bytes
 unfolding split_record
 framed_fewer big bytes found is =
     let header = gave (or_error RecordCut (read_from big bytes record_header)) (with_header big bytes) found is in
@@ -73,18 +73,18 @@ framed_fewer big bytes found is =
     let less = length-drop header.value.size bytes in
     omega (arith, fits, some, count, more, less)
 
-abbrev after_first : Result First PerfError → List ℕ → List ℕ
+abbrev after_first : Result FirstRecord PerfError → List ℕ → List ℕ
 after_first (Ok found) other = found.others
 after_first (Err e) other = other
 
-same_after : (first : Record) (others : List ℕ) (found : First) → ◌≡◌ {A = Result First PerfError} (Ok (record { first = first; others = others })) (Ok found) → length others ≡ length found.others
-same_after first others found is = ap (λ (r : Result First PerfError). length (after_first r others)) is
+same_after : (first : Record) (others : List ℕ) (found : FirstRecord) → ◌≡◌ {A = Result FirstRecord PerfError} (Ok (record { first = first; others = others })) (Ok found) → length others ≡ length found.others
+same_after first others found is = ap (λ (r : Result FirstRecord PerfError). length (after_first r others)) is
 
 module _ (events : EventTable) (big : Bool) where
-  abbrev pub with_frame : Framed → Record → Result First PerfError
+  abbrev pub with_frame : FramedRecord → Record → Result FirstRecord PerfError
   with_frame frame first = Ok (record { first = first; others = frame.others })
 
-  pub fewer : (bytes : List ℕ) (found : First) → first_record events big bytes ≡ Ok found → length found.others < length bytes
+  pub fewer : (bytes : List ℕ) (found : FirstRecord) → first_record events big bytes ≡ Ok found → length found.others < length bytes
   unfolding first_record
   fewer bytes found is =
       let frame = gave (split_record big bytes) (λ frame. and_then (record_by_type events big frame.header frame.body) (with_frame frame)) found is in
@@ -95,7 +95,7 @@ module _ (events : EventTable) (big : Bool) where
 
   -- ---- as many steps as there are bytes are enough
 
-  with_same : (r : Result First PerfError) (f g : List ℕ → Records) → ((found : First) → r ≡ Ok found → f found.others ≡ g found.others) → records_with r f ≡ records_with r g
+  with_same : (r : Result FirstRecord PerfError) (f g : List ℕ → Records) → ((found : FirstRecord) → r ≡ Ok found → f found.others ≡ g found.others) → records_with r f ≡ records_with r g
   with_same (Err e) f g h = refl
   with_same (Ok found) f g h = ap (with_record found.first) (h found refl)
 
@@ -125,13 +125,13 @@ module _ (events : EventTable) (big : Bool) where
   pub none_met : (bytes : List ℕ) → (length bytes == 0) ≡ true → records_of events big bytes ≡ no_records None
   none_met bytes none = step bytes ∙ ap (λ (b : Bool). if b then no_records None else records_with (first_record events big bytes) (records_of events big)) none
 
-  met : (bytes : List ℕ) (r : Result First PerfError) → (length bytes == 0) ≡ false → r ≡ first_record events big bytes → records_of events big bytes ≡ records_with r (records_of events big)
+  met : (bytes : List ℕ) (r : Result FirstRecord PerfError) → (length bytes == 0) ≡ false → r ≡ first_record events big bytes → records_of events big bytes ≡ records_with r (records_of events big)
   met bytes r some is =
       step bytes
       ∙ (ap (λ (b : Bool). if b then no_records None else records_with (first_record events big bytes) (records_of events big)) some
-      ∙ ap (λ (r : Result First PerfError). records_with r (records_of events big)) (sym is))
+      ∙ ap (λ (r : Result FirstRecord PerfError). records_with r (records_of events big)) (sym is))
 
-  pub first_met : (bytes : List ℕ) (found : First) → (length bytes == 0) ≡ false → Ok found ≡ first_record events big bytes → records_of events big bytes ≡ with_record found.first (records_of events big found.others)
+  pub first_met : (bytes : List ℕ) (found : FirstRecord) → (length bytes == 0) ≡ false → Ok found ≡ first_record events big bytes → records_of events big bytes ≡ with_record found.first (records_of events big found.others)
   first_met bytes found some is = met bytes (Ok found) some is
 
   pub error_met : (bytes : List ℕ) (e : PerfError) → (length bytes == 0) ≡ false → Err e ≡ first_record events big bytes → records_of events big bytes ≡ no_records (Some e)
@@ -148,7 +148,7 @@ module _ (events : EventTable) (big : Bool) where
   pub cut_left : (is_cut : Bool) (bytes : List ℕ) → (length bytes == 0) ≡ true → is_cut ≡ true → left is_cut bytes ≡ no_records (Some DataOutOfBounds)
   cut_left is_cut bytes none cut = ap (λ (b : Bool). left b bytes) cut ∙ ap (until_cut true) (none_met bytes none)
 
-  pub first_left : (is_cut : Bool) (bytes : List ℕ) (found : First) → (length bytes == 0) ≡ false → Ok found ≡ first_record events big bytes → left is_cut bytes ≡ with_record found.first (left is_cut found.others)
+  pub first_left : (is_cut : Bool) (bytes : List ℕ) (found : FirstRecord) → (length bytes == 0) ≡ false → Ok found ≡ first_record events big bytes → left is_cut bytes ≡ with_record found.first (left is_cut found.others)
   first_left is_cut bytes found some is = ap (until_cut is_cut) (first_met bytes found some is)
 
   pub error_left : (is_cut : Bool) (bytes : List ℕ) (e e' : PerfError) → (length bytes == 0) ≡ false → Err e ≡ first_record events big bytes → Some e' ≡ (until_cut is_cut (no_records (Some e))).error →

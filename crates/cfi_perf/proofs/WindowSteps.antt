@@ -14,8 +14,8 @@ use Rattle.cfi_perf.specs.declared.record_frame.RecordHeader.{RecordHeader}
 use Rattle.cfi_perf.specs.Results.{and_then, or_error}
 use Rattle.cfi_perf.specs.ByteReads.{part, read_from}
 use Rattle.cfi_perf.specs.RecordFrames.{record_header}
-use Rattle.cfi_perf.specs.Records.{First, first_record}
-use Rattle.cfi_perf.specs.RecordFrames.{Framed, HasUncounted, after_record, split_record, uncounted_size}
+use Rattle.cfi_perf.specs.Records.{FirstRecord, first_record}
+use Rattle.cfi_perf.specs.RecordFrames.{FramedRecord, HasUncounted, after_record, split_record, uncounted_size}
 use Rattle.cfi_perf.specs.RecordTypes.{record_by_type}
 use Rattle.cfi_perf.specs.SampleIds.{without_id}
 use Rattle.cfi_perf.specs.EventTables.{EventTable}
@@ -162,21 +162,21 @@ module _ (big : Bool) (window others : List ℕ) (left : ℕ) (of : IsWindow win
 -- ---- the first record
 
 module _ (events : EventTable) (big : Bool) (bytes : List ℕ) where
-  abbrev then_record : Framed → Result First PerfError
+  abbrev then_record : FramedRecord → Result FirstRecord PerfError
   then_record found = and_then (record_by_type events big found.header found.body) (with_frame events big found)
 
   pub frame_refused : (e : PerfError) → Err e ≡ split_record big bytes → Err e ≡ first_record events big bytes
   unfolding first_record
-  frame_refused e is = ap (λ (r : Result Framed PerfError). and_then r then_record) is
+  frame_refused e is = ap (λ (r : Result FramedRecord PerfError). and_then r then_record) is
 
-  first_by : (found : Framed) → Ok found ≡ split_record big bytes → then_record found ≡ first_record events big bytes
+  first_by : (found : FramedRecord) → Ok found ≡ split_record big bytes → then_record found ≡ first_record events big bytes
   unfolding first_record
-  first_by found is = ap (λ (r : Result Framed PerfError). and_then r then_record) is
+  first_by found is = ap (λ (r : Result FramedRecord PerfError). and_then r then_record) is
 
-  pub record_refused : (found : Framed) (e : PerfError) → Ok found ≡ split_record big bytes → Err e ≡ record_by_type events big found.header found.body → Err e ≡ first_record events big bytes
+  pub record_refused : (found : FramedRecord) (e : PerfError) → Ok found ≡ split_record big bytes → Err e ≡ record_by_type events big found.header found.body → Err e ≡ first_record events big bytes
   record_refused found e is refused = ap (λ (r : Result Record PerfError). and_then r (with_frame events big found)) refused ∙ first_by found is
 
-  pub first_found : (found : Framed) (first : Record) → Ok found ≡ split_record big bytes → Ok first ≡ record_by_type events big found.header found.body →
+  pub first_found : (found : FramedRecord) (first : Record) → Ok found ≡ split_record big bytes → Ok first ≡ record_by_type events big found.header found.body →
       Ok (record { first = first; others = found.others }) ≡ first_record events big bytes
   first_found found first is was = ap (λ (r : Result Record PerfError). and_then r (with_frame events big found)) was ∙ first_by found is
 
@@ -215,7 +215,7 @@ module _ (big : Bool) (bytes : List ℕ) (n : ℕ) where
   front_body : (size : ℕ) → 8 + size ≤ length front → part front 8 size ≡ part bytes 8 size
   front_body size fits = sym (front_part front (drop n bytes) 8 size fits) ∙ ap (λ (l : List ℕ). part l 8 size) all_front
 
-  pub framed_alone : (found : Framed) → split_record big bytes ≡ Ok found → found.others ≡ drop n bytes →
+  pub framed_alone : (found : FramedRecord) → split_record big bytes ≡ Ok found → found.others ≡ drop n bytes →
       split_record big front ≡ Ok (record { header = found.header; body = found.body; others = [] })
   unfolding split_record
   framed_alone found is ends =
@@ -228,7 +228,7 @@ module _ (big : Bool) (bytes : List ℕ) (n : ℕ) where
       let fits = part_fits bytes 8 (header.value.size - 8) body.value was in
       let some : 8 ≤ header.value.size = ltb-false header.value.size 8 wide.0 in
       let fewer = no_more_after big header.value body.value (drop header.value.size bytes) others.value others.was in
-      let count : length others.value ≡ length bytes - n = ap (λ (f : Framed). length f.others) same ∙ (ap length ends ∙ length-drop n bytes) in
+      let count : length others.value ≡ length bytes - n = ap (λ (f : FramedRecord). length f.others) same ∙ (ap length ends ∙ length-drop n bytes) in
       let within : header.value.size ≤ length front = omega (arith, fits, some, fewer, count, front_length, length-drop header.value.size bytes) in
       let after : length (drop header.value.size front) ≡ length (drop header.value.size bytes) - length others.value = omega (arith, within, fits, some, count, front_length, length-drop header.value.size bytes, length-drop header.value.size front) in
       let read : read_from big front record_header ≡ Ok header.value = front_read (omega (arith, within, some)) ∙ not_error RecordCut (read_from big bytes record_header) header.value header.was in
@@ -237,22 +237,22 @@ module _ (big : Bool) (bytes : List ℕ) (n : ℕ) where
       let third = sized_by big front header.value (Some body.value) (front_body (header.value.size - 8) (omega (arith, within, some)) ∙ was) in
       let last = after_alone (uncounted_size big header.value body.value) (drop header.value.size bytes) (drop header.value.size front) others.value others.was after in
       first ∙ (second ∙ (third ∙ (ap (λ (r : Result (List ℕ) PerfError). and_then r (with_others header.value body.value)) last
-      ∙ ap (λ (f : Framed). with_others f.header f.body []) same)))
+      ∙ ap (λ (f : FramedRecord). with_others f.header f.body []) same)))
 
   abbrev record_found : Record → Result Record PerfError
   record_found r = Ok r
 
   module _ (events : EventTable) where
-    pub first_alone : (found : First) → Ok found ≡ first_record events big bytes → found.others ≡ drop n bytes → and_then (first_record events big front) only_record ≡ Ok found.first
+    pub first_alone : (found : FirstRecord) → Ok found ≡ first_record events big bytes → found.others ≡ drop n bytes → and_then (first_record events big front) only_record ≡ Ok found.first
     unfolding first_record
     first_alone found is ends =
         let frame = gave (split_record big bytes) (λ frame. and_then (record_by_type events big frame.header frame.body) (with_frame events big frame)) found (sym is) in
         let first = gave (record_by_type events big frame.value.header frame.value.body) (with_frame events big frame.value) found frame.gives in
         let same : record { first = first.value; others = frame.value.others } ≡ found = let e = first.gives in cc in
-        let alone = framed_alone frame.value frame.was (ap (λ (f : First). f.others) same ∙ ends) in
-        let kept : Framed = record { header = frame.value.header; body = frame.value.body; others = [] } in
-        ap (λ (r : Result Framed PerfError). and_then (and_then r (λ frame. and_then (record_by_type events big frame.header frame.body) (with_frame events big frame))) only_record) alone
-        ∙ (ap (λ (r : Result Record PerfError). and_then (and_then r (with_frame events big kept)) only_record) first.was ∙ ap (λ (f : First). record_found f.first) same)
+        let alone = framed_alone frame.value frame.was (ap (λ (f : FirstRecord). f.others) same ∙ ends) in
+        let kept : FramedRecord = record { header = frame.value.header; body = frame.value.body; others = [] } in
+        ap (λ (r : Result FramedRecord PerfError). and_then (and_then r (λ frame. and_then (record_by_type events big frame.header frame.body) (with_frame events big frame))) only_record) alone
+        ∙ (ap (λ (r : Result Record PerfError). and_then (and_then r (with_frame events big kept)) only_record) first.was ∙ ap (λ (f : FirstRecord). record_found f.first) same)
 
 -- ---- what a walk passed
 

@@ -9,28 +9,28 @@ use Rattle.cfi_perf.specs.declared.error.PerfError.{PerfError}
 use Rattle.cfi_perf.specs.ByteReads.{before_zero}
 use Rattle.cfi_perf.specs.Layouts.{has_any}
 use Rattle.cfi_perf.specs.Events.{Mapping, count_at, counted_id}
-use Rattle.cfi_perf.specs.RecordFrames.{Framed, split_record}
+use Rattle.cfi_perf.specs.RecordFrames.{FramedRecord, split_record}
 
 -- after pid, of four bytes, are 20 for the id; if PERF_RECORD_MISC_BUILD_ID_SIZE (1 << 15) is set,
 -- the byte after them counts those that it has
-abbrev pub entry_id : Framed → Option (List ℕ)
+abbrev pub entry_id : FramedRecord → Option (List ℕ)
 entry_id entry =
     counted_id (if has_any 0x8000 entry.header.misc then count_at 24 entry.body else 20)
     (drop 4 entry.body)
 
 -- perf gives those of a file no type; in a pipe they are PERF_RECORD_HEADER_BUILD_ID (67), among
 -- other records
-abbrev pub has_build_id : Framed → Bool
+abbrev pub has_build_id : FramedRecord → Bool
 has_build_id entry = (entry.header.kind == 0) || (entry.header.kind == 67)
 
 -- the file's name comes last
-abbrev pub is_entry_named : List ℕ → Framed → Bool
+abbrev pub is_entry_named : List ℕ → FramedRecord → Bool
 is_entry_named name entry =
     option_map_or (λ found. has_build_id entry && bytes_eq found name)
     (before_zero (drop 28 entry.body)) false
 
 abbrev pub id_with :
-    List ℕ → Result Framed PerfError → (List ℕ → Option (List ℕ)) → Option (List ℕ)
+    List ℕ → Result FramedRecord PerfError → (List ℕ → Option (List ℕ)) → Option (List ℕ)
 id_with name (Err e) others = None
 id_with name (Ok entry) others =
     if is_entry_named name entry then entry_id entry else others entry.others

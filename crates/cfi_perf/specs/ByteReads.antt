@@ -1,26 +1,15 @@
 -- What is read of a list of bytes: parts of it, items of one size, texts, entries.
-use Rattle.std.specs.Prelude.{ℕ, ◌+◌, ◌*◌, ◌/◌, Bool, zero, suc, List, [], ◌∷◌, length, take}
-use Rattle.std.specs.Prelude.{Option, Some, None, Result, Ok, Err, option_map, position, nat_le}
-use Rattle.std.specs.Prelude.{slice_range, ◌==◌, if◌then◌else◌}
+use Rattle.std.specs.Prelude.{ℕ, ◌*◌, ◌/◌, Bool, zero, suc, List, [], ◌∷◌, length, Result, Ok}
+use Rattle.std.specs.Prelude.{Err}
 use Rattle.std.specs.Int.{w32, w64}
 use Rattle.cfi_read_core.specs.declared.error.Error.{Error}
+pub use Rattle.cfi_read_core.specs.Bytes.{before_zero, part}
 use Rattle.cfi_read_core.specs.ReadFunctions.{Read, ◌>>=◌, Source, bytes, offset}
 use Rattle.cfi_read_core.specs.Numbers.{unsigned}
 use Rattle.cfi_read_core.specs.ReaderCalls.{read_at}
 use Rattle.cfi_read_core.specs.SliceReaders.{slice_over}
 
--- ---- bytes
-
--- size bytes from the offset on, if there are so many
-abbrev pub part : List ℕ → ℕ → ℕ → Option (List ℕ)
-part bytes offset size =
-    if nat_le (offset + size) (length bytes)
-    then Some (slice_range bytes offset (offset + size))
-    else None
-
--- the bytes before the first zero
-abbrev pub before_zero : List ℕ → Option (List ℕ)
-before_zero bytes = option_map (λ n. take n bytes) (position (λ x. x == 0) bytes)
+-- ---- items
 
 -- what a read gives at the beginning of the bytes
 abbrev pub read_from : {A : Type 0} → Bool → List ℕ → Read A → Result A Error

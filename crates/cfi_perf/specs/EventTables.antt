@@ -18,7 +18,7 @@ use Rattle.cfi_perf.specs.declared.event_entry.EventEntry.{EventEntry}
 use Rattle.cfi_perf.specs.declared.layout.EventLayout.{EventLayout}
 use Rattle.cfi_perf.specs.declared.event_table.EventTable.{EventTable as EventTableOfCode}
 use Rattle.cfi_perf.specs.declared.event_table.ProfileEvent.{ProfileEvent as EventOfCode}
-use Rattle.cfi_perf.specs.FileParts.{Parts, parts_at_hand}
+use Rattle.cfi_perf.specs.FileParts.{SectionBytes, parts_at_hand}
 use Rattle.cfi_perf.specs.ByteReads.{entries, numbers_of, read_from}
 use Rattle.cfi_perf.specs.Layouts.{has, PERF_SAMPLE_IDENTIFIER}
 use Rattle.cfi_perf.specs.EventEntries.{entry}
@@ -50,12 +50,12 @@ abbrev pub numbers_in : Bool → Option (List ℕ) → List ℕ
 numbers_in big None = []
 numbers_in big (Some bytes) = numbers_of big bytes
 
-abbrev pub known_event : Bool → Parts → EventEntry → KnownEvent
+abbrev pub known_event : Bool → SectionBytes → EventEntry → KnownEvent
 known_event big parts e =
     record { attribute = e.attribute; ids = numbers_in big (parts e.ids) }
 
 -- n events of this form, in these bytes
-abbrev pub known_events : Bool → Parts → ℕ → EntryForm → List ℕ → List KnownEvent
+abbrev pub known_events : Bool → SectionBytes → ℕ → EntryForm → List ℕ → List KnownEvent
 known_events big parts n form attrs =
     map (known_event big parts) (entries n (entry form) (slice_over attrs big).source 0)
 
@@ -77,7 +77,7 @@ event_table_view table = record {
 }
 
 -- those of a section, by the sections of their names and of builds
-abbrev pub event_table_of : Bool → Parts → EventSection → List ℕ → List ℕ → EventTable
+abbrev pub event_table_of : Bool → SectionBytes → EventSection → List ℕ → List ℕ → EventTable
 event_table_of big parts events descriptions build_ids = record {
   big_endian = big;
   descriptions = descriptions;

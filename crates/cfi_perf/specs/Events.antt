@@ -36,7 +36,7 @@ pub record Mapping : Type 0 where
   pub name : List ℕ
   pub build_id : Option (List ℕ)  -- of the file, if it is known
 
-pub record Program : Type 0 where
+pub record NamedProgram : Type 0 where
   pub pid : ℕ
   pub tid : ℕ
   pub name : List ℕ
@@ -44,7 +44,7 @@ pub record Program : Type 0 where
 
 pub data Event : Type 0 where
   MappingEvent : Mapping → Event
-  ProgramEvent : Program → Event
+  ProgramEvent : NamedProgram → Event
   ForkEvent : Fork → Event
   SampleEvent : Sample → Event
   LostEvent : Lost → Event
@@ -66,7 +66,7 @@ mapping_record_view m = record {
   build_id = option_map (λ id. id.now) m.build_id;
 }
 
-abbrev pub program_view : ProgramFields → Program
+abbrev pub program_view : ProgramFields → NamedProgram
 program_view p = record { pid = p.pid; tid = p.tid; name = p.name.now; is_exec = p.is_exec }
 
 abbrev pub event_view : EventOfCode → Event
@@ -140,7 +140,7 @@ mapping2 big misc fields =
 -- ---- programs and processes
 
 -- PERF_RECORD_COMM. PERF_RECORD_MISC_COMM_EXEC is 1 << 13
-unfoldable pub program : Bool → ℕ → List ℕ → Result Program PerfError
+unfoldable pub program : Bool → ℕ → List ℕ → Result NamedProgram PerfError
 program big misc fields =
     and_then (or_error RecordCut (read_from big fields thread)) (λ thread.
     and_then (ok_or (before_zero (drop 8 fields)) RecordCut) (λ name.

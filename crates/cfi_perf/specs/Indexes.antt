@@ -33,16 +33,16 @@ abbrev pub record_in : RecordWalk → List ℕ → List ℕ → RecordPlace → 
 record_in walk all kept place = record_by place.kind walk all kept place
 
 -- that a place is one of the bytes that were kept, if it is to be
-abbrev pub IsKeptIn : PlaceKind → ℕ → RecordPlace → Type 0
-IsKeptIn Kept count place = place.offset + place.size ≤ count
-IsKeptIn _ count place = Unit {0}
+abbrev pub IsWithinKept : PlaceKind → ℕ → RecordPlace → Type 0
+IsWithinKept Kept count place = place.offset + place.size ≤ count
+IsWithinKept _ count place = Unit {0}
 
 -- ---- all, in order
 
 abbrev pub IsRecordAt : RecordWalk → List ℕ → List ℕ → RecordPlace → Record → Type 0
 IsRecordAt walk all kept place r =
     (place.time ≡ r.time) × (record_in walk all kept place ≡ Ok r)
-    × IsKeptIn place.kind (length kept) place
+    × IsWithinKept place.kind (length kept) place
 
 abbrev pub AreAt : RecordWalk → List ℕ → List ℕ → List RecordPlace → List Record → Type 0
 AreAt walk all kept [] records = records ≡ []

@@ -19,7 +19,7 @@ use Rattle.cfi_perf.specs.declared.error.PerfError.TheVariants.{PipeMode}
 use Rattle.cfi_perf.specs.EventTables.{EventTable, event_table_of}
 use Rattle.cfi_perf.specs.FileParts.{file_parts}
 use Rattle.cfi_perf.specs.EventEntries.{first_event, pipe_event}
-use Rattle.cfi_perf.specs.RecordFrames.{Framed, split_record}
+use Rattle.cfi_perf.specs.RecordFrames.{FramedRecord, split_record}
 use Rattle.cfi_perf.specs.Results.{and_then}
 use Rattle.cfi_perf.specs.ByteReads.{entries, read_from}
 use Rattle.cfi_perf.specs.EventSections.{EventSection}
@@ -37,10 +37,10 @@ is_pipe endian bytes = is_size (read_from (is_big endian) (drop 8 bytes) (unsign
 -- ---- the events
 
 -- how many records are PERF_RECORD_HEADER_ATTR (64)
-abbrev pub events_of : Framed → ℕ
+abbrev pub events_of : FramedRecord → ℕ
 events_of r = if r.header.kind == 64 then 1 else 0
 
-abbrev pub count_with : Result Framed PerfError → (List ℕ → ℕ) → ℕ
+abbrev pub count_with : Result FramedRecord PerfError → (List ℕ → ℕ) → ℕ
 count_with (Err e) others = 0
 count_with (Ok r) others = events_of r + others r.others
 
@@ -69,12 +69,12 @@ pipe_section big records =
 -- ---- the features
 
 -- PERF_RECORD_HEADER_FEATURE (80) has the number of the feature, and the bytes of its section
-abbrev pub is_feature : Bool → ℕ → Framed → Bool
+abbrev pub is_feature : Bool → ℕ → FramedRecord → Bool
 is_feature big number r =
     (r.header.kind == 80) && is_size (read_from big r.body (unsigned w64)) number
 
 abbrev pub section_with :
-    Bool → ℕ → Result Framed PerfError → (List ℕ → Option (List ℕ)) → Option (List ℕ)
+    Bool → ℕ → Result FramedRecord PerfError → (List ℕ → Option (List ℕ)) → Option (List ℕ)
 section_with big number (Err e) others = None
 section_with big number (Ok r) others =
     if is_feature big number r then Some (drop 8 r.body) else others r.others
@@ -104,7 +104,7 @@ pipe_architecture big records event = architecture_by big event (feature big rec
 -- ---- the builds of files
 
 abbrev pub build_ids_with :
-    List ℕ → Result Framed PerfError → (List ℕ → List ℕ) → List ℕ
+    List ℕ → Result FramedRecord PerfError → (List ℕ → List ℕ) → List ℕ
 build_ids_with records (Err e) others = []
 build_ids_with records (Ok r) others = if r.header.kind == 67 then records else others r.others
 

@@ -21,12 +21,12 @@ record_header = do
   give (record { kind = kind; misc = misc; size = size })
 
 -- A record's header, its other bytes, and the bytes that follow.
-pub record Framed : Type 0 where
+pub record FramedRecord : Type 0 where
   pub header : RecordHeader
   pub body : List ℕ
   pub others : List ℕ
 
-abbrev pub framed_view : FramedOfCode → Framed
+abbrev pub framed_view : FramedOfCode → FramedRecord
 framed_view f = record { header = f.header; body = f.body.now; others = f.others.now }
 
 -- How many bytes stand after a record that its size doesn't count: after PERF_RECORD_AUXTRACE
@@ -54,7 +54,7 @@ after_record big header body after =
     if nat_lt (length after) size then Err RecordCut else Ok (drop size after))
 
 -- the first record of these bytes; its size counts its header, eight bytes
-unfoldable pub split_record : Bool → List ℕ → Result Framed PerfError
+unfoldable pub split_record : Bool → List ℕ → Result FramedRecord PerfError
 split_record big bytes =
     and_then (or_error RecordCut (read_from big bytes record_header)) (λ header.
     if nat_lt header.size 8 then Err (RecordSize header.size)

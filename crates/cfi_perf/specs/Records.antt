@@ -18,14 +18,14 @@ use Rattle.cfi_perf.specs.RecordTypes.{record_by_type}
 -- ---- all records
 
 -- The first record, and the bytes that follow.
-pub record First : Type 0 where
+pub record FirstRecord : Type 0 where
   pub first : Record
   pub others : List ℕ
 
-abbrev pub first_record_view : FirstOfCode → First
+abbrev pub first_record_view : FirstOfCode → FirstRecord
 first_record_view f = record { first = record_view f.first; others = f.others.now }
 
-unfoldable pub first_record : EventTable → Bool → List ℕ → Result First PerfError
+unfoldable pub first_record : EventTable → Bool → List ℕ → Result FirstRecord PerfError
 first_record events big bytes =
     and_then (split_record big bytes) (λ found.
     and_then (record_by_type events big found.header found.body) (λ first.
@@ -43,7 +43,7 @@ abbrev pub with_record : Record → Records → Records
 with_record r others = record { records = r ∷ others.records; error = others.error }
 
 -- the first record, and those of the bytes that follow
-abbrev pub records_with : Result First PerfError → (List ℕ → Records) → Records
+abbrev pub records_with : Result FirstRecord PerfError → (List ℕ → Records) → Records
 records_with (Err e) others = no_records (Some e)
 records_with (Ok found) others = with_record found.first (others found.others)
 

@@ -14,7 +14,7 @@ use Rattle.cfi_perf.specs.declared.file_header.FileSection.{FileSection}
 use Rattle.cfi_perf.specs.declared.sections.Sections.{Sections as SectionsOfCode}
 use Rattle.cfi_perf.specs.Results.{and_then, or_error}
 use Rattle.cfi_perf.specs.ByteReads.{read_from}
-use Rattle.cfi_perf.specs.FileParts.{Parts, parts_at_hand, file_parts}
+use Rattle.cfi_perf.specs.FileParts.{SectionBytes, parts_at_hand, file_parts}
 use Rattle.cfi_perf.specs.EventEntries.{events}
 use Rattle.cfi_perf.specs.EventTables.{EventTable, event_table_of}
 use Rattle.cfi_perf.specs.FileHeaders.{file_section}
@@ -23,7 +23,7 @@ use Rattle.cfi_perf.specs.Architectures.{text_in, machine_by}
 
 -- The parts of the file but for the records.
 pub record Sections : Type 0 where
-  pub parts : Parts  -- the bytes of each place
+  pub parts : SectionBytes  -- the bytes of each place
   pub endian : RunTimeEndian
   pub events : EventSection
   pub features : ℕ

@@ -17,8 +17,8 @@ use Rattle.cfi_perf.specs.declared.windows.FramedIn.{FramedIn}
 use Rattle.cfi_perf.specs.declared.windows.FirstIn.{FirstIn}
 use Rattle.cfi_perf.specs.EventTables.{event_table_view}
 use Rattle.cfi_perf.specs.Events.{OtherEvent, Record, record_view}
-use Rattle.cfi_perf.specs.Records.{First, Records, first_record, records_of, until_cut}
-use Rattle.cfi_perf.specs.RecordFrames.{Framed}
+use Rattle.cfi_perf.specs.Records.{FirstRecord, Records, first_record, records_of, until_cut}
+use Rattle.cfi_perf.specs.RecordFrames.{FramedRecord}
 
 -- The size of a record is a number of 16 bits (struct perf_event_header).
 pub record IsWindow (window others : List ℕ) (left : ℕ) : Type 0 where
@@ -27,11 +27,11 @@ pub record IsWindow (window others : List ℕ) (left : ℕ) : Type 0 where
 
 -- ---- what the code finds
 
-abbrev pub frame_of_window : List ℕ → FramedIn → Framed
+abbrev pub frame_of_window : List ℕ → FramedIn → FramedRecord
 frame_of_window bytes f =
     record { header = f.header; body = f.body.now; others = drop f.size bytes }
 
-abbrev pub first_of_window : List ℕ → FirstIn → First
+abbrev pub first_of_window : List ℕ → FirstIn → FirstRecord
 first_of_window bytes f = record { first = record_view f.first; others = drop f.size bytes }
 
 -- ---- a walk
@@ -52,7 +52,7 @@ abbrev pub bytes_passed : RecordWalk → RecordWalk → ℕ
 bytes_passed old new = old.left - new.left
 
 -- the first record, if no bytes follow it
-abbrev pub only_record : First → Result Record PerfError
+abbrev pub only_record : FirstRecord → Result Record PerfError
 only_record found = if length found.others == 0 then Ok found.first else Err RecordCut
 
 abbrev pub record_alone : RecordWalk → List ℕ → Result Record PerfError
