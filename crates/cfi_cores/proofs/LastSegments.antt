@@ -3,7 +3,7 @@ use Rattle.std.proofs.Common.{◌≡◌, ℕ, zero, suc, ◌-◌, ◌<◌, ◌�
 use Rattle.std.specs.List.{filter, last_or}
 use Rattle.std.proofs.lemmas.Bool.{cond-true, cond-false}
 use Rattle.cfi_cores.specs.declared.segments.CoreSegment.{CoreSegment as SegmentOfCode}
-use Rattle.cfi_cores.specs.CoreSegments.{CoreSegment, last_upto, segment_view}
+use Rattle.cfi_cores.specs.CoreSegments.{CoreSegment, last_up_to, segment_view}
 
 module _ {X Y : Type 0} (view : X → Y) (p : Y → Bool) where
   none_pass : (xs : List X) (o : Option Y) → ((j : ℕ) (d : X) → j < length xs → p (view (get_or xs j d)) ≡ false) → last_or o (filter p (map view xs)) ≡ o
@@ -34,10 +34,10 @@ module _ (segments : List SegmentOfCode) (a k : ℕ)
   abbrev begins : CoreSegment → Bool
   begins s = nat_le s.start a
 
-  pub none_begins : k ≡ 0 → last_upto a (map segment_view segments) ≡ None
+  pub none_begins : k ≡ 0 → last_up_to a (map segment_view segments) ≡ None
   none_begins none = none_pass segment_view begins segments None (λ j d inside. behind j d (omega (arith, none)) inside)
 
-  pub last_begins : (x : SegmentOfCode) → 0 < k → k ≤ length segments → last_upto a (map segment_view segments) ≡ Some (segment_view (get_or segments (k - 1) x))
+  pub last_begins : (x : SegmentOfCode) → 0 < k → k ≤ length segments → last_up_to a (map segment_view segments) ≡ Some (segment_view (get_or segments (k - 1) x))
   last_begins x some inside =
       last_passes segment_view begins segments (k - 1) None x (omega (arith, some, inside))
       (λ j d less here. upto j d (omega (arith, less, some)) here)

@@ -13,7 +13,7 @@ use Rattle.cfi_elf.specs.Images.{ArePartsOf, IsPartOf, Part, in_part, in_parts, 
 use Rattle.cfi_elf.specs.Options.{or_else}
 use Rattle.cfi_elf.proofs.ImageParts.{part_of_part}
 use Rattle.cfi_cores.specs.StackWindows.{AreFrom}
-use Rattle.cfi_cores.specs.CoreSegments.{bytes_of}
+use Rattle.cfi_cores.specs.CoreSegments.{segment_bytes}
 
 -- ---- a part
 
@@ -52,7 +52,7 @@ in_first bytes first found offset size of is = part_of_part bytes first found 0 
 
 -- ---- the bytes of a segment
 
-pub size_of : (bytes : List ℕ) (h : ProgramHeader) → length (bytes_of bytes h) ≡ min h.p_filesz (length bytes - h.p_offset)
+pub size_of : (bytes : List ℕ) (h : ProgramHeader) → length (segment_bytes bytes h) ≡ min h.p_filesz (length bytes - h.p_offset)
 size_of bytes h = length-take h.p_filesz (drop h.p_offset bytes) ∙ ap (min h.p_filesz) (length-drop h.p_offset bytes)
 
 pub no_bytes : (bytes : List ℕ) → length bytes ≡ 0 → bytes ≡ []
@@ -60,7 +60,7 @@ no_bytes [] none = refl
 no_bytes (b ∷ bytes) none = absurd (omega arith)
 
 -- as many as the file has
-pub all_of : (bytes found : List ℕ) (h : ProgramHeader) (size : ℕ) → size ≡ min h.p_filesz (length bytes - h.p_offset) → part bytes h.p_offset size ≡ Some found → found ≡ bytes_of bytes h
+pub all_of : (bytes found : List ℕ) (h : ProgramHeader) (size : ℕ) → size ≡ min h.p_filesz (length bytes - h.p_offset) → part bytes h.p_offset size ≡ Some found → found ≡ segment_bytes bytes h
 all_of bytes found h size is there =
     let (fits, same) = part_there bytes found h.p_offset size there in
     let left = length-drop h.p_offset bytes in
@@ -125,7 +125,7 @@ fewer_at bytes found offset n is =
             ap (λ (k : ℕ). take k found) is ∙ (take_all (length found) found (omega arith) ∙ sym (take_all n found past))
 
 -- and at most those of a segment
-pub of_segment : (bytes found : List ℕ) (h : ProgramHeader) (behind : ℕ) → behind + length found ≤ h.p_filesz → AreFrom bytes (h.p_offset + behind) found → found ≡ take (length found) (drop behind (bytes_of bytes h))
+pub of_segment : (bytes found : List ℕ) (h : ProgramHeader) (behind : ℕ) → behind + length found ≤ h.p_filesz → AreFrom bytes (h.p_offset + behind) found → found ≡ take (length found) (drop behind (segment_bytes bytes h))
 of_segment bytes found h behind fits is =
     let n = length found in
     let long : behind + (h.p_filesz - behind) ≡ h.p_filesz = omega (arith, fits) in
@@ -140,7 +140,7 @@ pub if_parts : (bytes : List ℕ) (offset size : ℕ) (parts : List Part) → Ar
 if_parts bytes offset size parts are (Some found) is = in_parts_there bytes found.now offset size parts are (sym is)
 if_parts bytes offset size parts are None is = tt
 
-pub if_all : (bytes : List ℕ) (h : ProgramHeader) (size : ℕ) → size ≡ min h.p_filesz (length bytes - h.p_offset) → (o : Option (Bor (List ℕ))) → IfSome o (λ found. part bytes h.p_offset size ≡ Some found.now) → IfSome o (λ found. found.now ≡ bytes_of bytes h)
+pub if_all : (bytes : List ℕ) (h : ProgramHeader) (size : ℕ) → size ≡ min h.p_filesz (length bytes - h.p_offset) → (o : Option (Bor (List ℕ))) → IfSome o (λ found. part bytes h.p_offset size ≡ Some found.now) → IfSome o (λ found. found.now ≡ segment_bytes bytes h)
 if_all bytes h size is (Some found) there = all_of bytes found.now h size is there
 if_all bytes h size is None there = tt
 

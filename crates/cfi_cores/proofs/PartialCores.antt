@@ -9,7 +9,7 @@ use Rattle.cfi_elf.specs.declared.program_header.ProgramHeader.{ProgramHeader}
 use Rattle.cfi_cores.specs.declared.segments.CoreSegment.{CoreSegment as SegmentOfCode}
 use Rattle.cfi_cores.specs.CoreHeads.{ArePlaces, loaded_headers}
 use Rattle.cfi_cores.specs.PartialCores.{segment_at}
-use Rattle.cfi_cores.specs.CoreSegments.{AreSorted, CoreSegment, bytes_of, loaded_in, segment_view}
+use Rattle.cfi_cores.specs.CoreSegments.{AreSortedByAddress, CoreSegment, segment_bytes, loaded_in, segment_view}
 
 no_place : ℕ → ProgramHeader
 no_place a = record { p_type = 0; p_flags = 0; p_offset = 0; p_vaddr = a; p_filesz = 0; p_memsz = 0 }
@@ -30,7 +30,7 @@ map_mapped {Z = Z} f g (x ∷ xs) = ap (λ (zs : List Z). g (f x) ∷ zs) (map_m
 module _ (bytes : List ℕ) where
   -- a segment of the code
   of_code : ProgramHeader → SegmentOfCode
-  of_code h = record { start = h.p_vaddr; bytes = record { ref_ptr = (0, 0); now = bytes_of bytes h }; is_executable = not (bit_and h.p_flags 1 == 0) }
+  of_code h = record { start = h.p_vaddr; bytes = record { ref_ptr = (0, 0); now = segment_bytes bytes h }; is_executable = not (bit_and h.p_flags 1 == 0) }
 
   viewed : (hs : List ProgramHeader) → map segment_view (map of_code hs) ≡ map (segment_at bytes) hs
   unfolding of_code
@@ -59,7 +59,7 @@ module _ (bytes : List ℕ) where
       let p : SegmentOfCode → Bool = λ y. ties (λ (a b : SegmentOfCode). is_lt (nat_cmp a.start b.start)) x y in
       filter_mapped p of_code ps ∙ (ap (map of_code) (is (no_place x.start)) ∙ sym (filter_mapped p of_code hs))
 
-  pub sorted_places : (headers places : List ProgramHeader) → ArePlaces headers places → AreSorted (filter_map (loaded_in bytes) headers) (map (segment_at bytes) places)
+  pub sorted_places : (headers places : List ProgramHeader) → ArePlaces headers places → AreSortedByAddress (filter_map (loaded_in bytes) headers) (map (segment_at bytes) places)
   sorted_places headers places are = record {
     read = map of_code (loaded_headers headers);
     ordered = map of_code places;

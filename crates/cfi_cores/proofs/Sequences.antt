@@ -1,13 +1,13 @@
 -- What notes say, one after the other.
 use Rattle.std.proofs.Common.{◌≡◌, ◌∙◌, ℕ, List, [], ◌∷◌, Option, Some, None, Ok, Err, refl, sym, ap, append_assoc, append-nil}
 use Rattle.cfi_elf.specs.declared.error.ElfError.{ElfError}
-use Rattle.cfi_elf.specs.Notes.{Note, Notes, items}
+use Rattle.cfi_elf.specs.Notes.{Note, Notes, note_items}
 use Rattle.cfi_elf.specs.Options.{or_else}
 use Rattle.cfi_elf.proofs.NoteSteps.{error_is, first_is, none_are}
 use Rattle.cfi_processes.specs.declared.registers.SampleMachine.{SampleMachine}
 use Rattle.cfi_cores.specs.declared.error.CoreError.{CoreError}
 use Rattle.cfi_cores.specs.declared.error.CoreError.TheVariants.{NoteCut}
-use Rattle.cfi_cores.specs.Contents.{Contents, ended_by, then_contents, no_contents, of_all, of_note}
+use Rattle.cfi_cores.specs.Contents.{Contents, ended_by, then_contents, no_contents, contents_of_all, contents_of_note}
 use Rattle.cfi_cores.specs.CoreThreads.{CoreThread}
 use Rattle.cfi_cores.specs.MappedFiles.{CoreMapping}
 
@@ -62,11 +62,11 @@ pub all_read : (old all whole : Contents) → all ≡ no_contents → then_conte
 all_read old all whole none before = nothing_more old ∙ (ap (then_contents old) (sym none) ∙ before)
 
 module _ (machine : SampleMachine) where
-  pub note_first : (old new : Notes) (note : Note) → items old ≡ Ok note ∷ items new → of_all machine old ≡ then_contents (of_note machine note) (of_all machine new)
-  note_first old new note e = ap (of_all machine) (first_is old new note e)
+  pub note_first : (old new : Notes) (note : Note) → note_items old ≡ Ok note ∷ note_items new → contents_of_all machine old ≡ then_contents (contents_of_note machine note) (contents_of_all machine new)
+  note_first old new note e = ap (contents_of_all machine) (first_is old new note e)
 
-  pub cut_first : (old new : Notes) (error : ElfError) → items old ≡ Err error ∷ items new → of_all machine old ≡ then_contents (ended_by NoteCut) (of_all machine new)
-  cut_first old new error e = ap (of_all machine) (error_is old new error e)
+  pub cut_first : (old new : Notes) (error : ElfError) → note_items old ≡ Err error ∷ note_items new → contents_of_all machine old ≡ then_contents (ended_by NoteCut) (contents_of_all machine new)
+  cut_first old new error e = ap (contents_of_all machine) (error_is old new error e)
 
-  pub no_note : (old : Notes) → items old ≡ [] → of_all machine old ≡ no_contents
-  no_note old e = ap (of_all machine) (none_are old e)
+  pub no_note : (old : Notes) → note_items old ≡ [] → contents_of_all machine old ≡ no_contents
+  no_note old e = ap (contents_of_all machine) (none_are old e)

@@ -16,9 +16,9 @@ use Rattle.cfi_read_core.specs.SliceReaders.{slice_over}
 use Rattle.std.specs.Result.{result_ok}
 use Rattle.cfi_expression.specs.Windows.{at_distance, number_in}
 use Rattle.cfi_elf.specs.declared.program_header.ProgramHeader.{ProgramHeader}
-use Rattle.cfi_cores.specs.StackWindows.{IsStackOf, IsWindowIn, start_from}
+use Rattle.cfi_cores.specs.StackWindows.{IsStackOf, IsSegmentWindow, start_from}
 use Rattle.cfi_cores.specs.PartialCores.{segment_at}
-use Rattle.cfi_cores.specs.CoreSegments.{CoreSegment, last_upto, number_among}
+use Rattle.cfi_cores.specs.CoreSegments.{CoreSegment, last_up_to, number_among}
 use Rattle.cfi_cores.specs.CoreSegments as segments
 use Rattle.cfi_cores.proofs.LastSegments.{last_passes}
 
@@ -186,7 +186,7 @@ module _ (bytes : List ℕ) (places : List ProgramHeader) (count next : ℕ) (x 
   abbrev place : ProgramHeader
   place = get_or places (count - 1) x
 
-  module _ (is : IsWindowIn (segment_at bytes place) next window) (a size n : ℕ) (number : segments.number_of a size window ≡ Some n) where
+  module _ (is : IsSegmentWindow (segment_at bytes place) next window) (a size n : ℕ) (number : segments.segment_number a size window ≡ Some n) where
     from_start : window.start ≤ a
     from_start = (read_there window.bytes window.start a size n number).0
 
@@ -195,7 +195,7 @@ module _ (bytes : List ℕ) (places : List ProgramHeader) (count next : ℕ) (x 
         let there = number_inside window.bytes (segment_at bytes place).bytes is.distance is.part (a - window.start) size n (read_there window.bytes window.start a size n number).1 in
         omega (arith, is.below, from_start, there)
 
-    in_place : segments.number_of a size (segment_at bytes place) ≡ Some n
+    in_place : segments.segment_number a size (segment_at bytes place) ≡ Some n
     in_place =
         let distance : a - window.start + is.distance ≡ a - place.p_vaddr = omega (arith, is.start, from_start) in
         let above : place.p_vaddr ≤ a = omega (arith, is.start, from_start) in
@@ -221,9 +221,9 @@ module _ (bytes : List ℕ) (places : List ProgramHeader) (count next : ℕ) (x 
 
     in_segments : number_among (map (segment_at bytes) places) a size ≡ Some n
     in_segments =
-        ap (option_and_then (segments.number_of a size))
+        ap (option_and_then (segments.segment_number a size))
         (last_passes (segment_at bytes) (λ s. nat_le s.start a) places (count - 1) None x (omega (arith, some, inside)) upto behind_them)
         ∙ in_place
 
-  pub stack_of : IsWindowIn (segment_at bytes place) next window → IsStackOf (map (segment_at bytes) places) window
+  pub stack_of : IsSegmentWindow (segment_at bytes place) next window → IsStackOf (map (segment_at bytes) places) window
   stack_of is = λ a size n number. in_segments is a size n number

@@ -11,12 +11,12 @@ use Rattle.cfi_elf.specs.SegmentLists.{program_table, segment_count}
 use Rattle.cfi_elf.specs.declared.error.ElfError.TheVariants.{NotCore}
 use Rattle.cfi_processes.specs.declared.registers.SampleMachine.TheVariants.{X86_64, AArch64}
 use Rattle.cfi_cores.specs.declared.error.CoreError.TheVariants.{Elf, UnknownMachine, NoteCut, ThreadCut}
-use Rattle.cfi_cores.specs.Builds.{build_of, image_of}
-use Rattle.cfi_cores.specs.Contents.{then_contents, of_note, of_segment}
+use Rattle.cfi_cores.specs.Builds.{build_of, mapped_image}
+use Rattle.cfi_cores.specs.Contents.{then_contents, contents_of_note, contents_of_segment}
 use Rattle.cfi_cores.specs.CoreFiles.{core_of}
 use Rattle.cfi_cores.specs.CoreRegisters.{core_place, core_place_x86_64}
-use Rattle.cfi_cores.specs.CoreSegments.{CoreSegment, last_upto}
-use Rattle.cfi_cores.specs.CoreThreads.{CoreThread, register_of, thread_in}
+use Rattle.cfi_cores.specs.CoreSegments.{CoreSegment, last_up_to}
+use Rattle.cfi_cores.specs.CoreThreads.{CoreThread, thread_register, thread_in}
 use Rattle.cfi_cores.specs.MappedFiles.{CoreMapping, file_table, files_in}
 use Rattle.cfi_cores.specs.ProcessNames.{process_name}
 use Rattle.cfi_cores.specs.Vdso.{vdso_by}
@@ -62,23 +62,23 @@ abbrev the_thread : CoreThread
 the_thread = record { tid = 4711; signal = 6; fault = None; registers = registers }
 
 -- rax (0) is the eleventh, rsp (7) the twentieth, r15 (15) the first, rip (16) the seventeenth
-its_rax : register_of X86_64 the_thread 0 ≡ Some 0x100a
+its_rax : thread_register X86_64 the_thread 0 ≡ Some 0x100a
 unfolding computing
 its_rax = refl
 
-its_rsp : register_of X86_64 the_thread 7 ≡ Some 0x1013
+its_rsp : thread_register X86_64 the_thread 7 ≡ Some 0x1013
 unfolding computing
 its_rsp = refl
 
-its_r15 : register_of X86_64 the_thread 15 ≡ Some 0x1000
+its_r15 : thread_register X86_64 the_thread 15 ≡ Some 0x1000
 unfolding computing
 its_r15 = refl
 
-its_rip : register_of X86_64 the_thread 16 ≡ Some 0x1010
+its_rip : thread_register X86_64 the_thread 16 ≡ Some 0x1010
 unfolding computing
 its_rip = refl
 
-no_more_registers : register_of X86_64 the_thread 17 ≡ None
+no_more_registers : thread_register X86_64 the_thread 17 ≡ None
 unfolding computing
 no_more_registers = refl
 
@@ -178,17 +178,17 @@ of_another_machine = refl
 abbrev thread_note : List ℕ → List ℕ
 thread_note desc = hex (codes "05000000480100000100000043") ++ hex (codes "4f524500000000") ++ desc
 
-the_thread_alone : of_segment X86_64 (thread_note (status ++ registers)) ≡ record { threads = the_thread ∷ []; mapped = None; vector = None; siginfo = None; name = None; error = None }
+the_thread_alone : contents_of_segment X86_64 (thread_note (status ++ registers)) ≡ record { threads = the_thread ∷ []; mapped = None; vector = None; siginfo = None; name = None; error = None }
 unfolding computing
 the_thread_alone = refl
 
 -- a note of a thread with too few bytes, and a list of files behind it
-nothing_behind_an_error : then_contents (of_note X86_64 (record { name = codes "CORE"; kind = 1; desc = status })) (of_note X86_64 (record { name = codes "CORE"; kind = 0x46494c45; desc = files }))
+nothing_behind_an_error : then_contents (contents_of_note X86_64 (record { name = codes "CORE"; kind = 1; desc = status })) (contents_of_note X86_64 (record { name = codes "CORE"; kind = 0x46494c45; desc = files }))
     ≡ record { threads = []; mapped = None; vector = None; siginfo = None; name = None; error = Some ThreadCut }
 unfolding computing
 nothing_behind_an_error = refl
 
-of_another_owner : of_note X86_64 (record { name = codes "LINUX"; kind = 1; desc = status }) ≡ record { threads = []; mapped = None; vector = None; siginfo = None; name = None; error = None }
+of_another_owner : contents_of_note X86_64 (record { name = codes "LINUX"; kind = 1; desc = status }) ≡ record { threads = []; mapped = None; vector = None; siginfo = None; name = None; error = None }
 unfolding computing
 of_another_owner = refl
 
@@ -199,13 +199,13 @@ three_segments =
     record { start = 4; bytes = 1 ∷ []; is_executable = false } ∷ record { start = 8; bytes = 2 ∷ []; is_executable = false }
     ∷ record { start = 8; bytes = 3 ∷ []; is_executable = false } ∷ []
 
-last_of_two : option_map (λ s. s.bytes) (last_upto 9 three_segments) ≡ Some (3 ∷ [])
+last_of_two : option_map (λ s. s.bytes) (last_up_to 9 three_segments) ≡ Some (3 ∷ [])
 last_of_two = refl
 
-before_the_second : option_map (λ s. s.bytes) (last_upto 7 three_segments) ≡ Some (1 ∷ [])
+before_the_second : option_map (λ s. s.bytes) (last_up_to 7 three_segments) ≡ Some (1 ∷ [])
 before_the_second = refl
 
-before_all : last_upto 3 three_segments ≡ None
+before_all : last_up_to 3 three_segments ≡ None
 before_all = refl
 
 -- ---- the name of the process
@@ -258,5 +258,5 @@ its_build = refl
 no_build : build_of images two_mappings (codes "/bc") ≡ None
 no_build = refl
 
-no_image : image_of (take 1 images) two_mappings (codes "/a") ≡ None
+no_image : mapped_image (take 1 images) two_mappings (codes "/a") ≡ None
 no_image = refl

@@ -17,11 +17,11 @@ use Rattle.cfi_processes.specs.declared.registers.SampleMachine.TheVariants.{X86
 use Rattle.cfi_cores.specs.declared.core_file.Core.{Core as CoreOfCode}
 use Rattle.cfi_cores.specs.declared.error.CoreError.{CoreError}
 use Rattle.cfi_cores.specs.declared.error.CoreError.TheVariants.{Elf, UnknownMachine, OutOfMemory}
-use Rattle.cfi_cores.specs.Contents.{of_headers}
-use Rattle.cfi_cores.specs.CoreSegments.{AreSorted, CoreSegment, loaded_in, segment_view}
+use Rattle.cfi_cores.specs.Contents.{contents_of_headers}
+use Rattle.cfi_cores.specs.CoreSegments.{AreSortedByAddress, CoreSegment, loaded_in, segment_view}
 use Rattle.cfi_cores.specs.CoreThreads.{CoreThread, thread_view}
 use Rattle.cfi_cores.specs.Faults.{fault_by, with_fault}
-use Rattle.cfi_cores.specs.MappedFiles.{CoreMapping, list_view}
+use Rattle.cfi_cores.specs.MappedFiles.{CoreMapping, mappings_view}
 use Rattle.cfi_cores.specs.Vdso.{vdso_by}
 
 pub record Core : Type 0 where
@@ -38,7 +38,7 @@ core_view core = record {
   machine = core.machine;
   name = option_map (λ name. name.now) core.name;
   threads = map thread_view core.threads.items;
-  mapped = list_view core.mapped;
+  mapped = mappings_view core.mapped;
   segments = map segment_view core.segments.items;
   error = core.error;
 }
@@ -73,7 +73,7 @@ with_vdso files (Some vdso) = files ++ vdso ∷ []
 
 abbrev pub core_with : SampleMachine → List ℕ → List ProgramHeader → Core
 core_with machine bytes headers =
-    let contents = of_headers machine bytes headers in
+    let contents = contents_of_headers machine bytes headers in
     let segments = filter_map (loaded_in bytes) headers in
     record {
       machine = machine;
@@ -97,7 +97,7 @@ pub record IsSortedCore (found sorted : Core) : Type 0 where
   pub name : sorted.name ≡ found.name
   pub threads : sorted.threads ≡ found.threads
   pub mapped : sorted.mapped ≡ found.mapped
-  pub segments : AreSorted found.segments sorted.segments
+  pub segments : AreSortedByAddress found.segments sorted.segments
   pub error : sorted.error ≡ found.error
 
 abbrev pub IsCoreOf : Result Core CoreError → Result CoreOfCode CoreError → Type 0

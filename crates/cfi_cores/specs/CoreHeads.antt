@@ -10,12 +10,12 @@ use Rattle.cfi_elf.specs.declared.program_header.ProgramHeader.{ProgramHeader}
 use Rattle.cfi_elf.specs.Options.{or_this}
 use Rattle.cfi_processes.specs.declared.registers.SampleMachine.{SampleMachine}
 use Rattle.cfi_cores.specs.declared.core_heads.CoreHeads.{CoreHeads}
-use Rattle.cfi_cores.specs.Contents.{of_headers}
+use Rattle.cfi_cores.specs.Contents.{contents_of_headers}
 use Rattle.cfi_cores.specs.CoreFiles.{core_of, core_with, with_vdso}
 use Rattle.cfi_cores.specs.CoreSegments.{loaded_in}
 use Rattle.cfi_cores.specs.CoreThreads.{thread_view}
 use Rattle.cfi_cores.specs.Faults.{fault_by, with_fault}
-use Rattle.cfi_cores.specs.MappedFiles.{list_view}
+use Rattle.cfi_cores.specs.MappedFiles.{mappings_view}
 use Rattle.cfi_cores.specs.Vdso.{vdso_by}
 
 -- those that are loaded (PT_LOAD is 1)
@@ -34,15 +34,16 @@ pub record HasHeads (machine : SampleMachine) (bytes : List ℕ) (headers : List
   pub machine_is : heads.machine ≡ machine
   pub threads_are :
       map thread_view heads.threads.items
-      ≡ with_fault (fault_by (of_headers machine bytes headers).siginfo)
-      (of_headers machine bytes headers).threads
+      ≡ with_fault (fault_by (contents_of_headers machine bytes headers).siginfo)
+      (contents_of_headers machine bytes headers).threads
   pub name_is :
-      option_map (λ name. name.now) heads.name ≡ (of_headers machine bytes headers).name
-  pub error_is : heads.error ≡ (of_headers machine bytes headers).error
+      option_map (λ name. name.now) heads.name ≡ (contents_of_headers machine bytes headers).name
+  pub error_is : heads.error ≡ (contents_of_headers machine bytes headers).error
   pub mapped_are :
-      list_view heads.mapped
-      ≡ with_vdso (or_this [] (of_headers machine bytes headers).mapped)
-      (vdso_by (filter_map (loaded_in bytes) headers) (of_headers machine bytes headers).vector)
+      mappings_view heads.mapped
+      ≡ with_vdso (or_this [] (contents_of_headers machine bytes headers).mapped)
+      (vdso_by (filter_map (loaded_in bytes) headers)
+      (contents_of_headers machine bytes headers).vector)
   pub places_are : ArePlaces headers heads.places.items
 
 pub record HasHeadsOf (bytes : List ℕ) (heads : CoreHeads) : Type 0 where

@@ -1,5 +1,5 @@
 -- The memory of a core file.
---     number_at memory a size      the number of so many bytes at an address
+--     memory_number memory a size      the number of so many bytes at an address
 use Rattle.std.specs.Prelude.{ℕ, List, Option, map}
 use Rattle.cfi_elf.specs.Options.{or_else}
 use Rattle.cfi_cores.specs.declared.memory.CoreMemory.{CoreMemory as MemoryOfCode}
@@ -15,6 +15,6 @@ memory_view m =
     record { dumped = map segment_view m.dumped.now; mapped = map segment_view m.mapped.now }
 
 -- where the core doesn't have all bytes, what was mapped there
-abbrev pub number_at : CoreMemory → ℕ → ℕ → Option ℕ
-number_at memory a size =
+abbrev pub memory_number : CoreMemory → ℕ → ℕ → Option ℕ
+memory_number memory a size =
     or_else (number_among memory.dumped a size) (number_among memory.mapped a size)

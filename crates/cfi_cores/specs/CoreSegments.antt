@@ -1,8 +1,8 @@
 -- The segments of a core file that were loaded (System V ABI chapter 5, "Program Header").
---     bytes_of bytes header      the bytes of a segment, as far as the file has them
+--     segment_bytes bytes header      the bytes of a segment, as far as the file has them
 --     loaded_in bytes header      the segment of a header of type PT_LOAD
 --     bytes_at segments a      the bytes of the first segment that begins at an address
---     AreInOrder segments      none begins at a lower address than the one before it
+--     AreByAddress segments      none begins at a lower address than the one before it
 --     number_among segments a size      the number of so many bytes at an address, by the last
 --         segment that begins at or below it
 use Rattle.std.specs.Prelude.{◌≡◌, ℕ, Bool, false, not, List, drop, take, map, bit_and, Option}
@@ -29,8 +29,8 @@ segment_view s =
 
 -- ---- the segments of a file
 
-abbrev pub bytes_of : List ℕ → ProgramHeader → List ℕ
-bytes_of bytes header = take header.p_filesz (drop header.p_offset bytes)
+abbrev pub segment_bytes : List ℕ → ProgramHeader → List ℕ
+segment_bytes bytes header = take header.p_filesz (drop header.p_offset bytes)
 
 -- PT_LOAD is 1, PF_X is 1
 abbrev pub loaded_in : List ℕ → ProgramHeader → Option CoreSegment
@@ -38,7 +38,7 @@ loaded_in bytes header =
     if header.p_type == 1
     then Some (record {
       start = header.p_vaddr;
-      bytes = bytes_of bytes header;
+      bytes = segment_bytes bytes header;
       is_executable = not (bit_and header.p_flags 1 == 0);
     })
     else None
@@ -48,11 +48,11 @@ bytes_at segments a = option_map (λ s. s.bytes) (find (λ s. s.start == a) segm
 
 -- ---- in the order of their addresses
 
-abbrev pub AreInOrder : List SegmentOfCode → Type 0
-AreInOrder segments = IsNonDecreasingBy (λ s. s.start) segments
+abbrev pub AreByAddress : List SegmentOfCode → Type 0
+AreByAddress segments = IsNonDecreasingBy (λ s. s.start) segments
 
 -- those of `found` by rising addresses; those of one address stay in their order
-pub record AreSorted (found sorted : List CoreSegment) : Type 0 where
+pub record AreSortedByAddress (found sorted : List CoreSegment) : Type 0 where
   pub read : List SegmentOfCode
   pub ordered : List SegmentOfCode
   pub are : map segment_view read ≡ found
@@ -63,12 +63,12 @@ pub record AreSorted (found sorted : List CoreSegment) : Type 0 where
 -- ---- numbers in them
 
 -- the number of so many bytes at an address, if the segment has all of them
-abbrev pub number_of : ℕ → ℕ → CoreSegment → Option ℕ
-number_of a size s = number_in (slice_over s.bytes false) s.start a size
+abbrev pub segment_number : ℕ → ℕ → CoreSegment → Option ℕ
+segment_number a size s = number_in (slice_over s.bytes false) s.start a size
 
 -- the last segment that begins at or below an address
-abbrev pub last_upto : ℕ → List CoreSegment → Option CoreSegment
-last_upto a segments = last_or None (filter (λ s. nat_le s.start a) segments)
+abbrev pub last_up_to : ℕ → List CoreSegment → Option CoreSegment
+last_up_to a segments = last_or None (filter (λ s. nat_le s.start a) segments)
 
 abbrev pub number_among : List CoreSegment → ℕ → ℕ → Option ℕ
-number_among segments a size = option_and_then (number_of a size) (last_upto a segments)
+number_among segments a size = option_and_then (segment_number a size) (last_up_to a segments)

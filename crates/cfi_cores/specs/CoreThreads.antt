@@ -1,6 +1,6 @@
 -- The threads of a core file (struct elf_prstatus of the kernel, linux/elfcore.h).
 --     thread_in machine desc      the thread of which a note of the type NT_PRSTATUS tells
---     register_of machine thread k      the value of the register with DWARF's number k
+--     thread_register machine thread k      the value of the register with DWARF's number k
 use Rattle.std.specs.Prelude.{ℕ, List, [], ◌∷◌, false, codes, Option, None, option_map}
 use Rattle.std.specs.Prelude.{slice_get}
 use Rattle.std.specs.Int.{w16, w32, w64}
@@ -51,8 +51,8 @@ thread_in machine desc =
     }) (part desc 112 (registers_size machine))
 
 -- the registers have eight bytes each
-abbrev pub register_of : SampleMachine → CoreThread → ℕ → Option ℕ
-register_of machine thread k =
+abbrev pub thread_register : SampleMachine → CoreThread → ℕ → Option ℕ
+thread_register machine thread k =
     option_and_then (λ place.
     option_map (λ bytes. number_at false bytes 0 w64)
     (slice_get (entries 8 thread.registers) place)) (core_place machine k)

@@ -21,8 +21,8 @@ abbrev pub mapping_view : MappingOfCode → CoreMapping
 mapping_view m =
     record { start = m.start; end = m.end; offset = m.offset; name = m.name.now }
 
-abbrev pub list_view : {A : Type 0} → Vec MappingOfCode A → List CoreMapping
-list_view list = map mapping_view list.items
+abbrev pub mappings_view : {A : Type 0} → Vec MappingOfCode A → List CoreMapping
+mappings_view list = map mapping_view list.items
 
 -- ---- the parts
 

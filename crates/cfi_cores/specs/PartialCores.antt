@@ -11,13 +11,13 @@ use Rattle.std.specs.List.Sorted.{IsNonDecreasingBy}
 use Rattle.cfi_elf.specs.declared.program_header.ProgramHeader.{ProgramHeader}
 use Rattle.cfi_cores.specs.declared.partial_cores.PartialCore.{PartialCore}
 use Rattle.cfi_cores.specs.CoreFiles.{Core, IsSortedCore, core_of, core_view}
-use Rattle.cfi_cores.specs.CoreSegments.{CoreSegment, bytes_of}
+use Rattle.cfi_cores.specs.CoreSegments.{CoreSegment, segment_bytes}
 use Rattle.cfi_cores.specs.MappedFiles.{CoreMapping}
 
 abbrev pub segment_at : List ℕ → ProgramHeader → CoreSegment
 segment_at bytes place = record {
   start = place.p_vaddr;
-  bytes = bytes_of bytes place;
+  bytes = segment_bytes bytes place;
   is_executable = not (bit_and place.p_flags 1 == 0);
 }
 
@@ -26,7 +26,7 @@ abbrev pub is_head : List CoreMapping → ℕ → Bool
 is_head mapped a = list_any (λ m. (m.offset == 0) && (m.start == a)) mapped
 
 abbrev pub bytes_if : List ℕ → Bool → ProgramHeader → List ℕ
-bytes_if bytes is_head place = if is_head then bytes_of bytes place else []
+bytes_if bytes is_head place = if is_head then segment_bytes bytes place else []
 
 abbrev pub head_in : List ℕ → List CoreMapping → ProgramHeader → CoreSegment
 head_in bytes mapped place =

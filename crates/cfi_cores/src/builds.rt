@@ -1,6 +1,6 @@
 //! The builds of files, as their images in memory have them.
 ghost use Rattle.std.specs.Prelude.{◌≡◌, map, option_map};
-ghost use Rattle.cfi_cores.specs.Builds.{build_of, image_of, mapped_start};
+ghost use Rattle.cfi_cores.specs.Builds.{build_of, mapped_image, mapped_start};
 ghost use Rattle.cfi_cores.specs.CoreSegments.{segment_view};
 ghost use Rattle.cfi_cores.specs.MappedFiles.{mapping_view};
 
@@ -16,7 +16,7 @@ pub fn image_of<'run>(
     mapped: &[CoreMapping<'_>],
     name: &[u8],
 ) -> Option<&'run [u8]>
-    ensures { option_map (λ bytes. bytes.now) result ≡ image_of
+    ensures { option_map (λ bytes. bytes.now) result ≡ mapped_image
         (map segment_view segments.now) (map mapping_view mapped.now) name.now }
 {
     match mapped_start(mapped, name) {

@@ -3,14 +3,17 @@ ghost use Rattle.std.specs.Prelude.{◌≡◌, IfOk, OnOk, option_map};
 ghost use Rattle.cfi_elf.specs.Notes.{note_view};
 ghost use Rattle.cfi_elf.specs.SegmentLists.{segments_left};
 ghost use Rattle.cfi_cores.specs.Contents.{contents_view, ended_by, files_found, then_contents};
-ghost use Rattle.cfi_cores.specs.Contents.{no_contents, of_files, of_header, of_headers, of_name};
-ghost use Rattle.cfi_cores.specs.Contents.{of_note, of_part, of_segment, of_siginfo, of_thread};
-ghost use Rattle.cfi_cores.specs.Contents.{of_vector, thread_found};
+ghost use Rattle.cfi_cores.specs.Contents.{contents_of_files, contents_of_header};
+ghost use Rattle.cfi_cores.specs.Contents.{contents_of_headers, contents_of_name};
+ghost use Rattle.cfi_cores.specs.Contents.{contents_of_note, contents_of_part};
+ghost use Rattle.cfi_cores.specs.Contents.{contents_of_segment, contents_of_siginfo};
+ghost use Rattle.cfi_cores.specs.Contents.{contents_of_thread, contents_of_vector, no_contents};
+ghost use Rattle.cfi_cores.specs.Contents.{thread_found};
 
 use crate::error::CoreError;
 use crate::mapped_files::{CoreMapping, files_in};
 use crate::process_name::process_name;
-use crate::segments::bytes_of;
+use crate::segments::segment_bytes;
 use crate::thread::{CoreThread, thread_in};
 use cfi_elf::constants::PT_NOTE;
 use cfi_elf::{Note, Notes, ProgramHeader, Segments};
@@ -53,7 +56,7 @@ pub(crate) fn read_contents<'run>(
     headers: Segments<'run>,
 ) -> Result<Contents<'run>, AllocError>
     ensures { IfOk result (λ contents. contents_view contents
-        ≡ of_headers machine bytes.now (segments_left headers.entry)) }
+        ≡ contents_of_headers machine bytes.now (segments_left headers.entry)) }
 {
     let mut contents = Contents::new(alloc);
     for header in headers {
@@ -86,10 +89,16 @@ impl<'run> Contents<'run> {
         header: &ProgramHeader,
     ) -> Result<(), AllocError>
         ensures { OnOk result (contents_view self.new
-            ≡ then_contents (contents_view self.old) (of_header machine bytes.now header.now)) }
+            ≡ then_contents (contents_view self.old)
+            (contents_of_header machine bytes.now header.now)) }
     {
         if header.p_type == PT_NOTE {
-            self.read_part(alloc, machine, bytes_of(bytes, header), header.p_filesz)?;
+            self.read_part(
+                alloc,
+                machine,
+                segment_bytes(bytes, header),
+                header.p_filesz,
+            )?;
         }
         Ok(())
     }
@@ -104,7 +113,7 @@ impl<'run> Contents<'run> {
         size: u64,
     ) -> Result<(), AllocError>
         ensures { OnOk result (contents_view self.new
-            ≡ then_contents (contents_view self.old) (of_part machine size bytes.now)) }
+            ≡ then_contents (contents_view self.old) (contents_of_part machine size bytes.now)) }
     {
         self.read_segment(alloc, machine, bytes)?;
         if (bytes.len() as u64) < size {
@@ -121,7 +130,7 @@ impl<'run> Contents<'run> {
         bytes: &'run [u8],
     ) -> Result<(), AllocError>
         ensures { OnOk result (contents_view self.new
-            ≡ then_contents (contents_view self.old) (of_segment machine bytes.now)) }
+            ≡ then_contents (contents_view self.old) (contents_of_segment machine bytes.now)) }
     {
         for note in Notes::new(bytes, RunTimeEndian::Little) {
             match note {
@@ -140,7 +149,8 @@ impl<'run> Contents<'run> {
         note: &Note<'run>,
     ) -> Result<(), AllocError>
         ensures { OnOk result (contents_view self.new
-            ≡ then_contents (contents_view self.old) (of_note machine (note_view note.now))) }
+            ≡ then_contents (contents_view self.old)
+            (contents_of_note machine (note_view note.now))) }
     {
         if self.error.is_some() || note.name != b"CORE".as_slice() {
             return Ok(());
@@ -159,7 +169,8 @@ impl<'run> Contents<'run> {
     /// Takes the thread of a note too, or the error that it has too few bytes.
     fn push_thread(&mut self, thread: Option<CoreThread<'run>>) -> Result<(), AllocError>
         ensures { OnOk result (contents_view self.new
-            ≡ then_contents (contents_view self.old) (of_thread (thread_found thread.entry))) }
+            ≡ then_contents (contents_view self.old)
+            (contents_of_thread (thread_found thread.entry))) }
     {
         match thread {
             Some(thread) => {
@@ -175,7 +186,7 @@ impl<'run> Contents<'run> {
     /// Takes the files of a note too, or the error that it has too few bytes.
     fn map_files(&mut self, files: Option<Vec<CoreMapping<'run>>>)
         ensures { contents_view self.new
-            ≡ then_contents (contents_view self.old) (of_files (files_found files.entry)) }
+            ≡ then_contents (contents_view self.old) (contents_of_files (files_found files.entry)) }
     {
         match files {
             Some(files) => {
@@ -190,7 +201,7 @@ impl<'run> Contents<'run> {
     /// Takes the auxiliary vector of a note too.
     fn keep_vector(&mut self, vector: &'run [u8])
         ensures { contents_view self.new
-            ≡ then_contents (contents_view self.old) (of_vector vector.entry.now) }
+            ≡ then_contents (contents_view self.old) (contents_of_vector vector.entry.now) }
     {
         if self.error.is_none() && self.vector.is_none() {
             self.vector = Some(vector);
@@ -200,7 +211,7 @@ impl<'run> Contents<'run> {
     /// Takes what a note says of a signal too.
     fn keep_siginfo(&mut self, siginfo: &'run [u8])
         ensures { contents_view self.new
-            ≡ then_contents (contents_view self.old) (of_siginfo siginfo.entry.now) }
+            ≡ then_contents (contents_view self.old) (contents_of_siginfo siginfo.entry.now) }
     {
         if self.error.is_none() && self.siginfo.is_none() {
             self.siginfo = Some(siginfo);
@@ -210,7 +221,7 @@ impl<'run> Contents<'run> {
     /// Takes the name that a note has for the process too, if it has one.
     fn keep_name(&mut self, name: Option<&'run [u8]>)
         ensures { contents_view self.new ≡ then_contents (contents_view self.old)
-            (of_name (option_map (λ name. name.now) name.entry)) }
+            (contents_of_name (option_map (λ name. name.now) name.entry)) }
     {
         if self.error.is_none() && self.name.is_none() {
             self.name = name;

@@ -4,12 +4,12 @@ ghost use Rattle.cfi_read_core.specs.ReaderCalls.{map_ok};
 ghost use Rattle.cfi_elf.specs.ElfFiles.{file_view};
 ghost use Rattle.cfi_elf.specs.Options.{or_this};
 ghost use Rattle.cfi_elf.specs.SegmentLists.{segments_left};
-ghost use Rattle.cfi_cores.specs.CoreSegments.{AreInOrder};
+ghost use Rattle.cfi_cores.specs.CoreSegments.{AreByAddress};
 ghost use Rattle.cfi_cores.specs.CoreFiles.{IsCore, IsSortedCore, core_elf, core_headers};
 ghost use Rattle.cfi_cores.specs.CoreFiles.{core_view, core_with, machine_of, with_vdso};
 ghost use Rattle.cfi_cores.specs.CoreThreads.{thread_view};
 ghost use Rattle.cfi_cores.specs.Faults.{with_fault};
-ghost use Rattle.cfi_cores.specs.MappedFiles.{list_view, mapping_view};
+ghost use Rattle.cfi_cores.specs.MappedFiles.{mappings_view, mapping_view};
 
 use crate::contents::read_contents;
 use crate::error::CoreError;
@@ -51,7 +51,7 @@ pub struct Core<'run> {
 /// `ThreadCut` or `FilesCut`. Allocates the lists (core(5)).
 pub fn read_core<'run>(alloc: Global, bytes: &'run [u8]) -> Result<Core<'run>, CoreError>
     ensures core { IsCore bytes.now result }
-    ensures in_order { IfOk result (λ core. AreInOrder core.segments.items) }
+    ensures in_order { IfOk result (λ core. AreByAddress core.segments.items) }
 {
     let file = core_elf(bytes)?;
     let machine = machine_of(&file)?;
@@ -71,7 +71,7 @@ fn core_with<'run>(
 ) -> Result<Core<'run>, AllocError>
     ensures core { IfOk result (λ core. IsSortedCore
         (core_with machine bytes.now (segments_left headers.entry)) (core_view core)) }
-    ensures in_order { IfOk result (λ core. AreInOrder core.segments.items) }
+    ensures in_order { IfOk result (λ core. AreByAddress core.segments.items) }
 {
     let contents = read_contents(alloc, machine, bytes, headers)?;
     let mut segments = loaded_segments(alloc, bytes, headers)?;
@@ -107,7 +107,7 @@ pub(crate) fn or_none<'run>(
     alloc: Global,
     list: Option<Vec<CoreMapping<'run>>>,
 ) -> Vec<CoreMapping<'run>>
-    ensures { list_view result ≡ or_this [] (option_map list_view list.entry) }
+    ensures { mappings_view result ≡ or_this [] (option_map mappings_view list.entry) }
 {
     match list {
         Some(list) => list,
@@ -120,8 +120,8 @@ pub(crate) fn with_vdso<'run>(
     list: Vec<CoreMapping<'run>>,
     vdso: Option<CoreMapping<'run>>,
 ) -> Result<Vec<CoreMapping<'run>>, AllocError>
-    ensures { IfOk result (λ whole. list_view whole
-        ≡ with_vdso (list_view list.entry) (option_map mapping_view vdso.entry)) }
+    ensures { IfOk result (λ whole. mappings_view whole
+        ≡ with_vdso (mappings_view list.entry) (option_map mapping_view vdso.entry)) }
 {
     let mut list = list;
     if let Some(vdso) = vdso {

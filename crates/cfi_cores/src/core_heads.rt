@@ -2,7 +2,7 @@
 ghost use Rattle.std.specs.Prelude.{◌≡◌, ℕ, List, IfOk, IfSome, length};
 ghost use Rattle.cfi_elf.specs.Images.{IsImageOf, image_view};
 ghost use Rattle.cfi_elf.specs.SegmentLists.{segments_left};
-ghost use Rattle.cfi_cores.specs.Contents.{contents_view, of_headers};
+ghost use Rattle.cfi_cores.specs.Contents.{contents_view, contents_of_headers};
 ghost use Rattle.cfi_cores.specs.CoreHeads.{HasHeads, HasHeadsOf, loaded_headers};
 
 use crate::contents::Contents;
@@ -81,7 +81,8 @@ fn heads_by<'run>(
     contents: Contents<'run>,
 ) -> Result<CoreHeads<'run>, AllocError>
     ensures { (bytes : List ℕ) → length bytes ≡ image.entry.length
-        → contents_view contents.entry ≡ of_headers machine bytes (segments_left headers.entry)
+        → contents_view contents.entry
+        ≡ contents_of_headers machine bytes (segments_left headers.entry)
         → IfOk result (HasHeads machine bytes (segments_left headers.entry)) }
 {
     let vdso = vdso_of(image.length, headers, contents.vector);

@@ -2,7 +2,8 @@
 ghost use Rattle.std.specs.Prelude.{◌≡◌, ℕ, IfOk, IfSome, List, true};
 ghost use Rattle.cfi_elf.specs.Images.{IsImageOf, image_view};
 ghost use Rattle.cfi_elf.specs.SegmentLists.{segments_left};
-ghost use Rattle.cfi_cores.specs.Contents.{contents_view, then_contents, of_header, of_headers};
+ghost use Rattle.cfi_cores.specs.Contents.{contents_of_header, contents_of_headers};
+ghost use Rattle.cfi_cores.specs.Contents.{contents_view, then_contents};
 
 use crate::contents::Contents;
 use crate::core_file::{core_elf, segments_of_elf};
@@ -63,7 +64,7 @@ pub(crate) fn read_noted<'run>(
 ) -> Result<Option<Contents<'run>>, AllocError>
     ensures { (bytes : List ℕ) → IsImageOf (image_view image.entry) bytes
         → IfOk result (λ found. IfSome found (λ contents. contents_view contents
-        ≡ of_headers machine bytes (segments_left headers.entry))) }
+        ≡ contents_of_headers machine bytes (segments_left headers.entry))) }
 {
     let mut contents = Contents::new(alloc);
     for header in headers {
@@ -85,7 +86,8 @@ fn read_noted_header<'run>(
 ) -> Result<bool, AllocError>
     ensures { (bytes : List ℕ) → IsImageOf (image_view image.entry) bytes
         → IfOk result (λ whole. whole ≡ true → contents_view contents.new
-        ≡ then_contents (contents_view contents.old) (of_header machine bytes header.now)) }
+        ≡ then_contents (contents_view contents.old)
+        (contents_of_header machine bytes header.now)) }
 {
     if header.p_type != PT_NOTE {
         return Ok(true);

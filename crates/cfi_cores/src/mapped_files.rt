@@ -1,7 +1,7 @@
 //! The files that were mapped, as a note of the type `NT_FILE` has them.
 ghost use Rattle.std.specs.Prelude.{◌≡◌, ◌≤◌, ⊤, IfOk, length, option_map};
 ghost use Rattle.cfi_elf.specs.Fields.{entries};
-ghost use Rattle.cfi_cores.specs.MappedFiles.{file_table, files_in, list_view, mapping_by};
+ghost use Rattle.cfi_cores.specs.MappedFiles.{file_table, files_in, mappings_view, mapping_by};
 ghost use Rattle.cfi_cores.specs.MappedFiles.{mapping_view, mappings, file_table_view};
 
 use cfi_elf::bytes::{Record, before_zero, bytes_from, entry, part, size_of};
@@ -50,7 +50,7 @@ pub(crate) fn files_in<'run>(
     alloc: Global,
     desc: &'run [u8],
 ) -> Result<Option<Vec<CoreMapping<'run>>>, AllocError>
-    ensures { IfOk result (λ found. option_map list_view found ≡ files_in desc.now) }
+    ensures { IfOk result (λ found. option_map mappings_view found ≡ files_in desc.now) }
 {
     let Some(table) = file_table(desc) else {
         return Ok(None);
@@ -84,7 +84,7 @@ fn mappings<'run>(
     alloc: Global,
     table: FileTable<'run>,
 ) -> Result<Option<Vec<CoreMapping<'run>>>, AllocError>
-    ensures { IfOk result (λ found. option_map list_view found
+    ensures { IfOk result (λ found. option_map mappings_view found
         ≡ mappings table.entry.page_size (entries 24 table.entry.entries.now)
         table.entry.names.now) }
 {

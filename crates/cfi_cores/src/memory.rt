@@ -1,7 +1,8 @@
 //! The memory of a core file.
 ghost use Rattle.std.specs.Prelude.{◌≡◌, ⊤, map};
 ghost use Rattle.cfi_read_core.specs.Addresses.{IsAddressSize};
-ghost use Rattle.cfi_cores.specs.CoreSegments.{AreInOrder, number_among, number_of, segment_view};
+ghost use Rattle.cfi_cores.specs.CoreSegments.{AreByAddress, number_among, segment_number};
+ghost use Rattle.cfi_cores.specs.CoreSegments.{segment_view};
 
 use crate::segments::CoreSegment;
 use cfi_expression::{Memory, Window};
@@ -18,8 +19,8 @@ use std::alloc::AllocError;
 pub struct CoreMemory<'run> {
     dumped: &'run [CoreSegment<'run>],
     mapped: &'run [CoreSegment<'run>],
-    ghost dumped_in_order: { AreInOrder dumped.now },
-    ghost mapped_in_order: { AreInOrder mapped.now },
+    ghost dumped_in_order: { AreByAddress dumped.now },
+    ghost mapped_in_order: { AreByAddress mapped.now },
 }
 
 impl Clone for CoreMemory<'_> {
@@ -41,8 +42,8 @@ impl<'run> CoreMemory<'run> {
     /// The memory of these segments, as `Core` has them, and of these parts of mapped files. Both
     /// are in the order of their addresses.
     pub fn new(dumped: &'run [CoreSegment<'run>], mapped: &'run [CoreSegment<'run>]) -> Self
-        requires dumped { AreInOrder dumped.now }
-        requires mapped { AreInOrder mapped.now }
+        requires dumped { AreByAddress dumped.now }
+        requires mapped { AreByAddress mapped.now }
         ensures { memory_view result ≡ record {
           dumped = map segment_view dumped.now;
           mapped = map segment_view mapped.now;
@@ -53,9 +54,9 @@ impl<'run> CoreMemory<'run> {
 }
 
 impl Memory for CoreMemory<'_> {
-    ghost use Rattle.cfi_cores.specs.CoreMemories.{memory_view, number_at};
+    ghost use Rattle.cfi_cores.specs.CoreMemories.{memory_view, memory_number};
 
-    ghost number_at = { λ memory address size. number_at (memory_view memory) address size };
+    ghost number_at = { λ memory address size. memory_number (memory_view memory) address size };
 
     fn read(&self, address: u64, size: u8) -> Option<u64> {
         match number_among(self.dumped, address, size) {
@@ -68,20 +69,20 @@ impl Memory for CoreMemory<'_> {
 /// The number of `size` bytes at the address, by the last segment that begins at or below it.
 fn number_among(segments: &[CoreSegment<'_>], address: u64, size: u8) -> Option<u64>
     requires size { IsAddressSize size }
-    requires order { AreInOrder segments.now }
+    requires order { AreByAddress segments.now }
     ensures { result ≡ number_among (map segment_view segments.now) address size }
 {
     let count = segments.partition_point(|segment| segment.start <= address);
     if count == 0 {
         return None;
     }
-    number_of(&segments[count - 1], address, size)
+    segment_number(&segments[count - 1], address, size)
 }
 
 /// The number of `size` bytes at the address, if the segment has all of them.
-fn number_of(segment: &CoreSegment<'_>, address: u64, size: u8) -> Option<u64>
+fn segment_number(segment: &CoreSegment<'_>, address: u64, size: u8) -> Option<u64>
     requires { IsAddressSize size }
-    ensures { result ≡ number_of address size (segment_view segment.now) }
+    ensures { result ≡ segment_number address size (segment_view segment.now) }
 {
     let window = Window {
         base: segment.start,

@@ -4,7 +4,7 @@ ghost use Rattle.cfi_elf.specs.Fields.{part};
 ghost use Rattle.cfi_elf.specs.Images.{IsImageOf, image_view, in_part, in_parts, part_view};
 ghost use Rattle.cfi_elf.specs.Images.{parts_view};
 ghost use Rattle.cfi_cores.specs.CoreHeads.{HasHeadsOf};
-ghost use Rattle.cfi_cores.specs.CoreSegments.{bytes_of, segment_view};
+ghost use Rattle.cfi_cores.specs.CoreSegments.{segment_bytes, segment_view};
 ghost use Rattle.cfi_cores.specs.MappedFiles.{mapping_view};
 ghost use Rattle.cfi_cores.specs.PartialCores.{IsPartial, bytes_if, head_in, is_head};
 
@@ -130,7 +130,7 @@ fn head_bytes<'run>(image: Image<'run>, is_head: bool, place: &ProgramHeader) ->
 /// The bytes of a segment; `None` where not all of them were read.
 pub(crate) fn bytes_in<'run>(image: Image<'run>, place: &ProgramHeader) -> Option<&'run [u8]>
     ensures { (bytes : List ℕ) → IsImageOf (image_view image.entry) bytes
-        → IfSome result (λ found. found.now ≡ bytes_of bytes place.now) }
+        → IfSome result (λ found. found.now ≡ segment_bytes bytes place.now) }
 {
     let size = size_in(image.length, place);
     if size == 0 {

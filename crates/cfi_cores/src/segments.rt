@@ -2,7 +2,7 @@
 ghost use Rattle.std.specs.Prelude.{◌≡◌, ⊤, IfOk, map, option_map};
 ghost use Rattle.std.specs.List.{filter_map};
 ghost use Rattle.cfi_elf.specs.SegmentLists.{segments_left};
-ghost use Rattle.cfi_cores.specs.CoreSegments.{bytes_at, bytes_of, loaded_in, segment_view};
+ghost use Rattle.cfi_cores.specs.CoreSegments.{bytes_at, segment_bytes, loaded_in, segment_view};
 
 use cfi_elf::bytes::bytes_from;
 use cfi_elf::constants::PT_LOAD;
@@ -35,8 +35,8 @@ impl Clone for CoreSegment<'_> {
 }
 
 /// The bytes of a segment, as far as the file has them.
-pub(crate) fn bytes_of<'run>(bytes: &'run [u8], header: &ProgramHeader) -> &'run [u8]
-    ensures { result.now ≡ bytes_of bytes.now header.now }
+pub(crate) fn segment_bytes<'run>(bytes: &'run [u8], header: &ProgramHeader) -> &'run [u8]
+    ensures { result.now ≡ segment_bytes bytes.now header.now }
 {
     let found = bytes_from(bytes, header.p_offset);
     if header.p_filesz < found.len() as u64 {
@@ -73,7 +73,7 @@ fn loaded_in<'run>(bytes: &'run [u8], header: &ProgramHeader) -> Option<CoreSegm
     }
     Some(CoreSegment {
         start: header.p_vaddr,
-        bytes: bytes_of(bytes, header),
+        bytes: segment_bytes(bytes, header),
         is_executable: header.p_flags & PF_X != 0,
     })
 }

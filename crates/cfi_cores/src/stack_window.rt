@@ -5,7 +5,7 @@ ghost use Rattle.cfi_elf.specs.Images.{ArePartsOf, IsImageOf, IsPartOf, image_vi
 ghost use Rattle.cfi_elf.specs.Images.{parts_view};
 ghost use Rattle.cfi_cores.specs.CoreSegments.{segment_view};
 ghost use Rattle.cfi_cores.specs.PartialCores.{segment_at};
-ghost use Rattle.cfi_cores.specs.StackWindows.{AreFrom, IsStackOf, IsWindowIn, start_from};
+ghost use Rattle.cfi_cores.specs.StackWindows.{AreFrom, IsStackOf, IsSegmentWindow, start_from};
 
 use crate::segments::CoreSegment;
 use cfi_elf::bytes::bytes_from;
@@ -65,7 +65,7 @@ fn stack_in<'run>(
     next: u64,
 ) -> Option<CoreSegment<'run>>
     ensures window { (bytes : List ℕ) → IsImageOf (image_view image.entry) bytes
-        → IfSome result (λ window. IsWindowIn (segment_at bytes place.now) next
+        → IfSome result (λ window. IsSegmentWindow (segment_at bytes place.now) next
         (segment_view window)) }
     ensures bound { next ≤ 18446744073709551615 }
 {

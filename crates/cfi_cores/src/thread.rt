@@ -1,6 +1,6 @@
 //! Threads of a core file.
 ghost use Rattle.std.specs.Prelude.{◌≡◌, ⊤, option_map};
-ghost use Rattle.cfi_cores.specs.CoreThreads.{register_of, thread_in, thread_view};
+ghost use Rattle.cfi_cores.specs.CoreThreads.{thread_register, thread_in, thread_view};
 
 use crate::fault::Fault;
 use crate::registers::{core_place, registers_size};
@@ -39,7 +39,7 @@ impl CoreThread<'_> {
     /// The value of the register with this number of DWARF's; `None` for one that a walk doesn't
     /// need.
     pub fn register(&self, machine: SampleMachine, dwarf_number: usize) -> Option<u64>
-        ensures { result ≡ register_of machine (thread_view self.now) dwarf_number }
+        ensures { result ≡ thread_register machine (thread_view self.now) dwarf_number }
     {
         let place = core_place(machine, dwarf_number)?;
         let bytes = entry(self.registers, 8, place)?;

@@ -2,7 +2,7 @@
 ghost use Rattle.std.specs.Prelude.{◌≡◌, ◌-◌, ℕ, List, length, map, min, option_map};
 ghost use Rattle.std.specs.List.{filter_map};
 ghost use Rattle.cfi_elf.specs.SegmentLists.{segments_left};
-ghost use Rattle.cfi_cores.specs.CoreSegments.{bytes_of, loaded_in, segment_view};
+ghost use Rattle.cfi_cores.specs.CoreSegments.{segment_bytes, loaded_in, segment_view};
 ghost use Rattle.cfi_cores.specs.MappedFiles.{mapping_view};
 ghost use Rattle.cfi_cores.specs.Vdso.{vdso_at, vdso_by, vdso_name, vdso_over};
 
@@ -83,7 +83,7 @@ fn placed_at<'run>(size: u64, headers: Segments<'_>, address: u64) -> Option<Cor
 /// The vdso as it is mapped by this header.
 fn placed_by<'run>(size: u64, header: &ProgramHeader) -> CoreMapping<'run>
     ensures { (bytes : List ℕ) → length bytes ≡ size → mapping_view result
-        ≡ vdso_over (bytes_of bytes header.now) header.now.p_vaddr }
+        ≡ vdso_over (segment_bytes bytes header.now) header.now.p_vaddr }
 {
     CoreMapping {
         start: header.p_vaddr,
@@ -97,7 +97,7 @@ fn placed_by<'run>(size: u64, header: &ProgramHeader) -> CoreMapping<'run>
 pub(crate) fn size_in(size: u64, header: &ProgramHeader) -> u64
     ensures value { result ≡ min header.now.p_filesz (size - header.now.p_offset) }
     ensures bytes { (bytes : List ℕ) → length bytes ≡ size
-        → result ≡ length (bytes_of bytes header.now) }
+        → result ≡ length (segment_bytes bytes header.now) }
 {
     header.p_filesz.min(size.saturating_sub(header.p_offset))
 }

@@ -2,7 +2,7 @@
 use Rattle.std.proofs.Common.{◌≡◌, ℕ, ◌==◌, ◌&&◌, ◌++◌, Bool, true, false, cond, List, [], ◌∷◌, Option, Some, None, reverse, refl, sym, ap, ◌∙◌}
 use Rattle.std.proofs.lemmas.List.{reverse-append}
 use Rattle.cfi_processes.specs.declared.mappings.MappedCode.{MappedCode}
-use Rattle.cfi_processes.specs.Mappings.{Place, has_byte_at, mapped_over, mapped_place, place_at_address}
+use Rattle.cfi_processes.specs.Mappings.{MappedPlace, has_byte_at, mapped_over, mapped_place, place_at_address}
 use Rattle.cfi_processes.specs.Histories.{Change, mapped, executed, forked, mappings_after, place_back, places_after}
 use Rattle.cfi_processes.proofs.MappedOver.{is_mapped_over}
 
@@ -12,7 +12,7 @@ module _ (old : ℕ → List MappedCode) (past : List Change) (after : (q a : �
   one_back (mapped pid new) q a =
       elim (q == pid) as (λ (t : Bool). place_at_address (cond t (mapped_over new (old q)) (old q)) a
       ≡ cond (t && has_byte_at new a) (Some (mapped_place new a)) (place_back past q a)) [
-        | true ↦ is_mapped_over new (old q) a ∙ ap (λ (p : Option Place). cond (has_byte_at new a) (Some (mapped_place new a)) p) (after q a)
+        | true ↦ is_mapped_over new (old q) a ∙ ap (λ (p : Option MappedPlace). cond (has_byte_at new a) (Some (mapped_place new a)) p) (after q a)
         | false ↦ after q a
       ]
   one_back (executed pid) q a =

@@ -21,22 +21,21 @@ use Rattle.cfi_elf.specs.SymbolTables.{symbol_table}
 use Rattle.cfi_elf.proofs.FileImages.{file_found, file_refused}
 use Rattle.cfi_elf.proofs.Images.{in_whole, same_address_of_offset, same_function_place}
 use Rattle.cfi_elf.proofs.SameResults.{ok_read, then_read}
-use Rattle.cfi_object.specs.CallFrames.{debug_frame_of, eh_frame_of, section_in}
+use Rattle.cfi_object.specs.CallFrames.{debug_frame_of, eh_frame_of, given_section}
 use Rattle.cfi_object.proofs.ReadParts.{whole_read}
 use Rattle.cfi_object.proofs.SameBuilds.{same_build, same_link}
 use Rattle.cfi_object.proofs.SameFrames.{same_debug, same_eh_frame}
 use Rattle.cfi_object.specs.NeededParts.{AreEnough, HasAll}
 use Rattle.gimli_cfi.specs.SectionSources.{GivenSection}
 use Rattle.cfi_processes.specs.declared.code_parts.CodeParts.{CodeParts}
-use Rattle.cfi_processes.specs.CodeParts.{IsOf, beginning_in, image_in, is_told, is_whole, parts_of}
-use Rattle.cfi_processes.specs.Enough.{are_enough, has_needed, has_needed_of, is_lack, is_read}
-use Rattle.cfi_processes.specs.NeededCode.{needed_of_code}
+use Rattle.cfi_processes.specs.CodeParts.{ArePartsOfBytes, beginning_in, image_in, is_told, is_whole, parts_of}
+use Rattle.cfi_processes.specs.Enough.{are_enough, has_needed, has_needed_of, is_lack, is_read, needed_of_code}
 use Rattle.cfi_processes.specs.FileFunctions.{with_symbols}
 use Rattle.cfi_processes.specs.FileFunctions.{symbol_file}
 use Rattle.cfi_processes.specs.Objects.{debug_in, if_bytes, object_with, there, with_either}
 use Rattle.cfi_processes.specs.Objects.{code_addresses, with_call_frames}
 use Rattle.gimli_cfi.specs.declared.source.SectionKind.TheVariants as given
-use Rattle.cfi_processes.specs.ProfileFiles.{functions_if, kernel_of, kernel_text, map_of, object_if}
+use Rattle.cfi_processes.specs.ProfileFiles.{functions_if, kernel_text_of, kernel_text, code_map_of, object_if}
 use Rattle.cfi_processes.specs.KernelSymbols.{is_kernel_name}
 use Rattle.cfi_processes.specs.FileBuilds.{id_in, link_in}
 
@@ -158,7 +157,7 @@ link_found code bytes of = same_linked bytes _ _ (code_found code bytes of)
 abbrev debug_frames : Option Image → Option GivenSection
 debug_frames debug = option_and_then (λ image. option_and_then debug_in (result_ok (elf_file_of image))) debug
 
-same_debug_frames : (debug : Option CodeParts) (bytes : Option (List ℕ)) → IsOf debug bytes → debug_frames (image_in debug) ≡ debug_frames (option_map whole bytes)
+same_debug_frames : (debug : Option CodeParts) (bytes : Option (List ℕ)) → ArePartsOfBytes debug bytes → debug_frames (image_in debug) ≡ debug_frames (option_map whole bytes)
 same_debug_frames None bytes is = ap (λ (bytes : Option (List ℕ)). debug_frames (option_map whole bytes)) (sym is)
 same_debug_frames (Some code) None is = absurd is
 same_debug_frames (Some code) (Some bytes) is = same_debug_in bytes _ _ (code_found code bytes is)
@@ -166,9 +165,9 @@ same_debug_frames (Some code) (Some bytes) is = same_debug_in bytes _ _ (code_fo
 either_same : (file : File) (bytes : List ℕ) → code_addresses file ≡ code_addresses (in_whole bytes file) → (frames debug : Option GivenSection) → with_either file frames debug ≡ with_either (in_whole bytes file) frames debug
 either_same file bytes same (Some frames) debug = λ i. Some (record (object_with file frames debug) { addresses = same i })
 either_same file bytes same None None = refl
-either_same file bytes same None (Some frames) = λ i. Some (record (object_with file (section_in file given.EhFrame []) (Some frames)) { addresses = same i })
+either_same file bytes same None (Some frames) = λ i. Some (record (object_with file (given_section file given.EhFrame []) (Some frames)) { addresses = same i })
 
-module _ (debug : Option CodeParts) (all_debug : Option (List ℕ)) (debug_is : IsOf debug all_debug) where
+module _ (debug : Option CodeParts) (all_debug : Option (List ℕ)) (debug_is : ArePartsOfBytes debug all_debug) where
   frames_same : (file : File) (bytes : List ℕ) → IsImageOf file.image bytes → HasAll needed_of_code file → with_call_frames (image_in debug) file ≡ with_call_frames (option_map whole all_debug) (in_whole bytes file)
   frames_same file bytes of needed =
       let eh = (same_eh_frame file bytes of).same needed.frames.eh_frame in
@@ -181,7 +180,7 @@ module _ (debug : Option CodeParts) (all_debug : Option (List ℕ)) (debug_is : 
   object_found bytes None b same = ap (option_and_then (with_call_frames (option_map whole all_debug))) (sym same)
   object_found bytes (Some file) b (same, of, needed) = frames_same file bytes of needed ∙ ap (option_and_then (with_call_frames (option_map whole all_debug))) (sym same)
 
-  pub same_object : (code : Option CodeParts) (bytes : Option (List ℕ)) → IsOf code bytes → object_if (image_in code) (image_in debug) ≡ object_if (option_map whole bytes) (option_map whole all_debug)
+  pub same_object : (code : Option CodeParts) (bytes : Option (List ℕ)) → ArePartsOfBytes code bytes → object_if (image_in code) (image_in debug) ≡ object_if (option_map whole bytes) (option_map whole all_debug)
   same_object None bytes is = ap (λ (bytes : Option (List ℕ)). object_if (option_map whole bytes) (option_map whole all_debug)) (sym is)
   same_object (Some code) None is = absurd is
   same_object (Some code) (Some bytes) is = object_found bytes _ _ (code_found code bytes is)
@@ -196,7 +195,7 @@ module _ (debug : Option CodeParts) (all_debug : Option (List ℕ)) (debug_is : 
   other_places file bytes of needed b (Some other) y (same, other_of, other_needed) =
       same_places other other_of (other_needed.symbols refl) ∙ ap (λ (y : Option File). function_place (or_this (in_whole bytes file) y)) (sym same)
 
-  places_same : (debug : Option CodeParts) (all_debug : Option (List ℕ)) → IsOf debug all_debug → (file : File) (bytes : List ℕ) → IsImageOf file.image bytes → HasAll needed_of_code file →
+  places_same : (debug : Option CodeParts) (all_debug : Option (List ℕ)) → ArePartsOfBytes debug all_debug → (file : File) (bytes : List ℕ) → IsImageOf file.image bytes → HasAll needed_of_code file →
       function_place (symbol_file file (image_in debug)) ≡ function_place (symbol_file (in_whole bytes file) (option_map whole all_debug))
   places_same None other is file bytes of needed =
       same_places file of (needed.symbols refl) ∙ ap (λ (all : Option (List ℕ)). function_place (symbol_file (in_whole bytes file) (option_map whole all))) (sym is)
@@ -214,24 +213,24 @@ module _ (debug : Option CodeParts) (all_debug : Option (List ℕ)) (debug_is : 
   functions_found bytes (Some file) b (same, of, needed) =
       ap Some (symbols_same file bytes of needed) ∙ ap (option_map (with_symbols (option_map whole all_debug))) (sym same)
 
-  all_functions : (code : Option CodeParts) (bytes : Option (List ℕ)) → IsOf code bytes → functions_if true (image_in code) (image_in debug) ≡ functions_if true (option_map whole bytes) (option_map whole all_debug)
+  all_functions : (code : Option CodeParts) (bytes : Option (List ℕ)) → ArePartsOfBytes code bytes → functions_if true (image_in code) (image_in debug) ≡ functions_if true (option_map whole bytes) (option_map whole all_debug)
   all_functions None bytes is = ap (λ (bytes : Option (List ℕ)). functions_if true (option_map whole bytes) (option_map whole all_debug)) (sym is)
   all_functions (Some code) None is = absurd is
   all_functions (Some code) (Some bytes) is = functions_found bytes _ _ (code_found code bytes is)
 
-  pub same_functions : (named : Bool) (code : Option CodeParts) (bytes : Option (List ℕ)) → IsOf code bytes → functions_if named (image_in code) (image_in debug) ≡ functions_if named (option_map whole bytes) (option_map whole all_debug)
+  pub same_functions : (named : Bool) (code : Option CodeParts) (bytes : Option (List ℕ)) → ArePartsOfBytes code bytes → functions_if named (image_in code) (image_in debug) ≡ functions_if named (option_map whole bytes) (option_map whole all_debug)
   same_functions false code bytes is = refl
   same_functions true code bytes is = all_functions code bytes is
 
 -- ---- texts
 
 -- what is read as code
-pub code_kept : (text : Bool) (code : Option CodeParts) (bytes : Option (List ℕ)) → IsOf code bytes → IsOf (if text then None else code) (if text then None else bytes)
+pub code_kept : (text : Bool) (code : Option CodeParts) (bytes : Option (List ℕ)) → ArePartsOfBytes code bytes → ArePartsOfBytes (if text then None else code) (if text then None else bytes)
 code_kept true code bytes is = refl
 code_kept false code bytes is = is
 
 -- all bytes of what was read whole
-pub whole_first : (code : Option CodeParts) (bytes : Option (List ℕ)) → IsOf code bytes → is_whole code ≡ true → beginning_in code ≡ bytes
+pub whole_first : (code : Option CodeParts) (bytes : Option (List ℕ)) → ArePartsOfBytes code bytes → is_whole code ≡ true → beginning_in code ≡ bytes
 whole_first None bytes is every = sym is
 whole_first (Some code) None is every = absurd is
 whole_first (Some code) (Some bytes) is every =
@@ -248,7 +247,7 @@ either true b is = refl
 either false b is = is
 
 -- what the kernel tells
-pub kernel_told : {A : Type 0} (name : List ℕ) (map_name : Option A) (code : Option CodeParts) (bytes : Option (List ℕ)) → IsOf code bytes → is_told name map_name code ≡ true → kernel_of name (beginning_in code) ≡ kernel_of name bytes
+pub kernel_told : {A : Type 0} (name : List ℕ) (map_name : Option A) (code : Option CodeParts) (bytes : Option (List ℕ)) → ArePartsOfBytes code bytes → is_told name map_name code ≡ true → kernel_text_of name (beginning_in code) ≡ kernel_text_of name bytes
 kernel_told name map_name code bytes of told = by (is_kernel_name name) refl
   where
     by : (b : Bool) → is_kernel_name name ≡ b → (if b then option_map (kernel_text name) (beginning_in code) else None) ≡ (if b then option_map (kernel_text name) bytes else None)
@@ -256,8 +255,8 @@ kernel_told name map_name code bytes of told = by (is_kernel_name name) refl
     by false is = refl
 
 -- what a process tells
-pub map_told : {A : Type 0} (f : A → List ℕ) (name : List ℕ) (map_name : Option A) (code : Option CodeParts) (bytes : Option (List ℕ)) → IsOf code bytes → is_told name map_name code ≡ true
-    → map_of (beginning_in code) (option_map f map_name) ≡ map_of bytes (option_map f map_name)
+pub map_told : {A : Type 0} (f : A → List ℕ) (name : List ℕ) (map_name : Option A) (code : Option CodeParts) (bytes : Option (List ℕ)) → ArePartsOfBytes code bytes → is_told name map_name code ≡ true
+    → code_map_of (beginning_in code) (option_map f map_name) ≡ code_map_of bytes (option_map f map_name)
 map_told f name None code bytes of told = refl
 map_told f name (Some m) code bytes of told =
-    ap (λ (text : Option (List ℕ)). map_of text (Some (f m))) (whole_first code bytes of (rest_of (is_kernel_name name || true) (is_whole code) (either (is_kernel_name name) true refl) told))
+    ap (λ (text : Option (List ℕ)). code_map_of text (Some (f m))) (whole_first code bytes of (rest_of (is_kernel_name name || true) (is_whole code) (either (is_kernel_name name) true refl) told))

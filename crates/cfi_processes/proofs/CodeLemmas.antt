@@ -13,12 +13,12 @@ use Rattle.cfi_processes.specs.KnownFiles.{KnownCode, KnownFile}
 use Rattle.cfi_processes.specs.Sites.{mapped_at}
 use Rattle.cfi_processes.specs.ProcessModules.{mapped_module, file_module, modules_in}
 use Rattle.cfi_processes.specs.Mappings.{AreMappedInOrder, has_byte_at}
-use Rattle.cfi_processes.specs.Modules.{Module, loaded_module, loaded_module_view}
+use Rattle.cfi_processes.specs.Modules.{FileModule, loaded_module, loaded_module_view}
 use Rattle.cfi_processes.specs.Objects.{bias_of, debug_by, object_module}
 
 -- ---- the order of modules
 
-abbrev in_order : ℕ → List Module → Bool
+abbrev in_order : ℕ → List FileModule → Bool
 in_order low [] = true
 in_order low (m ∷ ms) = (nat_le low m.start && nat_le m.start m.end) && in_order m.end ms
 
@@ -27,29 +27,29 @@ same_order low [] = refl
 same_order low (m ∷ ms) = ap (λ (b : Bool). begins_from code_start code_end low m && b) (same_order m.end ms)
 
 -- a module spans what is mapped
-abbrev Spans : MappedCode → Module → Type 0
+abbrev Spans : MappedCode → FileModule → Type 0
 Spans mapped m = (m.start ≡ mapped.start) × (m.end ≡ mapped.end)
 
-spans_of : (mapped : MappedCode) (number : ℕ) (code : KnownCode) (bias : Option ℕ) (m : Module) → option_map (loaded_module number code.object.section code.object.header code.tables.table (debug_by code.object.debug code.tables.debug) mapped) bias ≡ Some m → Spans mapped m
+spans_of : (mapped : MappedCode) (number : ℕ) (code : KnownCode) (bias : Option ℕ) (m : FileModule) → option_map (loaded_module number code.object.section code.object.header code.tables.table (debug_by code.object.debug code.tables.debug) mapped) bias ≡ Some m → Spans mapped m
 spans_of mapped number code None m e = cc
 spans_of mapped number code (Some bias) m e =
     let is : m ≡ loaded_module number code.object.section code.object.header code.tables.table (debug_by code.object.debug code.tables.debug) mapped bias = cc in
-    (ap (λ (x : Module). x.start) is, ap (λ (x : Module). x.end) is)
+    (ap (λ (x : FileModule). x.start) is, ap (λ (x : FileModule). x.end) is)
 
-spans_in : (mapped : MappedCode) (number : ℕ) (o : Option KnownCode) (m : Module) → option_and_then (λ code. object_module number code.object code.tables mapped) o ≡ Some m → Spans mapped m
+spans_in : (mapped : MappedCode) (number : ℕ) (o : Option KnownCode) (m : FileModule) → option_and_then (λ code. object_module number code.object code.tables mapped) o ≡ Some m → Spans mapped m
 spans_in mapped number None m e = cc
 spans_in mapped number (Some code) m e = spans_of mapped number code (bias_of code.object mapped) m e
 
-spans_by : (mapped : MappedCode) (number : ℕ) (file : Option KnownFile) (m : Module) → option_and_then (file_module mapped number) file ≡ Some m → Spans mapped m
+spans_by : (mapped : MappedCode) (number : ℕ) (file : Option KnownFile) (m : FileModule) → option_and_then (file_module mapped number) file ≡ Some m → Spans mapped m
 spans_by mapped number None m e = cc
 spans_by mapped number (Some file) m e = spans_in mapped number file.code m e
 
-spans_numbered : (files : List KnownFile) (mapped : MappedCode) (object : Option ℕ) (m : Module)
+spans_numbered : (files : List KnownFile) (mapped : MappedCode) (object : Option ℕ) (m : FileModule)
     → option_and_then (λ number. option_and_then (file_module mapped number) (slice_get files number)) object ≡ Some m → Spans mapped m
 spans_numbered files mapped None m e = cc
 spans_numbered files mapped (Some number) m e = spans_by mapped number (slice_get files number) m e
 
-spans : (files : List KnownFile) (mapped : MappedCode) (m : Module) → mapped_module files mapped ≡ Some m → Spans mapped m
+spans : (files : List KnownFile) (mapped : MappedCode) (m : FileModule) → mapped_module files mapped ≡ Some m → Spans mapped m
 spans files mapped m e = spans_numbered files mapped mapped.object m e
 
 lower : (list : List MappedCode) (low high : ℕ) → low ≤ high → AreMappedInOrder high list → AreMappedInOrder low list
@@ -62,7 +62,7 @@ module _ (files : List KnownFile) where
   code_in_order (mapped ∷ list) low (from, some, rest) =
       by (mapped_module files mapped) refl (λ l h. code_in_order list l h)
     where
-      by : (m : Option Module) → mapped_module files mapped ≡ m → ((l : ℕ) → AreMappedInOrder l list → in_order l (modules_in files list) ≡ true) → in_order low (cons_option m (modules_in files list)) ≡ true
+      by : (m : Option FileModule) → mapped_module files mapped ≡ m → ((l : ℕ) → AreMappedInOrder l list → in_order l (modules_in files list) ≡ true) → in_order low (cons_option m (modules_in files list)) ≡ true
       by None e others = others low (lower list low mapped.end (omega (arith, from, some)) rest)
       by (Some m) e others =
           let (starts, ends) = spans files mapped m e in

@@ -11,5 +11,6 @@ pub mod CodeLemmas
 pub mod ModuleLemmas
 pub mod CodeImages
 mod ReadFiles
+mod Missing
 pub mod FileLemmas
 mod SymbolLemmas

@@ -4,7 +4,7 @@ use Rattle.std.specs.List.{filter_map, cons_option}
 use Rattle.std.proofs.lemmas.Bool.{and_from, and_left, and_right, le-leb, lt-leb, lt-ltb, le-ltb, cases_lt, cond-true, cond-false}
 use Rattle.std.proofs.Math.Nat.{mod-add-mod}
 use Rattle.cfi_processes.specs.declared.mappings.MappedCode.{MappedCode}
-use Rattle.cfi_processes.specs.Mappings.{IsMappedOver, Place, has_byte_at, mapped_over, part_below, part_from, mapped_place, place_at_address}
+use Rattle.cfi_processes.specs.Mappings.{IsMappedOver, MappedPlace, has_byte_at, mapped_over, part_below, part_from, mapped_place, place_at_address}
 
 -- a list that is made of two others and what stands between them
 pub joined : {X : Type 0} {none first second third : List X} (xs : List X) (x : X) (ys : List X) → none ≡ [] → first ≡ none ++ xs → second ≡ first ++ x ∷ [] → third ≡ second ++ ys → third ≡ xs ++ x ∷ ys
@@ -65,12 +65,12 @@ module _ (m : MappedCode) (a : ℕ) where
     there has_not = cond-false (has_byte_at m a) (Some (mapped_place m a)) (place_at_address list a) has_not
 
 -- one mapping in place of another that has the same place for the byte
-replaced : (m n : MappedCode) (a : ℕ) (p q : Option Place) → has_byte_at n a ≡ has_byte_at m a → mapped_place n a ≡ mapped_place m a → p ≡ q →
+replaced : (m n : MappedCode) (a : ℕ) (p q : Option MappedPlace) → has_byte_at n a ≡ has_byte_at m a → mapped_place n a ≡ mapped_place m a → p ≡ q →
     cond (has_byte_at n a) (Some (mapped_place n a)) p ≡ cond (has_byte_at m a) (Some (mapped_place m a)) q
 replaced m n a p q has place rest =
     ap (λ (t : Bool). cond t (Some (mapped_place n a)) p) has
-    ∙ ap (λ (x : Place). cond (has_byte_at m a) (Some x) p) place
-    ∙ ap (λ (x : Option Place). cond (has_byte_at m a) (Some (mapped_place m a)) x) rest
+    ∙ ap (λ (x : MappedPlace). cond (has_byte_at m a) (Some x) p) place
+    ∙ ap (λ (x : Option MappedPlace). cond (has_byte_at m a) (Some (mapped_place m a)) x) rest
 
 -- ---- below a limit, and from it on
 
@@ -140,7 +140,7 @@ module _ (new : MappedCode) (list : List MappedCode) where
   none_over no_bytes = cond-false (nat_lt new.start new.end) over list (le-ltb new.start new.end no_bytes)
 
   module _ (a : ℕ) where
-    abbrev due : Option Place
+    abbrev due : Option MappedPlace
     due = cond (has_byte_at new a) (Some (mapped_place new a)) (place_at_address list a)
 
     inside : has_byte_at new a ≡ true → new.start ≤ a → place_at_address over a ≡ due

@@ -13,7 +13,7 @@ use Rattle.cfi_processes.specs.declared.mappings.MappedCode.{MappedCode}
 use Rattle.cfi_processes.specs.FileModules.{AreModulesOfFiles, IsModuleOf, IsModuleOfFiles}
 use Rattle.cfi_processes.specs.KnownFiles.{KnownFile}
 use Rattle.cfi_processes.specs.ProcessModules.{mapped_module, modules_in}
-use Rattle.cfi_processes.specs.Modules.{Module, loaded_module_view}
+use Rattle.cfi_processes.specs.Modules.{FileModule, loaded_module_view}
 use Rattle.cfi_processes.specs.Objects.{HasFramesOf}
 
 abbrev Loaded : Type 0
@@ -49,26 +49,26 @@ one_more_module files before after loaded o is found one all =
 -- ---- one more mapping
 
 module _ (files : List KnownFile) (list : List MappedCode) (i : ℕ) (d : MappedCode) (inside : i < length list) where
-  abbrev pub rest : List Module
+  abbrev pub rest : List FileModule
   rest = modules_in files (drop (i + 1) list)
 
   from_here : modules_in files (drop i list) ≡ cons_option (mapped_module files (get_or list i d)) rest
   from_here = rw (drop-cons list i d, add-one) refl
 
   -- that has a module
-  pub module_appended : (before after : List Loaded) (whole : List Module) (loaded : Loaded) (o : Option Loaded) → after ≡ before ++ loaded ∷ [] → o ≡ Some loaded
+  pub module_appended : (before after : List Loaded) (whole : List FileModule) (loaded : Loaded) (o : Option Loaded) → after ≡ before ++ loaded ∷ [] → o ≡ Some loaded
       → option_map loaded_module_view o ≡ mapped_module files (get_or list i d) → map loaded_module_view before ++ modules_in files (drop i list) ≡ whole → map loaded_module_view after ++ rest ≡ whole
   module_appended before after whole loaded o is has found are =
       let here : modules_in files (drop i list) ≡ loaded_module_view loaded ∷ rest =
-      from_here ∙ ap (λ (o : Option Module). cons_option o rest) (sym found ∙ ap (option_map loaded_module_view) has) in
+      from_here ∙ ap (λ (o : Option FileModule). cons_option o rest) (sym found ∙ ap (option_map loaded_module_view) has) in
       ap (λ (ms : List Loaded). map loaded_module_view ms ++ rest) is
-      ∙ (ap (λ (ms : List Module). ms ++ rest) (map-append loaded_module_view before (loaded ∷ []))
+      ∙ (ap (λ (ms : List FileModule). ms ++ rest) (map-append loaded_module_view before (loaded ∷ []))
       ∙ (append_assoc (map loaded_module_view before) (loaded_module_view loaded ∷ []) rest
-      ∙ (ap (λ (ms : List Module). map loaded_module_view before ++ ms) (sym here) ∙ are)))
+      ∙ (ap (λ (ms : List FileModule). map loaded_module_view before ++ ms) (sym here) ∙ are)))
 
   -- that has none
-  pub no_module : (before after : List Loaded) (whole : List Module) (o : Option Loaded) → after ≡ before → o ≡ None
+  pub no_module : (before after : List Loaded) (whole : List FileModule) (o : Option Loaded) → after ≡ before → o ≡ None
       → option_map loaded_module_view o ≡ mapped_module files (get_or list i d) → map loaded_module_view before ++ modules_in files (drop i list) ≡ whole → map loaded_module_view after ++ rest ≡ whole
   no_module before after whole o is has found are =
-      let here : modules_in files (drop i list) ≡ rest = from_here ∙ ap (λ (o : Option Module). cons_option o rest) (sym found ∙ ap (option_map loaded_module_view) has) in
-      ap (λ (ms : List Loaded). map loaded_module_view ms ++ rest) is ∙ (ap (λ (ms : List Module). map loaded_module_view before ++ ms) (sym here) ∙ are)
+      let here : modules_in files (drop i list) ≡ rest = from_here ∙ ap (λ (o : Option FileModule). cons_option o rest) (sym found ∙ ap (option_map loaded_module_view) has) in
+      ap (λ (ms : List Loaded). map loaded_module_view ms ++ rest) is ∙ (ap (λ (ms : List FileModule). map loaded_module_view before ++ ms) (sym here) ∙ are)

@@ -13,7 +13,7 @@ use Rattle.cfi_processes.specs.declared.sample_stack.NoFrames.{NoFrames}
 use Rattle.cfi_perf.specs.Samples.{UserRegisters, UserState}
 use Rattle.cfi_processes.specs.Registers.{machine_abi}
 use Rattle.cfi_perf.specs.Results.{and_then}
-use Rattle.cfi_processes.specs.SampleStacks.{IsSampleUnwound, IsUnwoundFrom, IsWalkFrom, IsWalkOver, Room, beginning_by, beginning_of, innermost_of, known_registers, stack_memory, of_64_bits}
+use Rattle.cfi_processes.specs.SampleStacks.{IsSampleUnwound, IsUnwoundFrom, IsWalkFrom, IsWalkOver, WalkRoom, beginning_by, beginning_of, innermost_of, known_registers, sample_memory, of_64_bits}
 
 -- ---- where a walk begins
 
@@ -41,16 +41,16 @@ module _ {R T : Type 0} (position : R → Position) (number : T → ℕ) (rule_l
       subst (λ (n : ℕ). WalkOver modules memory n (machine_abi machine) s frames end registers caller) sizes
       (subst (λ (a : Abi). WalkOver modules memory size a s frames end registers caller) abis is)
 
-  module _ (modules : List (LoadedModule R)) (machine : SampleMachine) (user : UserState) (old new : Room) where
+  module _ (modules : List (LoadedModule R)) (machine : SampleMachine) (user : UserState) (old new : WalkRoom) where
     -- where a sample has a beginning, its frames are those from there on
     pub unwound : (registers : UserRegisters) (innermost : Innermost) (known : List (Option ℕ)) (walk : Walk)
         → Ok registers ≡ of_64_bits user.registers → Ok innermost ≡ innermost_of machine registers → known ≡ known_registers machine registers
-        → IsWalkOver position number rule_limit stack_limit copies_free modules machine (stack_memory user.stack innermost.stack_pointer) innermost.pc known old walk new
+        → IsWalkOver position number rule_limit stack_limit copies_free modules machine (sample_memory user.stack innermost.stack_pointer) innermost.pc known old walk new
         → IsSampleUnwound position number rule_limit stack_limit copies_free modules machine user old (Ok walk) new
     unwound registers innermost known walk is_64 is_innermost are_known walks =
         subst (IsUnwoundFrom position number rule_limit stack_limit copies_free modules machine user.stack old (Ok walk) new)
         (sym (beginning_at machine user registers innermost (sym is_64) (sym is_innermost))) (
           walk,
           refl,
-          subst (λ (rs : List (Option ℕ)). IsWalkOver position number rule_limit stack_limit copies_free modules machine (stack_memory user.stack innermost.stack_pointer) innermost.pc rs old walk new) are_known walks,
+          subst (λ (rs : List (Option ℕ)). IsWalkOver position number rule_limit stack_limit copies_free modules machine (sample_memory user.stack innermost.stack_pointer) innermost.pc rs old walk new) are_known walks,
         )

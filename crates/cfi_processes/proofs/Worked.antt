@@ -1,7 +1,7 @@
 -- Mappings and histories, worked out from the definitions alone.
 use Rattle.std.proofs.Common.{◌≡◌, ℕ, ◌-◌, ◌^◌, List, [], ◌∷◌, Option, Some, None, codes, true, false, refl}
 use Rattle.cfi_processes.specs.declared.mappings.MappedCode.{MappedCode}
-use Rattle.cfi_processes.specs.Mappings.{Place, mapped_over, place_at_address}
+use Rattle.cfi_processes.specs.Mappings.{MappedPlace, mapped_over, place_at_address}
 use Rattle.cfi_perf.specs.Events.{ForkEvent, ProgramEvent}
 use Rattle.cfi_processes.specs.Histories.{Change, mapped, executed, forked, places_after}
 use Rattle.cfi_processes.specs.ThreadNames.{names_after}
@@ -11,7 +11,7 @@ use Rattle.cfi_processes.specs.Wanted.{is_same}
 abbrev code : ℕ → ℕ → ℕ → ℕ → MappedCode
 code start end offset file = record { start = start; end = end; offset = offset; object = Some file }
 
-abbrev byte : ℕ → ℕ → Option Place
+abbrev byte : ℕ → ℕ → Option MappedPlace
 byte file offset = Some (record { object = Some file; offset = offset })
 
 -- ---- a new mapping

@@ -13,7 +13,7 @@ use Rattle.cfi_step.specs.Modules.{address_in_file}
 use Rattle.cfi_processes.specs.declared.registers.SampleMachine.TheVariants.{X86_64, AArch64}
 use Rattle.cfi_processes.specs.declared.sample_stack.NoFrames.{NoFrames}
 use Rattle.cfi_processes.specs.declared.sample_stack.NoFrames.TheVariants.{NoRegisters, OtherAbi, NoProgramCounter, NoStackPointer}
-use Rattle.cfi_processes.specs.Modules.{Module, loaded_module}
+use Rattle.cfi_processes.specs.Modules.{FileModule, loaded_module}
 use Rattle.cfi_processes.specs.Registers.{machine_named, perf_number, perf_number_x86_64}
 use Rattle.cfi_processes.specs.SampleStacks.{Beginning, beginning_of}
 use Rattle.cfi_perf.specs.Samples.{UserState}
@@ -48,7 +48,7 @@ frames = record {
 }
 
 -- file 3 with these, mapped 0x7f0000000000 higher
-abbrev mapped_higher : Module
+abbrev mapped_higher : FileModule
 mapped_higher =
     loaded_module 3 (given_section frames) (given_header frames) None None
     (record { start = 0x7f0000001000; end = 0x7f0000002000; offset = 0x1000; object = Some 3 }) 0x7f0000000000

@@ -2,5 +2,5 @@
 use Rattle.cfi_processes.specs.declared.code_map.CodeMap.{CodeMap}
 use Rattle.cfi_processes.specs.CodeMaps.{CodeMapText}
 
-abbrev pub map_view : CodeMap → CodeMapText
-map_view map = record { name = map.name.bytes.now; text = map.text.now }
+abbrev pub code_map_view : CodeMap → CodeMapText
+code_map_view map = record { name = map.name.bytes.now; text = map.text.now }

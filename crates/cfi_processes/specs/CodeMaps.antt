@@ -11,19 +11,20 @@ use Rattle.std.specs.Prelude.{codes, nat_eq, nat_lt, option_and_then, option_map
 use Rattle.std.specs.Fmt.{decimal}
 use Rattle.std.specs.List.{filter_map, starts_with}
 use Rattle.cfi_elf.specs.FunctionPlaces.{Place}
-use Rattle.cfi_processes.specs.TextSymbols.{Parts, Symbol, text_lines, nearest_among, told_number}
+use Rattle.cfi_processes.specs.TextSymbols.{Symbol, TextParts, nearest_among, text_lines}
+use Rattle.cfi_processes.specs.TextSymbols.{told_number}
 use Rattle.cfi_processes.specs.TextSymbols.{split_at_byte}
 
-abbrev pub begins_so : List ℕ → List ℕ → Bool
-begins_so front name = starts_with nat_eq name front
+abbrev pub begins_with : List ℕ → List ℕ → Bool
+begins_with front name = starts_with nat_eq name front
 
 -- as the kernel and perf name it
 abbrev pub is_memory_name : List ℕ → Bool
 is_memory_name name =
-    begins_so (codes "//anon") name || begins_so (codes "[anon") name
-    || begins_so (codes "/memfd:") name || begins_so (codes "/dev/zero") name
-    || begins_so (codes "/anon_hugepage") name || begins_so (codes "/SYSV") name
-    || begins_so (codes "[heap]") name || begins_so (codes "[stack") name
+    begins_with (codes "//anon") name || begins_with (codes "[anon") name
+    || begins_with (codes "/memfd:") name || begins_with (codes "/dev/zero") name
+    || begins_with (codes "/anon_hugepage") name || begins_with (codes "/SYSV") name
+    || begins_with (codes "[heap]") name || begins_with (codes "[stack") name
 
 abbrev pub map_name : ℕ → List ℕ
 map_name pid = codes "/tmp/perf-" ++ decimal pid ++ codes ".map"
@@ -34,11 +35,11 @@ abbrev pub symbol_with : ℕ → ℕ → List ℕ → Symbol
 symbol_with address size name =
     record { address = address; size = size; is_function = true; name = name; owner = None }
 
-abbrev pub symbol_sized : ℕ → Parts → Option Symbol
+abbrev pub symbol_sized : ℕ → TextParts → Option Symbol
 symbol_sized address parts =
     option_map (λ size. symbol_with address size parts.rest) (told_number parts.front)
 
-abbrev pub map_symbol_from : Parts → Option Symbol
+abbrev pub map_symbol_from : TextParts → Option Symbol
 map_symbol_from parts =
     option_and_then
     (λ address. option_and_then (symbol_sized address) (split_at_byte 32 parts.rest))

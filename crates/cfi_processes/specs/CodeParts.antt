@@ -3,8 +3,9 @@
 --     is_whole code      whether all of it was read
 --     is_told name map_name code      whether all was read of a text that the kernel or a process
 --         tells
---     IsOf code bytes      the parts are those of a file of these bytes, or there are neither
---     AreOf IsRight code      the parts are those of a file of right bytes
+--     ArePartsOfBytes code bytes      the parts are those of a file of these bytes, or there are
+--         neither
+--     ArePartsOf IsRight code      the parts are those of a file of right bytes
 use Rattle.std.specs.Prelude.{◌≡◌, ℕ, ◌==◌, Bool, true, not, ◌||◌, List, length, Option, Some}
 use Rattle.std.specs.Prelude.{None, option_map}
 use Rattle.cfi_elf.specs.Images.{Image, IsImageOf}
@@ -30,10 +31,10 @@ is_whole (Some code) = (parts_of code).length == length (parts_of code).first
 abbrev pub is_told : {A : Type 0} → List ℕ → Option A → Option CodeParts → Bool
 is_told name map_name code = not (is_text name map_name) || is_whole code
 
-abbrev pub IsOf : Option CodeParts → Option (List ℕ) → Type 0
-IsOf None bytes = bytes ≡ None
-IsOf (Some code) None = ⊥
-IsOf (Some code) (Some bytes) = IsImageOf (parts_of code) bytes
+abbrev pub ArePartsOfBytes : Option CodeParts → Option (List ℕ) → Type 0
+ArePartsOfBytes None bytes = bytes ≡ None
+ArePartsOfBytes (Some code) None = ⊥
+ArePartsOfBytes (Some code) (Some bytes) = IsImageOf (parts_of code) bytes
 
-abbrev pub AreOf : (Option (List ℕ) → Type 0) → Option CodeParts → Type 0
-AreOf IsRight code = (bytes : Option (List ℕ)) × IsRight bytes × IsOf code bytes
+abbrev pub ArePartsOf : (Option (List ℕ) → Type 0) → Option CodeParts → Type 0
+ArePartsOf IsRight code = (bytes : Option (List ℕ)) × IsRight bytes × ArePartsOfBytes code bytes

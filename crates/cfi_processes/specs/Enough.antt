@@ -1,4 +1,5 @@
 -- Which parts of a file of code are enough.
+--     needed_of_code      what is needed of it beside its call frames
 --     is_read r      whether no byte was needed that was not read
 --     are_enough image      whether the parts have all that is needed of the file: the note of its
 --         build, the link to its debug file, the call frames and the symbols
@@ -10,7 +11,12 @@ use Rattle.cfi_elf.specs.ElfFiles.{File, elf_file_of}
 use Rattle.cfi_elf.specs.Images.{Image}
 use Rattle.cfi_elf.specs.BuildIds.{build_id}
 use Rattle.cfi_elf.specs.SymbolTables.{symbol_table}
+use Rattle.cfi_object.specs.declared.needed.Needed.{Needed}
 use Rattle.cfi_object.specs.CallFrames.{debug_frame_of, eh_frame_of}
+
+-- its symbols, and the note of its build with the link to its debug file
+abbrev pub needed_of_code : Needed
+needed_of_code = record { symbols = true; plt = false; build = true }
 
 abbrev pub is_lack : ElfError → Bool
 is_lack (NotRead offset size) = true

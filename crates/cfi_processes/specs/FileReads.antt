@@ -1,4 +1,5 @@
 -- What is opened and read of the files of a profile.
+--     if_readable read      what was read, or none where it can't be
 --     names_a_file name      whether a mapping with the name is of a file
 --     IsContents may_open remaining file bytes      what was read of a file that is wanted
 --     IsDebugOf may_open remaining name bytes debug      what was read of the debug file of a file
@@ -6,8 +7,12 @@
 --     IsDebugFor .. file bytes debug      the same for a file that is wanted; none of a text
 --     AreOpened .. files opened      these files
 use Rattle.std.specs.Prelude.{◌≡◌, ◌⊎◌, ℕ, Bool, true, false, not, ◌&&◌, List, [], ◌∷◌, Option}
-use Rattle.std.specs.Prelude.{Some, None, IfSome, codes, nat_eq, if◌then◌else◌}
-use Rattle.std.specs.List.{starts_with}
+use Rattle.std.specs.Prelude.{Some, None, IfSome, Result, Ok, Err, alloc_error, codes}
+use Rattle.std.specs.Prelude.{if◌then◌else◌}
+use Rattle.std.specs.declared.alloc.AllocError.{AllocError}
+use Rattle.cfi_object.specs.declared.input.InputError.{InputError}
+use Rattle.cfi_object.specs.declared.input.InputError.TheVariants.{OutOfMemory}
+use Rattle.cfi_processes.specs.CodeMaps.{begins_with}
 use Rattle.cfi_processes.specs.KernelSymbols.{is_kernel_name}
 use Rattle.cfi_processes.specs.Wanted.{FilePlace, Wanted, as_code, at_path, copy_of, debug_of}
 use Rattle.cfi_processes.specs.Wanted.{code_map, kernel_symbols}
@@ -19,15 +24,18 @@ use Rattle.cfi_processes.specs.declared.wanted.LinkFolder.TheVariants.{Below, Be
 use Rattle.cfi_elf.specs.DebugLinks.{Link}
 use Rattle.cfi_processes.specs.OpenedFiles.{Opened, opened_as}
 
-abbrev pub begins_with : List ℕ → List ℕ → Bool
-begins_with front name = starts_with nat_eq name front
-
 -- a path, but for those that stand for memory that is no regular file's
 abbrev pub names_a_file : List ℕ → Bool
 names_a_file name =
     begins_with (codes "/") name && not (begins_with (codes "//") name)
     && not (begins_with (codes "/dev/") name) && not (begins_with (codes "/memfd:") name)
     && not (begins_with (codes "/SYSV") name) && not (begins_with (codes "/anon_hugepage") name)
+
+-- of what can't be read there is none; that memory is refused says nothing of it
+abbrev pub if_readable : {A : Type 0} → Result A InputError → Result (Option A) AllocError
+if_readable (Ok read) = Ok (Some read)
+if_readable (Err OutOfMemory) = Err alloc_error
+if_readable (Err _) = Ok None
 
 -- all bytes that were left, where they are known, or none where they can't be read
 abbrev pub IsAllLeft : Option (List ℕ) → Option (List ℕ) → Type 0
@@ -112,18 +120,19 @@ module _ {Handle : Type 0} (may_open : FilePlace → Option Handle → Type 0)
       (read : Option (List ℕ)) × IsPlaceRead (linked folder name link.name) read
       × (debug ≡ if_linked link build read)
 
-  -- below the file's folder, or else in that of debug files
-  abbrev pub IsElsewhere : List ℕ → Link → Option (List ℕ) → Option (List ℕ) → Type 0
-  IsElsewhere name link build debug =
-      (found : Option (List ℕ)) × IsLinkedIn name link build Below found
-      × IsOr found (IsLinkedIn name link build Central) debug
+  -- in the first of the folders that has it
+  abbrev pub IsLinkedAmong :
+      List ℕ → Link → Option (List ℕ) → List LinkFolder → Option (List ℕ) → Type 0
+  IsLinkedAmong name link build [] debug = debug ≡ None
+  IsLinkedAmong name link build (folder ∷ folders) debug =
+      (found : Option (List ℕ)) × IsLinkedIn name link build folder found
+      × IsOr found (IsLinkedAmong name link build folders) debug
 
-  -- beside the file, or else elsewhere
+  -- beside the file, below its folder, or else in that of debug files
   abbrev pub IsByLink : List ℕ → Option (List ℕ) → Option Link → Option (List ℕ) → Type 0
   IsByLink name build None debug = debug ≡ None
   IsByLink name build (Some link) debug =
-      (found : Option (List ℕ)) × IsLinkedIn name link build Beside found
-      × IsOr found (IsElsewhere name link build) debug
+      IsLinkedAmong name link build (Beside ∷ Below ∷ Central ∷ []) debug
 
   -- that of the build which the file itself says, or else the one to which its link leads
   abbrev pub IsDebugOf : List ℕ → Option (List ℕ) → Option (List ℕ) → Type 0

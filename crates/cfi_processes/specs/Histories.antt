@@ -7,7 +7,7 @@
 use Rattle.std.specs.Prelude.{ℕ, ◌==◌, ◌&&◌, List, [], ◌∷◌, Option, Some, None, reverse}
 use Rattle.std.specs.Prelude.{if◌then◌else◌}
 use Rattle.cfi_processes.specs.declared.mappings.MappedCode.{MappedCode}
-use Rattle.cfi_processes.specs.Mappings.{Place, has_byte_at, mapped_over, mapped_place}
+use Rattle.cfi_processes.specs.Mappings.{MappedPlace, has_byte_at, mapped_over, mapped_place}
 
 -- a thread is made in the process that makes it
 pub data Change : Type 0 where
@@ -21,7 +21,7 @@ mappings_after (executed pid) before q = if q == pid then [] else before q
 mappings_after (forked pid parent) before q = if q == pid then before parent else before q
 
 -- looking back from the last change, which comes first here
-abbrev pub place_back : List Change → ℕ → ℕ → Option Place
+abbrev pub place_back : List Change → ℕ → ℕ → Option MappedPlace
 place_back [] q a = None
 place_back (mapped pid new ∷ past) q a =
     if q == pid && has_byte_at new a then Some (mapped_place new a) else place_back past q a
@@ -29,5 +29,5 @@ place_back (executed pid ∷ past) q a = if q == pid then None else place_back p
 place_back (forked pid parent ∷ past) q a =
     if q == pid then place_back past parent a else place_back past q a
 
-abbrev pub places_after : List Change → ℕ → ℕ → Option Place
+abbrev pub places_after : List Change → ℕ → ℕ → Option MappedPlace
 places_after changes q a = place_back (reverse changes) q a

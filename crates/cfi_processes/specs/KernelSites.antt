@@ -20,12 +20,12 @@ kernel_name name = if is_kernel_name name then kernel_image else name
 
 -- of the kernel that is mapped; not of another one, or of this one after another boot, which moves
 -- it
-abbrev pub names_if : MappedCode → KernelText → Option KernelText
-names_if mapped names = if is_kernel_of mapped names then Some names else None
+abbrev pub kernel_names_if : MappedCode → KernelText → Option KernelText
+kernel_names_if mapped names = if is_kernel_of mapped names then Some names else None
 
 abbrev pub kernel_names_of : MappedCode → Option KnownFile → Option KernelText
 kernel_names_of mapped None = None
-kernel_names_of mapped (Some file) = option_and_then (names_if mapped) file.kernel
+kernel_names_of mapped (Some file) = option_and_then (kernel_names_if mapped) file.kernel
 
 -- of the first mapping that is the kernel's
 abbrev pub kernel_names : List KnownFile → List MappedCode → Option KernelText
@@ -42,13 +42,13 @@ abbrev pub is_owner : Option (List ℕ) → List ℕ → Bool
 is_owner None name = bytes_eq name kernel_image
 is_owner (Some owner) name = bytes_eq name owner
 
-abbrev pub is_in : Option (List ℕ) → Symbol → Bool
-is_in None s = false
-is_in (Some name) s = s.is_function && is_owner s.owner name
+abbrev pub is_function_in : Option (List ℕ) → Symbol → Bool
+is_function_in None s = false
+is_function_in (Some name) s = s.is_function && is_owner s.owner name
 
 abbrev pub kernel_function : Option (List ℕ) → ℕ → Symbol → Option Place
 kernel_function file a s =
-    if is_in file s then Some (record { name = s.name; offset = a - s.address }) else None
+    if is_function_in file s then Some (record { name = s.name; offset = a - s.address }) else None
 
 abbrev pub kernel_site_in : Option (List ℕ) → ℕ → Option Symbol → Site
 kernel_site_in file a symbol =

@@ -10,7 +10,8 @@ use Rattle.std.specs.Prelude.{None, codes, nat_eq, option_and_then, option_map, 
 use Rattle.std.specs.List.{filter_map, starts_with}
 use Rattle.std.specs.Option.{is_none, option_or}
 use Rattle.std.specs.Str.{bytes_eq}
-use Rattle.cfi_processes.specs.TextSymbols.{Parts, Symbol, text_lines, nearest_among, told_number}
+use Rattle.cfi_processes.specs.TextSymbols.{Symbol, TextParts, nearest_among, text_lines}
+use Rattle.cfi_processes.specs.TextSymbols.{told_number}
 use Rattle.cfi_processes.specs.TextSymbols.{split_at_byte}
 
 abbrev pub kernel_image : List ℕ
@@ -41,7 +42,7 @@ is_function_of_type (c ∷ []) = is_function_of_letter c
 is_function_of_type (c ∷ d ∷ more) = None
 
 -- after the type, and what is before and after a tab there, if there is one
-abbrev pub symbol_named : ℕ → Bool → List ℕ → Option Parts → Symbol
+abbrev pub symbol_named : ℕ → Bool → List ℕ → Option TextParts → Symbol
 symbol_named address is_function name None =
     record { address = address; size = 0; is_function = is_function; name = name; owner = None }
 symbol_named address is_function name (Some parts) = record {
@@ -52,13 +53,13 @@ symbol_named address is_function name (Some parts) = record {
   owner = Some parts.rest;
 }
 
-abbrev pub symbol_typed : ℕ → Parts → Option Symbol
+abbrev pub symbol_typed : ℕ → TextParts → Option Symbol
 symbol_typed address parts =
     option_map
     (λ is_function. symbol_named address is_function parts.rest (split_at_byte 9 parts.rest))
     (is_function_of_type parts.front)
 
-abbrev pub kernel_symbol_from : Parts → Option Symbol
+abbrev pub kernel_symbol_from : TextParts → Option Symbol
 kernel_symbol_from parts =
     option_and_then
     (λ address. option_and_then (symbol_typed address) (split_at_byte 32 parts.rest))

@@ -7,7 +7,7 @@ use Rattle.std.specs.Prelude.{ℕ, List, Option, option_map}
 use Rattle.cfi_processes.specs.declared.file_code.FileCode.{FileCode}
 use Rattle.cfi_processes.specs.declared.profile_files.ProfileFile.{ProfileFile}
 use Rattle.cfi_processes.specs.CodeMaps.{CodeMapText}
-use Rattle.cfi_processes.specs.CodeMapViews.{map_view}
+use Rattle.cfi_processes.specs.CodeMapViews.{code_map_view}
 use Rattle.cfi_processes.specs.FileFunctions.{Functions, functions_view}
 use Rattle.cfi_processes.specs.KernelNames.{KernelText, kernel_view}
 use Rattle.cfi_processes.specs.Objects.{Object, Tables, object_view}
@@ -41,5 +41,5 @@ known_view file = record {
   code = option_map code_view file.code;
   kernel = option_map kernel_view file.kernel;
   process = file.process;
-  code_map = option_map map_view file.code_map;
+  code_map = option_map code_map_view file.code_map;
 }

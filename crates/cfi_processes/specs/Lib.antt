@@ -13,13 +13,12 @@ pub mod KernelSymbols
 pub mod KnownFiles
 pub mod Mappings
 pub mod Modules
-pub mod Names
 pub mod Objects
 pub mod OpenedFiles
 pub mod ProcessModules
 pub mod Processes
 pub mod ProfileFiles
-pub mod NeededCode
+pub mod Notices
 pub mod Registers
 pub mod Replays
 pub mod SampleStacks

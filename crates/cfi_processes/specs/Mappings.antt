@@ -1,6 +1,6 @@
 -- What is mapped where in a process.
---     Place      a file of the profile by its number, none for memory that is no file's, and a
---         place in it
+--     MappedPlace      a file of the profile by its number, none for memory that is no file's, and
+--         a place in it
 --     has_byte_at mapped a      whether the byte at an address belongs to it
 --     mapped_place mapped a      the place of that byte, counted modulo 2 ^ 64
 --     place_at_address list a      the same of the first mapping that has the byte
@@ -17,18 +17,18 @@ use Rattle.std.specs.Prelude.{◌++◌, Option, Some, None, nat_le, nat_lt, if�
 use Rattle.std.specs.List.{filter_map}
 use Rattle.cfi_processes.specs.declared.mappings.MappedCode.{MappedCode}
 
-pub record Place : Type 0 where
+pub record MappedPlace : Type 0 where
   pub object : Option ℕ
   pub offset : ℕ
 
 abbrev pub has_byte_at : MappedCode → ℕ → Bool
 has_byte_at mapped a = nat_le mapped.start a && nat_lt a mapped.end
 
-abbrev pub mapped_place : MappedCode → ℕ → Place
+abbrev pub mapped_place : MappedCode → ℕ → MappedPlace
 mapped_place mapped a =
     record { object = mapped.object; offset = (mapped.offset + (a - mapped.start)) % 2 ^ 64 }
 
-abbrev pub place_at_address : List MappedCode → ℕ → Option Place
+abbrev pub place_at_address : List MappedCode → ℕ → Option MappedPlace
 place_at_address [] a = None
 place_at_address (mapped ∷ list) a =
     if has_byte_at mapped a then Some (mapped_place mapped a) else place_at_address list a

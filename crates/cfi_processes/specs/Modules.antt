@@ -1,6 +1,7 @@
 -- The module that call frames of a file are where the file is mapped (LSB Core, "Exception Frames";
 -- System V ABI chapter 5, "Program Loading").
---     Module, loaded_module_view      a module by its code and its sections, and that of the code
+--     FileModule, loaded_module_view      a module by its code and its sections, and that of the
+--         code
 --     module_header frame bases header      the header of .eh_frame, at the addresses of the file
 --     DebugModule, debug_view      .debug_frame as frames are found by it, and that of the code
 --     loaded_module number section header table debug mapped bias      the module of .eh_frame and
@@ -34,7 +35,7 @@ debug_view debug = record {
 }
 
 -- A module as its frames are found: its code is from one address of the process up to another.
-pub record Module : Type 0 where
+pub record FileModule : Type 0 where
   pub start : ℕ
   pub end : ℕ
   pub bias : ℕ  -- how far the file is moved
@@ -53,7 +54,7 @@ module_header frame bases header =
     option_map (λ header. unparsed_view (slice_position is_big) header size bases) header
 
 -- what a module of the code is
-abbrev pub loaded_module_view : LoadedModule (EndianSlice RunTimeEndian) → Module
+abbrev pub loaded_module_view : LoadedModule (EndianSlice RunTimeEndian) → FileModule
 loaded_module_view loaded = record {
   start = loaded.start;
   end = loaded.end;
@@ -68,7 +69,7 @@ loaded_module_view loaded = record {
 -- the sections as they lie in the file, and the code as it lies in the process
 abbrev pub loaded_module :
     ℕ → Section → Option HeaderSection → Option TableContents → Option DebugModule → MappedCode →
-    ℕ → Module
+    ℕ → FileModule
 loaded_module number section header table debug mapped bias = record {
   start = mapped.start;
   end = mapped.end;

@@ -30,12 +30,12 @@ use Rattle.cfi_elf.specs.Images.{Image}
 use Rattle.cfi_compiled.specs.CompiledTables.{TableContents, IsCompiled}
 use Rattle.cfi_elf.specs.Segments.{address_of_offset}
 use Rattle.cfi_elf.specs.Modular.{minus}
-use Rattle.cfi_object.specs.CallFrames.{debug_frame_of, eh_frame_of, section_in}
+use Rattle.cfi_object.specs.CallFrames.{debug_frame_of, eh_frame_of, given_section}
 use Rattle.cfi_step.specs.declared.module.LoadedModule.{LoadedModule}
 use Rattle.cfi_processes.specs.declared.mappings.MappedCode.{MappedCode}
 use Rattle.cfi_processes.specs.declared.objects.DebugSection.{DebugSection}
 use Rattle.cfi_processes.specs.declared.objects.Object.{Object as ObjectOfCode}
-use Rattle.cfi_processes.specs.Modules.{DebugModule, Module, module_header, loaded_module}
+use Rattle.cfi_processes.specs.Modules.{DebugModule, FileModule, module_header, loaded_module}
 
 pub record Object : Type 0 where
   pub addresses : ℕ → Option ℕ  -- of the byte of code at an offset
@@ -90,7 +90,8 @@ object_with file frames debug = record {
 abbrev pub with_either : File → Option GivenSection → Option GivenSection → Option Object
 with_either file (Some frames) debug = Some (object_with file frames debug)
 with_either file None debug =
-    option_map (λ frames. object_with file (section_in file given.EhFrame []) (Some frames)) debug
+    let frameless = given_section file given.EhFrame [] in
+    option_map (λ frames. object_with file frameless (Some frames)) debug
 
 abbrev pub with_call_frames : Option Image → File → Option Object
 with_call_frames debug file = with_either file (there (eh_frame_of file)) (debug_for file debug)
@@ -130,7 +131,7 @@ abbrev pub debug_by : Option Section → Option TableContents → Option DebugMo
 debug_by None table = None
 debug_by (Some section) table = option_map (debug_module section) table
 
-abbrev pub object_module : ℕ → Object → Tables → MappedCode → Option Module
+abbrev pub object_module : ℕ → Object → Tables → MappedCode → Option FileModule
 object_module number object tables mapped =
     option_map
     (loaded_module number object.section object.header tables.table

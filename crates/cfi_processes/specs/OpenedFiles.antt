@@ -7,7 +7,7 @@ use Rattle.std.specs.Prelude.{◌≡◌, ℕ, Bool, List, [], ◌∷◌, Option,
 use Rattle.std.specs.List.{list_all}
 use Rattle.cfi_processes.specs.declared.opened_file.OpenedFile.{OpenedFile}
 use Rattle.cfi_processes.specs.CodeMaps.{map_name}
-use Rattle.cfi_processes.specs.CodeParts.{IsOf, is_whole}
+use Rattle.cfi_processes.specs.CodeParts.{ArePartsOfBytes, is_whole}
 use Rattle.cfi_processes.specs.Wanted.{Wanted}
 
 pub record Opened : Type 0 where
@@ -22,8 +22,8 @@ pub record Opened : Type 0 where
 pub record IsOpenedAs (opened : OpenedFile) (file : Opened) : Type 0 where
   pub name_is : file.name ≡ opened.name.now
   pub build_id_is : file.build_id ≡ option_map (λ id. id.now) opened.build_id
-  pub bytes_are : IsOf opened.code file.bytes
-  pub debug_is : IsOf opened.debug file.debug
+  pub bytes_are : ArePartsOfBytes opened.code file.bytes
+  pub debug_is : ArePartsOfBytes opened.debug file.debug
   pub process_is : file.process ≡ opened.process
   pub map_name_is : file.map_name ≡ option_map string_bytes opened.map_name
 

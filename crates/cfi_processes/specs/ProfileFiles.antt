@@ -44,15 +44,15 @@ functions_if named image debug =
 abbrev pub kernel_text : List ℕ → List ℕ → KernelText
 kernel_text name text = record { text = text; symbol = drop (length kernel_image) name }
 
-abbrev pub kernel_of : List ℕ → Option (List ℕ) → Option KernelText
-kernel_of name text = if is_kernel_name name then option_map (kernel_text name) text else None
+abbrev pub kernel_text_of : List ℕ → Option (List ℕ) → Option KernelText
+kernel_text_of name text = if is_kernel_name name then option_map (kernel_text name) text else None
 
 -- of memory the functions that its process tells
-abbrev pub map_by : Option (List ℕ) → List ℕ → Option CodeMapText
-map_by text name = option_map (λ text. record { name = name; text = text }) text
+abbrev pub code_map_by : Option (List ℕ) → List ℕ → Option CodeMapText
+code_map_by text name = option_map (λ text. record { name = name; text = text }) text
 
-abbrev pub map_of : Option (List ℕ) → Option (List ℕ) → Option CodeMapText
-map_of text name = option_and_then (map_by text) name
+abbrev pub code_map_of : Option (List ℕ) → Option (List ℕ) → Option CodeMapText
+code_map_of text name = option_and_then (code_map_by text) name
 
 -- call frames and the functions of symbols are those of a file of code, and never of a text
 abbrev pub IsFileOf : Bool → Opened → KnownFile → Type 0
@@ -61,8 +61,8 @@ IsFileOf named opened file =
     let debug = option_map whole opened.debug in
     (file.name ≡ opened.name) × (file.build_id ≡ opened.build_id)
     × (file.functions ≡ functions_if named all debug)
-    × (file.kernel ≡ kernel_of opened.name opened.bytes) × (file.process ≡ opened.process)
-    × (file.code_map ≡ map_of opened.bytes opened.map_name)
+    × (file.kernel ≡ kernel_text_of opened.name opened.bytes) × (file.process ≡ opened.process)
+    × (file.code_map ≡ code_map_of opened.bytes opened.map_name)
     × IsCodeOf (object_if all debug) file.code
 
 abbrev pub AreProfileFilesOf : Bool → List Opened → List KnownFile → Type 0

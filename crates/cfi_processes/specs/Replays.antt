@@ -1,5 +1,5 @@
 -- What the records of a profile say of processes, one after the other.
---     after files event before      what is mapped in each process after a record
+--     mapped_after files event before      what is mapped in each process after a record
 --     replayed replay      what is mapped in each process, for a replay of the code
 --     named_thread replay      the name of each thread, for a replay of the code
 --     replay_files replay, replay_modules replay      its files, and its modules
@@ -25,14 +25,14 @@ use Rattle.cfi_processes.specs.ThreadNames.{name_of_thread}
 use Rattle.cfi_processes.specs.Wanted.{same_id, same_process}
 use Rattle.cfi_processes.specs.WantedFiles.{process_of}
 
-abbrev pub is_of : Mapping → KnownFile → Bool
-is_of m file =
+abbrev pub is_mapping_of : Mapping → KnownFile → Bool
+is_mapping_of m file =
     bytes_eq file.name m.name && same_id file.build_id m.build_id
     && same_process file.process (process_of m)
 
 -- which of the files is mapped; none where it isn't mapped as code
 abbrev pub object_of : List KnownFile → Mapping → Option ℕ
-object_of files m = if m.is_executable then position (is_of m) files else None
+object_of files m = if m.is_executable then position (is_mapping_of m) files else None
 
 -- up to the last address at most
 abbrev pub code_of_mapping : List KnownFile → Mapping → MappedCode
@@ -57,8 +57,8 @@ abbrev pub changed : Option Change → (ℕ → List MappedCode) → ℕ → Lis
 changed None before pid = before pid
 changed (Some change) before pid = mappings_after change before pid
 
-abbrev pub after : List KnownFile → Event → (ℕ → List MappedCode) → ℕ → List MappedCode
-after files event before pid = changed (change_of files event) before pid
+abbrev pub mapped_after : List KnownFile → Event → (ℕ → List MappedCode) → ℕ → List MappedCode
+mapped_after files event before pid = changed (change_of files event) before pid
 
 -- ---- a replay of the code
 

@@ -2,7 +2,7 @@
 -- (perf_event_open(2), PERF_SAMPLE_REGS_USER and PERF_SAMPLE_STACK_USER; DWARF 5 section 6.4.4).
 --     innermost_of machine registers      the pc and the stack pointer
 --     known_registers machine registers      the registers under DWARF's numbers
---     start_of machine user      the innermost frame of a sample, or why it has none
+--     beginning_of machine user      the innermost frame of a sample, or why it has none
 --     IsWalkOver .. modules machine memory pc registers old walk new      a walk over any memory,
 --         from a pc and the registers of its frame
 --     IsSampleUnwound .. modules machine user old result new      what is returned and written
@@ -72,8 +72,8 @@ beginning_of machine user = and_then (of_64_bits user.registers) (beginning_by m
 
 -- the numbers that can be read: the bytes of the stack from the stack pointer on, the least
 -- significant byte first
-abbrev pub stack_memory : List ℕ → ℕ → ℕ → ℕ → Option ℕ
-stack_memory stack stack_pointer = number_in (slice_over stack false) stack_pointer
+abbrev pub sample_memory : List ℕ → ℕ → ℕ → ℕ → Option ℕ
+sample_memory stack stack_pointer = number_in (slice_over stack false) stack_pointer
 
 -- how many frames a stack may have
 abbrev pub most_frames : ℕ
@@ -83,7 +83,7 @@ abbrev pub HasRoom : List StackFrame → Type 0
 HasRoom frames = length frames ≡ most_frames
 
 -- What a walk reads and writes.
-pub record Room : Type 0 where
+pub record WalkRoom : Type 0 where
   pub registers : List (Option ℕ)
   pub caller : List (Option ℕ)
   pub frames : List StackFrame
@@ -100,7 +100,7 @@ module _ {R T : Type 0} (position : R → Position) (number : T → ℕ)
 
   -- from a pc and the registers of its frame, over a memory
   abbrev pub IsWalkOver :
-      (ℕ → ℕ → Option ℕ) → ℕ → List (Option ℕ) → Room → Walk → Room → Type 0
+      (ℕ → ℕ → Option ℕ) → ℕ → List (Option ℕ) → WalkRoom → Walk → WalkRoom → Type 0
   IsWalkOver memory pc registers old walk new =
       IsWalkFrom memory
       (record {
@@ -111,16 +111,16 @@ module _ {R T : Type 0} (position : R → Position) (number : T → ℕ)
       (take walk.count new.frames) walk.end new.registers new.caller
       × AreWritten walk old.frames new.frames
 
-  module _ (stack : List ℕ) (old : Room) (result : Result Walk NoFrames) (new : Room) where
+  module _ (stack : List ℕ) (old : WalkRoom) (result : Result Walk NoFrames) (new : WalkRoom) where
     abbrev pub IsWalked : Beginning → Walk → Type 0
     IsWalked start walk =
-        IsWalkOver (stack_memory stack start.innermost.stack_pointer) start.innermost.pc
+        IsWalkOver (sample_memory stack start.innermost.stack_pointer) start.innermost.pc
         start.registers old walk new
 
     abbrev pub IsUnwoundFrom : Result Beginning NoFrames → Type 0
     IsUnwoundFrom (Ok start) = (walk : Walk) × (result ≡ Ok walk) × IsWalked start walk
     IsUnwoundFrom (Err reason) = (result ≡ Err reason) × (new ≡ old)
 
-  abbrev pub IsSampleUnwound : UserState → Room → Result Walk NoFrames → Room → Type 0
+  abbrev pub IsSampleUnwound : UserState → WalkRoom → Result Walk NoFrames → WalkRoom → Type 0
   IsSampleUnwound user old result new =
       IsUnwoundFrom user.stack old result new (beginning_of machine user)

@@ -4,13 +4,13 @@
 --     split_at_byte byte text      what is before the first byte of a value, and what is after it
 --     told_number digits      a number in hexadecimal digits
 --     nearest_among symbols a      the last symbol of those that begin at an address, or else
---         nearest_by before it
+--         nearest before it
 use Rattle.std.specs.Option.{option_or}
 use Rattle.std.specs.Prelude.{ℕ, zero, suc, ◌+◌, ◌-◌, ◌*◌, ◌^◌, ◌==◌, ◌&&◌, Bool, List, [], ◌∷◌}
 use Rattle.std.specs.Prelude.{Option, Some, None, drop, nat_le, nat_lt, option_and_then, option_map}
 use Rattle.std.specs.Prelude.{position, take, if◌then◌else◌}
 use Rattle.std.specs.List.{slice_split}
-use Rattle.cfi_processes.specs.declared.text_symbols.Parts.{Parts as PartsOfCode}
+use Rattle.cfi_processes.specs.declared.text_symbols.TextParts.{TextParts as PartsOfCode}
 use Rattle.cfi_processes.specs.declared.text_symbols.TextSymbol.{TextSymbol}
 
 pub record Symbol : Type 0 where
@@ -35,15 +35,15 @@ abbrev pub text_lines : List ℕ → List (List ℕ)
 text_lines text = slice_split (λ c. c == 10) text
 
 -- Two parts of a text, with one byte between them.
-pub record Parts : Type 0 where
+pub record TextParts : Type 0 where
   pub front : List ℕ
   pub rest : List ℕ
 
-abbrev pub text_parts_view : PartsOfCode → Parts
+abbrev pub text_parts_view : PartsOfCode → TextParts
 text_parts_view parts = record { front = parts.front.now; rest = parts.rest.now }
 
 -- before the first byte of this value, and after it
-abbrev pub split_at_byte : ℕ → List ℕ → Option Parts
+abbrev pub split_at_byte : ℕ → List ℕ → Option TextParts
 split_at_byte byte text =
     option_map (λ k. record { front = take k text; rest = drop (k + 1) text })
     (position (λ c. c == byte) text)

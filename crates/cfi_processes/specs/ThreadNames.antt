@@ -2,7 +2,7 @@
 -- PERF_RECORD_COMM and PERF_RECORD_FORK).
 --     name_of_thread threads tid      the name of a thread, if one is known
 --     names_after event before tid      the same after a record: a thread has the name that it was
---         thread_given last, and a new thread that of the one that made it
+--         given last, and a new thread that of the one that made it
 use Rattle.std.specs.Prelude.{ℕ, List, Option, Some, option_map, ◌==◌, if◌then◌else◌}
 use Rattle.std.specs.Ordering.{nat_cmp}
 use Rattle.std.specs.BTreeMap.{get}

@@ -8,7 +8,9 @@ ghost use Rattle.cfi_processes.specs.SortedSymbols.{nearest_in};
 ghost use Rattle.cfi_processes.specs.TextSymbols.{nearest_among, text_parts_view, symbol_view};
 
 use crate::names::Name;
-use crate::text_symbols::{Parts, SortedSymbols, TextSymbol, lines_of, number_of, parts_at};
+use crate::text_symbols::{
+    SortedSymbols, TextParts, TextSymbol, split_at_byte, text_lines, told_number,
+};
 use cfi_elf::FunctionPlace;
 use std::alloc::{AllocError, Global};
 
@@ -50,7 +52,7 @@ impl<'run> CodeMap<'run> {
     ghost use Rattle.std.specs.Prelude.{◌≡◌, IfOk, option_map};
     ghost use Rattle.cfi_elf.specs.FunctionPlaces.{place_view};
     ghost use Rattle.cfi_processes.specs.CodeMaps.{code_function_at};
-    ghost use Rattle.cfi_processes.specs.CodeMapViews.{map_view};
+    ghost use Rattle.cfi_processes.specs.CodeMapViews.{code_map_view};
 
     /// The functions of this text, which has this path. Fails where memory is refused. Allocates:
     /// the functions are sorted once.
@@ -59,7 +61,7 @@ impl<'run> CodeMap<'run> {
         name: &'run [u8],
         text: &'run [u8],
     ) -> Result<CodeMap<'run>, AllocError>
-        ensures { IfOk result (λ map. map_view map
+        ensures { IfOk result (λ map. code_map_view map
             ≡ record { name = name.entry.now; text = text.entry.now }) }
     {
         let symbols = symbols_of(alloc, text)?;
@@ -75,7 +77,7 @@ impl<'run> CodeMap<'run> {
     /// not allocate.
     pub fn function_at(&self, address: u64) -> Option<FunctionPlace<'run>>
         ensures { option_map place_view result
-            ≡ code_function_at (map_view self.now).text address }
+            ≡ code_function_at (code_map_view self.now).text address }
     {
         match self.symbols.nearest(address) {
             Some(symbol) => place_by(address, &symbol),
@@ -104,7 +106,7 @@ fn place_by<'run>(address: u64, symbol: &TextSymbol<'run>) -> Option<FunctionPla
 fn symbols_of<'run>(alloc: Global, text: &'run [u8]) -> Result<Vec<TextSymbol<'run>>, AllocError>
     ensures { IfOk result (λ symbols. map symbol_view symbols.items ≡ map_symbols_of text.now) }
 {
-    let lines = lines_of(alloc, text)?;
+    let lines = text_lines(alloc, text)?;
     symbols_on(alloc, lines.as_slice())
 }
 
@@ -129,22 +131,22 @@ fn symbols_on<'run>(
 fn symbol_of(line: &[u8]) -> Option<TextSymbol<'_>>
     ensures { option_map symbol_view result ≡ map_symbol_of line.now }
 {
-    symbol_from(parts_at(line, b' ')?)
+    symbol_from(split_at_byte(line, b' ')?)
 }
 
 /// The function of a line of which the first part is its address.
-fn symbol_from(line: Parts<'_>) -> Option<TextSymbol<'_>>
+fn symbol_from(line: TextParts<'_>) -> Option<TextSymbol<'_>>
     ensures { option_map symbol_view result ≡ map_symbol_from (text_parts_view line.entry) }
 {
-    let address = number_of(line.front)?;
-    symbol_sized(address, parts_at(line.rest, b' ')?)
+    let address = told_number(line.front)?;
+    symbol_sized(address, split_at_byte(line.rest, b' ')?)
 }
 
 /// The function at an address, with its size as the first of these parts.
-fn symbol_sized(address: u64, parts: Parts<'_>) -> Option<TextSymbol<'_>>
+fn symbol_sized(address: u64, parts: TextParts<'_>) -> Option<TextSymbol<'_>>
     ensures { option_map symbol_view result ≡ symbol_sized address (text_parts_view parts.entry) }
 {
-    let size = number_of(parts.front)?;
+    let size = told_number(parts.front)?;
     Some(TextSymbol {
         address,
         size,

@@ -5,9 +5,9 @@ ghost use Rattle.cfi_elf.specs.FunctionPlaces.{place_view};
 ghost use Rattle.cfi_processes.specs.KernelNames.{kernel_view};
 ghost use Rattle.cfi_processes.specs.TextSymbols.{symbol_view};
 ghost use Rattle.cfi_processes.specs.Sites.{file_of};
-ghost use Rattle.cfi_processes.specs.KernelSites.{kernel_function, is_in, is_owner};
+ghost use Rattle.cfi_processes.specs.KernelSites.{kernel_function, is_function_in, is_owner};
 ghost use Rattle.cfi_processes.specs.KernelSites.{kernel_name, kernel_names, kernel_site};
-ghost use Rattle.cfi_processes.specs.KernelSites.{kernel_symbol, names_if, kernel_names_of};
+ghost use Rattle.cfi_processes.specs.KernelSites.{kernel_symbol, kernel_names_if, kernel_names_of};
 ghost use Rattle.cfi_processes.specs.KnownFiles.{known_view};
 ghost use Rattle.cfi_processes.specs.Mappings.{AreMappedInOrder};
 ghost use Rattle.cfi_processes.specs.Sites.{site_view};
@@ -103,7 +103,7 @@ fn names_if<'files, 'run>(
     names: &'files KernelNames<'run>,
 ) -> Option<&'files KernelNames<'run>>
     ensures { option_map (λ names. kernel_view names.now) result
-        ≡ names_if mapped.now (kernel_view names.entry.now) }
+        ≡ kernel_names_if mapped.now (kernel_view names.entry.now) }
 {
     if names.is_of(mapped) {
         Some(names)
@@ -140,7 +140,7 @@ fn function_by<'run>(
 
 /// Whether the symbol is a function of the file.
 fn is_in(file: Option<Name<'_>>, symbol: &TextSymbol<'_>) -> bool
-    ensures { result ≡ is_in (option_map (λ name. name.bytes.now) file.entry)
+    ensures { result ≡ is_function_in (option_map (λ name. name.bytes.now) file.entry)
         (symbol_view symbol.now) }
 {
     match file {

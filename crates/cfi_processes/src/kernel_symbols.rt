@@ -9,7 +9,7 @@ ghost use Rattle.cfi_processes.specs.KernelSymbols.{symbol_named, kernel_symbol_
 ghost use Rattle.cfi_processes.specs.KernelSymbols.{symbol_typed, kernel_symbols_of};
 ghost use Rattle.cfi_processes.specs.TextSymbols.{split_at_byte, text_parts_view, symbol_view};
 
-use crate::text_symbols::{Parts, TextSymbol, lines_of, number_of, parts_at};
+use crate::text_symbols::{TextParts, TextSymbol, split_at_byte, text_lines, told_number};
 use std::alloc::{AllocError, Global};
 
 /// What profiles name the kernel's own code.
@@ -31,7 +31,7 @@ pub fn symbols_of<'run>(
 ) -> Result<Vec<TextSymbol<'run>>, AllocError>
     ensures { IfOk result (λ symbols. map symbol_view symbols.items ≡ kernel_symbols_of text.now) }
 {
-    let lines = lines_of(alloc, text)?;
+    let lines = text_lines(alloc, text)?;
     symbols_on(alloc, lines.as_slice())
 }
 
@@ -57,22 +57,22 @@ fn symbols_on<'run>(
 fn symbol_of(line: &[u8]) -> Option<TextSymbol<'_>>
     ensures { option_map symbol_view result ≡ kernel_symbol_of line.now }
 {
-    symbol_from(parts_at(line, b' ')?)
+    symbol_from(split_at_byte(line, b' ')?)
 }
 
 /// The symbol of a line of which the first part is its address.
-fn symbol_from(line: Parts<'_>) -> Option<TextSymbol<'_>>
+fn symbol_from(line: TextParts<'_>) -> Option<TextSymbol<'_>>
     ensures { option_map symbol_view result ≡ kernel_symbol_from (text_parts_view line.entry) }
 {
-    let address = number_of(line.front)?;
-    symbol_typed(address, parts_at(line.rest, b' ')?)
+    let address = told_number(line.front)?;
+    symbol_typed(address, split_at_byte(line.rest, b' ')?)
 }
 
 /// The symbol at an address, with its type as the first of these parts.
-fn symbol_typed(address: u64, parts: Parts<'_>) -> Option<TextSymbol<'_>>
+fn symbol_typed(address: u64, parts: TextParts<'_>) -> Option<TextSymbol<'_>>
     ensures { option_map symbol_view result ≡ symbol_typed address (text_parts_view parts.entry) }
 {
-    let is_function = kind_of(parts.front)?;
+    let is_function = is_function_of_type(parts.front)?;
     Some(symbol_named(address, is_function, parts.rest))
 }
 
@@ -81,7 +81,7 @@ fn symbol_named(address: u64, is_function: bool, name: &[u8]) -> TextSymbol<'_>
     ensures { symbol_view result
         ≡ symbol_named address is_function name.entry.now (split_at_byte 9 name.entry.now) }
 {
-    match parts_at(name, b'\t') {
+    match split_at_byte(name, b'\t') {
         Some(parts) => TextSymbol {
             address,
             size: 0,
@@ -100,19 +100,19 @@ fn symbol_named(address: u64, is_function: bool, name: &[u8]) -> TextSymbol<'_>
 }
 
 /// Whether a symbol of the type is a function; `None` where it is neither that nor data.
-fn kind_of(kind: &[u8]) -> Option<bool>
+fn is_function_of_type(kind: &[u8]) -> Option<bool>
     ensures { result ≡ is_function_of_type kind.now }
 {
     let (letter, others) = kind.split_first()?;
     if others.is_empty() {
-        kind_by(*letter)
+        is_function_of_letter(*letter)
     } else {
         None
     }
 }
 
 /// The same by the letter of the type.
-fn kind_by(letter: u8) -> Option<bool>
+fn is_function_of_letter(letter: u8) -> Option<bool>
     ensures { result ≡ is_function_of_letter letter }
 {
     if is_function_type(letter) {

@@ -1,7 +1,9 @@
 //! Names of files and functions.
 ghost use Rattle.std.specs.Prelude.{◌≡◌};
 ghost use Rattle.std.specs.List.{list_all};
-ghost use Rattle.cfi_processes.specs.Names.{is_printable};
+ghost use Rattle.cfi_names.specs.Names.{is_printable_ascii};
+
+use cfi_names::is_plain;
 
 /// A name, and whether each of its bytes is printable ASCII, which is looked at once.
 #[derive(Clone, Copy, Debug)]
@@ -10,7 +12,7 @@ pub struct Name<'run> {
     pub bytes: &'run [u8],
     /// Whether each of them is printable ASCII.
     pub is_plain: bool,
-    ghost checked: { is_plain ≡ list_all is_printable bytes.now },
+    ghost checked: { is_plain ≡ list_all is_printable_ascii bytes.now },
 }
 
 impl<'run> Name<'run> {
@@ -31,18 +33,4 @@ impl<'run> Name<'run> {
     {
         self.bytes
     }
-}
-
-/// Whether each byte of a name is printable ASCII.
-fn is_plain(name: &[u8]) -> bool
-    ensures { result ≡ list_all is_printable name.now }
-{
-    name.iter().all(|byte| is_printable(*byte))
-}
-
-/// Returns whether a byte is a printable character of ASCII.
-pub fn is_printable(byte: u8) -> bool
-    ensures { result ≡ is_printable byte }
-{
-    0x20 <= byte && byte < 0x7f
 }

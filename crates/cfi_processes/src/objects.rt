@@ -12,7 +12,7 @@ ghost use Rattle.cfi_processes.specs.Objects.{debug_section, there};
 use crate::mappings::MappedCode;
 use cfi_compiled::CompiledTable;
 use cfi_elf::{ElfFile, Image};
-use cfi_object::{debug_frame, eh_frame, section_in};
+use cfi_object::{debug_frame, eh_frame, given_section};
 use cfi_step::{DebugTable, LoadedModule};
 use gimli_cfi::{
     BaseAddresses, DebugFrame, EhFrame, EhFrameHdr, EndianSlice, Error, RunTimeEndian, SectionKind,
@@ -104,7 +104,7 @@ impl<'file> Object<'file> {
             Some(frames) => Some(Self::with_frames(file, frames, debug)),
             None => match debug {
                 Some(debug) => {
-                    let frames = section_in(&file, SectionKind::EhFrame, &[]);
+                    let frames = given_section(&file, SectionKind::EhFrame, &[]);
                     Some(Self::with_frames(file, frames, Some(debug)))
                 }
                 None => None,

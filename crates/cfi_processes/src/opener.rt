@@ -1,5 +1,6 @@
 //! How the files of a profile are opened.
 ghost use Rattle.std.specs.Prelude.{◌≡◌, Option};
+ghost use Rattle.cfi_processes.specs.Notices.{Notice, lost, missing, without_stacks};
 ghost use Rattle.cfi_processes.specs.Wanted.{FilePlace, at_path, code_map, copy_of, debug_of};
 ghost use Rattle.cfi_processes.specs.Wanted.{kernel_symbols, linked};
 
@@ -14,6 +15,9 @@ pub trait Opener {
 
     /// What may be opened at a place; none where nothing can be opened.
     ghost may_open: { Self → FilePlace → Option Self.File → Type 0 };
+
+    /// What it has said.
+    ghost has_said: { Self → Notice → Type 0 };
 
     /// Opens the file with this name; `None` where it can't be opened, which it says.
     fn open(&self, name: &[u8]) -> Option<Self::File>
@@ -49,15 +53,18 @@ pub trait Opener {
         ensures { may_open self.now (code_map process) result };
 
     /// Says that for the file with this name none of the build that ran was found.
-    fn tell_missing(&self, name: &[u8]);
+    fn tell_missing(&self, name: &[u8])
+        ensures { has_said self.now (missing name.now) };
 
     /// Says that the profile was recorded without copies of stacks, and how it is recorded with
     /// them.
-    fn tell_without_stacks(&self);
+    fn tell_without_stacks(&self)
+        ensures { has_said self.now without_stacks };
 
     /// Says how many of the profile's records were lost, and how many of its samples. One of these
     /// numbers may be 0.
-    fn tell_lost(&self, records: u64, samples: u64);
+    fn tell_lost(&self, records: u64, samples: u64)
+        ensures { has_said self.now (lost records samples) };
 
     /// Of each file the bytes that it has left as a reader are those that it has by parts.
     ghost same_bytes: { (file : Self.File) → Self.File.remaining file ≡ Self.File.bytes file };

@@ -2,7 +2,7 @@
 ghost use Rattle.std.specs.Prelude.{◌≡◌, List, IfOk, map, option_map, string_bytes};
 ghost use Rattle.cfi_perf.specs.Events.{mapping_record_view};
 ghost use Rattle.cfi_processes.specs.FileFunctions.{functions_view};
-ghost use Rattle.cfi_processes.specs.CodeMapViews.{map_view};
+ghost use Rattle.cfi_processes.specs.CodeMapViews.{code_map_view};
 ghost use Rattle.cfi_processes.specs.CodeParts.{beginning_in};
 ghost use Rattle.cfi_processes.specs.KernelNames.{kernel_view};
 ghost use Rattle.cfi_processes.specs.KnownFiles.{code_view, known_view};
@@ -10,9 +10,9 @@ ghost use Rattle.cfi_processes.specs.Objects.{object_in};
 ghost use Rattle.cfi_processes.specs.ProfileFiles.{AreProfileFilesOf, IsCodeOf, IsFileOf};
 ghost use Rattle.cfi_processes.specs.OpenedFiles.{AreOpenedAs};
 ghost use Rattle.cfi_processes.specs.OpenedFiles.{IsOpenedAs, Opened};
-ghost use Rattle.cfi_processes.specs.ProfileFiles.{functions_if, kernel_of};
-ghost use Rattle.cfi_processes.specs.ProfileFiles.{kernel_text, map_by, map_of, object_if};
-ghost use Rattle.cfi_processes.specs.Replays.{is_of};
+ghost use Rattle.cfi_processes.specs.ProfileFiles.{code_map_by, code_map_of, functions_if};
+ghost use Rattle.cfi_processes.specs.ProfileFiles.{kernel_text, kernel_text_of, object_if};
+ghost use Rattle.cfi_processes.specs.Replays.{is_mapping_of};
 ghost use Rattle.cfi_elf.specs.Images.{image_view};
 
 use crate::code_map::CodeMap;
@@ -53,7 +53,7 @@ impl ProfileFile<'_> {
     /// Returns whether this is the file that is mapped: it has its name, its build if that is
     /// known, and where it is memory its process. Does not allocate.
     pub fn is_of(&self, mapping: &Mapping<'_>) -> bool
-        ensures { result ≡ is_of (mapping_record_view mapping.now) (known_view self.now) }
+        ensures { result ≡ is_mapping_of (mapping_record_view mapping.now) (known_view self.now) }
     {
         self.name.bytes() == mapping.name
             && same_id(self.build_id, mapping.build_id)
@@ -109,7 +109,7 @@ fn map_of<'opened>(
     alloc: Global,
     opened: &'opened OpenedFile<'_>,
 ) -> Result<Option<CodeMap<'opened>>, AllocError>
-    ensures { IfOk result (λ found. option_map map_view found ≡ map_of
+    ensures { IfOk result (λ found. option_map code_map_view found ≡ code_map_of
         (beginning_in opened.now.code) (option_map string_bytes opened.now.map_name)) }
 {
     match &opened.map_name {
@@ -124,8 +124,8 @@ fn map_by<'opened>(
     text: Option<&'opened [u8]>,
     name: &'opened [u8],
 ) -> Result<Option<CodeMap<'opened>>, AllocError>
-    ensures { IfOk result (λ found. option_map map_view found
-        ≡ map_by (option_map (λ text. text.now) text.entry) name.entry.now) }
+    ensures { IfOk result (λ found. option_map code_map_view found
+        ≡ code_map_by (option_map (λ text. text.now) text.entry) name.entry.now) }
 {
     match text {
         Some(text) => Ok(Some(CodeMap::of(alloc, name, text)?)),
@@ -139,7 +139,7 @@ fn kernel_of<'opened>(
     opened: &'opened OpenedFile<'_>,
 ) -> Result<Option<KernelNames<'opened>>, AllocError>
     ensures { IfOk result (λ names. option_map kernel_view names
-        ≡ kernel_of opened.now.name.now (beginning_in opened.now.code)) }
+        ≡ kernel_text_of opened.now.name.now (beginning_in opened.now.code)) }
 {
     if !is_kernel_name(opened.name) {
         return Ok(None);

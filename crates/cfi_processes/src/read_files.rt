@@ -2,17 +2,18 @@
 ghost use Rattle.std.specs.Prelude.{◌≡◌, ℕ, List, Option, Some, IfOk, map, option_map, ◌||◌};
 ghost use Rattle.std.specs.Prelude.{string_bytes, true};
 ghost use Rattle.cfi_processes.specs.CodeMaps.{map_name};
-ghost use Rattle.cfi_processes.specs.CodeParts.{AreOf, IsOf, is_whole};
+ghost use Rattle.cfi_processes.specs.CodeParts.{ArePartsOf, ArePartsOfBytes, is_whole};
 ghost use Rattle.cfi_processes.specs.FileReads.{AreOpened, IsBuild, IsBuildOf};
 ghost use Rattle.cfi_processes.specs.OpenedFiles.{AreOpenedAs};
 ghost use Rattle.cfi_processes.specs.FileReads.{IsByLink, IsContents, IsDebug, IsDebugFor};
-ghost use Rattle.cfi_processes.specs.FileReads.{IsElsewhere, IsFileFound, IsLinkedIn};
+ghost use Rattle.cfi_processes.specs.FileReads.{IsFileFound, IsLinkedAmong, IsLinkedIn};
 ghost use Rattle.cfi_processes.specs.FileReads.{IsLinkedReading, IsReadIfOpened, IsAllLeft};
 ghost use Rattle.cfi_processes.specs.OpenedFiles.{IsOpenedAs};
-ghost use Rattle.cfi_processes.specs.FileReads.{IsTold, if_built};
+ghost use Rattle.cfi_processes.specs.FileReads.{IsTold, if_built, if_readable};
 ghost use Rattle.cfi_processes.specs.OpenedFiles.{Opened, are_whole};
 ghost use Rattle.cfi_processes.specs.FileReads.{names_a_file};
 ghost use Rattle.cfi_processes.specs.OpenedFiles.{opened_as};
+ghost use Rattle.cfi_processes.specs.Notices.{AreMissingSaid, is_missing, missing};
 ghost use Rattle.cfi_processes.specs.Wanted.{copy_of, is_text, wanted_view};
 ghost use Rattle.cfi_elf.specs.DebugLinks.{link_view};
 
@@ -28,10 +29,14 @@ use cfi_object::{FileInput, InputError, read_all, read_whole};
 use std::alloc::{AllocError, Global};
 use std::io::Read;
 
+/// Where the debug file of a link is looked for, in this order.
+const LINK_FOLDERS: [LinkFolder; 3] = [LinkFolder::Beside, LinkFolder::Below, LinkFolder::Central];
+
 /// Opens the files, and reads the parts of them that are needed, or all of them if asked for. Of a
 /// build that is known only a file of it is taken: the one at the path, or else the copy that the
-/// recorder kept. Also reads the debug file of each file that says of which build it is, or else
-/// that to which the file's link leads. Fails where memory is refused.
+/// recorder kept; where there is none of it, the opener says so. Also reads the debug file of each
+/// file that says of which build it is, or else that to which the file's link leads. Fails where
+/// memory is refused.
 pub fn read_files<'run, O: Opener>(
     alloc: Global,
     whole: bool,
@@ -42,6 +47,7 @@ pub fn read_files<'run, O: Opener>(
         × AreOpened (O.may_open opener.now) O.File.remaining (map wanted_view files.now) all
         × AreOpenedAs opened.items all) }
     ensures whole { IfOk result (λ opened. whole ≡ true → are_whole opened.items ≡ true) }
+    ensures said { IfOk result (λ opened. AreMissingSaid (O.has_said opener.now) opened.items) }
 {
     let mut opened = Vec::new(alloc);
     for file in files {
@@ -62,6 +68,8 @@ fn read_file<'run, O: Opener>(
         × IsDebugFor (O.may_open opener.now) O.File.remaining (wanted_view file.now) bytes debug
         × IsOpenedAs one (opened_as (wanted_view file.now) bytes debug)) }
     ensures whole { IfOk result (λ one. whole ≡ true → is_whole one.code ≡ true) }
+    ensures said { IfOk result (λ one. is_missing one.name.now one.build_id one.code ≡ true
+        → O.has_said opener.now (missing one.name.now)) }
 {
     let code = read_contents(alloc, reads_all(whole, file), opener, file)?;
     let debug = read_debug(alloc, opener, file, &code)?;
@@ -101,8 +109,9 @@ fn read_debug<O: Opener>(
     file: &WantedFile<'_>,
     code: &Option<CodeParts>,
 ) -> Result<Option<CodeParts>, AllocError>
-    ensures { (bytes : Option (List ℕ)) → IsOf code.now bytes → IfOk result (AreOf (IsDebugFor
-        (O.may_open opener.now) O.File.remaining (wanted_view file.now) bytes)) }
+    ensures { (bytes : Option (List ℕ)) → ArePartsOfBytes code.now bytes
+        → IfOk result (ArePartsOf (IsDebugFor (O.may_open opener.now) O.File.remaining
+        (wanted_view file.now) bytes)) }
 {
     if is_text(file.name, file.process) {
         return Ok(None);
@@ -125,33 +134,34 @@ fn read_by_link<O: Opener>(
     build: Option<&[u8]>,
     link: Option<DebugLink<'_>>,
 ) -> Result<Option<CodeParts>, AllocError>
-    ensures { IfOk result (AreOf (IsByLink (O.may_open opener.now) O.File.remaining name.now
+    ensures { IfOk result (ArePartsOf (IsByLink (O.may_open opener.now) O.File.remaining name.now
         (option_map (λ build. build.now) build.entry) (option_map link_view link.entry))) }
 {
     let Some(link) = link else {
         return Ok(None);
     };
-    match read_linked(alloc, opener, name, build, &link, LinkFolder::Beside)? {
-        Some(debug) => Ok(Some(debug)),
-        None => read_elsewhere(alloc, opener, name, build, &link),
-    }
+    read_linked_among(alloc, opener, name, build, &link, &LINK_FOLDERS)
 }
 
-/// The same, where it isn't beside the file.
-fn read_elsewhere<O: Opener>(
+/// Reads the debug file in the first of the folders in which the link leads to one.
+fn read_linked_among<O: Opener>(
     alloc: Global,
     opener: &O,
     name: &[u8],
     build: Option<&[u8]>,
     link: &DebugLink<'_>,
+    folders: &[LinkFolder],
 ) -> Result<Option<CodeParts>, AllocError>
-    ensures { IfOk result (AreOf (IsElsewhere (O.may_open opener.now) O.File.remaining name.now
-        (link_view link.now) (option_map (λ build. build.now) build.entry))) }
+    ensures { IfOk result (ArePartsOf (IsLinkedAmong (O.may_open opener.now) O.File.remaining
+        name.now (link_view link.now) (option_map (λ build. build.now) build.entry)
+        folders.now)) }
 {
-    match read_linked(alloc, opener, name, build, link, LinkFolder::Below)? {
-        Some(debug) => Ok(Some(debug)),
-        None => read_linked(alloc, opener, name, build, link, LinkFolder::Central),
+    for folder in folders {
+        if let Some(debug) = read_linked(alloc, opener, name, build, link, *folder)? {
+            return Ok(Some(debug));
+        }
     }
+    Ok(None)
 }
 
 /// Reads the debug file in one folder, if the link leads to it.
@@ -163,7 +173,7 @@ fn read_linked<O: Opener>(
     link: &DebugLink<'_>,
     folder: LinkFolder,
 ) -> Result<Option<CodeParts>, AllocError>
-    ensures { IfOk result (AreOf (IsLinkedIn (O.may_open opener.now) O.File.remaining name.now
+    ensures { IfOk result (ArePartsOf (IsLinkedIn (O.may_open opener.now) O.File.remaining name.now
         (link_view link.now) (option_map (λ build. build.now) build.entry) folder)) }
 {
     match opener.open_linked(folder, name, link.name) {
@@ -180,19 +190,16 @@ fn read_if_linked<I: FileInput>(
     build: Option<&[u8]>,
     file: &mut I,
 ) -> Result<Option<CodeParts>, AllocError>
-    ensures { IfOk result (AreOf (IsLinkedReading (I.bytes file.old) (link_view link.now)
+    ensures { IfOk result (ArePartsOf (IsLinkedReading (I.bytes file.old) (link_view link.now)
         (option_map (λ build. build.now) build.entry))) }
 {
-    match read_whole(alloc, file) {
-        Ok(bytes) => {
-            if is_linked(link, build, bytes.as_slice()) {
-                Ok(Some(CodeParts::whole(alloc, bytes)))
-            } else {
-                Ok(None)
-            }
-        }
-        Err(InputError::OutOfMemory) => Err(AllocError),
-        Err(_) => Ok(None),
+    let Some(bytes) = if_readable(read_whole(alloc, file))? else {
+        return Ok(None);
+    };
+    if is_linked(link, build, bytes.as_slice()) {
+        Ok(Some(CodeParts::whole(alloc, bytes)))
+    } else {
+        Ok(None)
     }
 }
 
@@ -202,7 +209,7 @@ fn read_debug_of<O: Opener>(
     opener: &O,
     build: Option<&[u8]>,
 ) -> Result<Option<CodeParts>, AllocError>
-    ensures { IfOk result (AreOf (IsDebug (O.may_open opener.now) O.File.remaining
+    ensures { IfOk result (ArePartsOf (IsDebug (O.may_open opener.now) O.File.remaining
         (option_map (λ build. build.now) build.entry))) }
 {
     match build {
@@ -218,9 +225,11 @@ fn read_contents<O: Opener>(
     opener: &O,
     file: &WantedFile<'_>,
 ) -> Result<Option<CodeParts>, AllocError>
-    ensures contents { IfOk result (AreOf (IsContents (O.may_open opener.now) O.File.remaining
+    ensures contents { IfOk result (ArePartsOf (IsContents (O.may_open opener.now) O.File.remaining
         (wanted_view file.now))) }
     ensures whole { IfOk result (λ code. whole ≡ true → is_whole code ≡ true) }
+    ensures said { IfOk result (λ code. is_missing file.now.name.now file.now.build_id code ≡ true
+        → O.has_said opener.now (missing file.now.name.now)) }
 {
     if !is_file_name(file.name) {
         return read_told(alloc, opener, is_kernel_name(file.name), file.process);
@@ -238,7 +247,7 @@ fn read_told<O: Opener>(
     is_kernel: bool,
     process: Option<u32>,
 ) -> Result<Option<CodeParts>, AllocError>
-    ensures contents { IfOk result (AreOf (IsTold (O.may_open opener.now) O.File.remaining
+    ensures contents { IfOk result (ArePartsOf (IsTold (O.may_open opener.now) O.File.remaining
         is_kernel process)) }
     ensures whole { IfOk result (λ code. is_whole code ≡ true) }
 {
@@ -259,9 +268,11 @@ fn read_found<O: Opener>(
     name: &[u8],
     build: &[u8],
 ) -> Result<Option<CodeParts>, AllocError>
-    ensures contents { IfOk result (AreOf (IsFileFound (O.may_open opener.now) O.File.remaining
+    ensures contents { IfOk result (ArePartsOf (IsFileFound (O.may_open opener.now) O.File.remaining
         name.now (Some build.now))) }
     ensures whole { IfOk result (λ code. whole ≡ true → is_whole code ≡ true) }
+    ensures said { IfOk result (λ code.
+        code ≡ None → O.has_said opener.now (missing name.now)) }
 {
     let found = read_build::<O>(alloc, whole, build, opener.find(name))?;
     match found {
@@ -278,15 +289,19 @@ fn read_copy<O: Opener>(
     name: &[u8],
     build: &[u8],
 ) -> Result<Option<CodeParts>, AllocError>
-    ensures contents { IfOk result (AreOf (IsBuild (O.may_open opener.now) O.File.remaining
+    ensures contents { IfOk result (ArePartsOf (IsBuild (O.may_open opener.now) O.File.remaining
         build.now (copy_of build.now))) }
     ensures whole { IfOk result (λ code. whole ≡ true → is_whole code ≡ true) }
+    ensures said { IfOk result (λ code.
+        code ≡ None → O.has_said opener.now (missing name.now)) }
 {
-    let code = read_build::<O>(alloc, whole, build, opener.open_copy(build))?;
-    if code.is_none() {
-        opener.tell_missing(name);
+    match read_build::<O>(alloc, whole, build, opener.open_copy(build))? {
+        Some(code) => Ok(Some(code)),
+        None => {
+            opener.tell_missing(name);
+            Ok(None)
+        }
     }
-    Ok(code)
 }
 
 /// Reads a file that was opened, if it is of the build.
@@ -296,7 +311,7 @@ fn read_build<O: Opener>(
     build: &[u8],
     opened: Option<O::File>,
 ) -> Result<Option<CodeParts>, AllocError>
-    ensures contents { IfOk result (AreOf (IsBuildOf O.File.remaining build.now opened)) }
+    ensures contents { IfOk result (ArePartsOf (IsBuildOf O.File.remaining build.now opened)) }
     ensures whole { IfOk result (λ code. whole ≡ true → is_whole code ≡ true) }
 {
     let code = read_opened::<O>(alloc, whole, opened)?;
@@ -305,8 +320,8 @@ fn read_build<O: Opener>(
 
 /// The file, if it is of the build.
 fn if_built(build: &[u8], code: Option<CodeParts>) -> Option<CodeParts>
-    ensures built { (bytes : Option (List ℕ)) → IsOf code bytes
-        → IsOf result (if_built build.now bytes) }
+    ensures built { (bytes : Option (List ℕ)) → ArePartsOfBytes code bytes
+        → ArePartsOfBytes result (if_built build.now bytes) }
     ensures whole { is_whole code ≡ true → is_whole result ≡ true }
 {
     match code {
@@ -327,7 +342,7 @@ fn read_opened<O: Opener>(
     whole: bool,
     opened: Option<O::File>,
 ) -> Result<Option<CodeParts>, AllocError>
-    ensures contents { IfOk result (AreOf (IsReadIfOpened O.File.remaining opened)) }
+    ensures contents { IfOk result (ArePartsOf (IsReadIfOpened O.File.remaining opened)) }
     ensures whole { IfOk result (λ code. whole ≡ true → is_whole code ≡ true) }
 {
     match opened {
@@ -342,7 +357,7 @@ fn read_text<R: Read + Drop>(
     alloc: Global,
     opened: Option<R>,
 ) -> Result<Option<CodeParts>, AllocError>
-    ensures contents { IfOk result (AreOf (IsReadIfOpened R.remaining opened)) }
+    ensures contents { IfOk result (ArePartsOf (IsReadIfOpened R.remaining opened)) }
     ensures whole { IfOk result (λ code. is_whole code ≡ true) }
 {
     match opened {
@@ -353,13 +368,12 @@ fn read_text<R: Read + Drop>(
 
 /// Reads a text to its end; `None` where it can't be read.
 fn read_to_end<R: Read>(alloc: Global, text: &mut R) -> Result<Option<CodeParts>, AllocError>
-    ensures contents { IfOk result (AreOf (IsAllLeft (R.remaining text.old))) }
+    ensures contents { IfOk result (ArePartsOf (IsAllLeft (R.remaining text.old))) }
     ensures whole { IfOk result (λ code. is_whole code ≡ true) }
 {
-    match read_all(alloc, text) {
-        Ok(bytes) => Ok(Some(CodeParts::whole(alloc, bytes))),
-        Err(InputError::OutOfMemory) => Err(AllocError),
-        Err(_) => Ok(None),
+    match if_readable(read_all(alloc, text))? {
+        Some(bytes) => Ok(Some(CodeParts::whole(alloc, bytes))),
+        None => Ok(None),
     }
 }
 
@@ -369,11 +383,18 @@ fn read_input<I: FileInput>(
     whole: bool,
     file: &mut I,
 ) -> Result<Option<CodeParts>, AllocError>
-    ensures contents { IfOk result (AreOf (IsAllLeft (I.bytes file.old))) }
+    ensures contents { IfOk result (ArePartsOf (IsAllLeft (I.bytes file.old))) }
     ensures whole { IfOk result (λ code. whole ≡ true → is_whole code ≡ true) }
 {
-    match CodeParts::read(alloc, whole, file) {
-        Ok(code) => Ok(Some(code)),
+    if_readable(CodeParts::read(alloc, whole, file))
+}
+
+/// What was read; `None` where it can't be. Fails where memory was refused.
+fn if_readable<T>(read: Result<T, InputError>) -> Result<Option<T>, AllocError>
+    ensures { result ≡ if_readable read }
+{
+    match read {
+        Ok(read) => Ok(Some(read)),
         Err(InputError::OutOfMemory) => Err(AllocError),
         Err(_) => Ok(None),
     }

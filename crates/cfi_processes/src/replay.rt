@@ -38,7 +38,7 @@ impl<'a, 'run, 'names> Replay<'a, 'run, 'names> {
     ghost use Rattle.cfi_processes.specs.ProcessModules.{modules_in};
     ghost use Rattle.cfi_processes.specs.Modules.{loaded_module_view};
     ghost use Rattle.cfi_processes.specs.Mappings.{AreMappedInOrder};
-    ghost use Rattle.cfi_processes.specs.Replays.{AreModulesFor, HasOwnModules, after};
+    ghost use Rattle.cfi_processes.specs.Replays.{AreModulesFor, HasOwnModules, mapped_after};
     ghost use Rattle.cfi_processes.specs.Replays.{replay_known};
     ghost use Rattle.cfi_processes.specs.Replays.{replay_files, replay_modules, code_of_mapping};
     ghost use Rattle.cfi_processes.specs.Replays.{object_of};
@@ -65,7 +65,8 @@ impl<'a, 'run, 'names> Replay<'a, 'run, 'names> {
     /// memory is refused.
     pub fn follow(&mut self, item: &Record<'names>) -> Result<(), AllocError>
         ensures processes { OnOk result ((pid : ℕ) → replayed self.new pid
-            ≡ after (replay_known self.old) (record_view item.now).event (replayed self.old) pid) }
+            ≡ mapped_after (replay_known self.old) (record_view item.now).event
+            (replayed self.old) pid) }
         ensures names { OnOk result ((tid : ℕ) → named_thread self.new tid
             ≡ names_after (record_view item.now).event (named_thread self.old) tid) }
         ensures modules { OnOk result
@@ -136,7 +137,7 @@ impl<'a, 'run, 'names> Replay<'a, 'run, 'names> {
     /// A file is mapped.
     fn map(&mut self, mapping: &Mapping<'_>) -> Result<(), AllocError>
         ensures processes { OnOk result ((pid : ℕ) → replayed self.new pid
-            ≡ after (replay_known self.old) (MappingEvent (mapping_record_view mapping.now))
+            ≡ mapped_after (replay_known self.old) (MappingEvent (mapping_record_view mapping.now))
             (replayed self.old) pid) }
         ensures names { self.new.threads ≡ self.old.threads }
         ensures same { self.new.modules ≡ self.old.modules }
@@ -150,7 +151,7 @@ impl<'a, 'run, 'names> Replay<'a, 'run, 'names> {
     /// A thread has a new name, and perhaps runs another program.
     fn run(&mut self, program: &Program<'names>) -> Result<(), AllocError>
         ensures processes { (pid : ℕ) → replayed self.new pid
-            ≡ after (replay_known self.old) (ProgramEvent (program_view program.now))
+            ≡ mapped_after (replay_known self.old) (ProgramEvent (program_view program.now))
             (replayed self.old) pid }
         ensures names { OnOk result ((tid : ℕ) → named_thread self.new tid
             ≡ thread_given program.now.tid (Some program.now.name.now)
@@ -168,7 +169,7 @@ impl<'a, 'run, 'names> Replay<'a, 'run, 'names> {
     /// A process or thread was made.
     fn fork(&mut self, fork: &Fork) -> Result<(), AllocError>
         ensures processes { OnOk result ((pid : ℕ) → replayed self.new pid
-            ≡ after (replay_known self.old) (ForkEvent fork.now) (replayed self.old) pid) }
+            ≡ mapped_after (replay_known self.old) (ForkEvent fork.now) (replayed self.old) pid) }
         ensures names { OnOk result ((tid : ℕ) → named_thread self.new tid
             ≡ thread_given fork.now.tid (named_thread self.old fork.now.parent_tid)
             (named_thread self.old) tid) }

@@ -4,9 +4,8 @@ ghost use Rattle.cfi_read_core.specs.ReaderCalls.{map_ok};
 ghost use Rattle.cfi_step.specs.CachedRows.{AreCachedFor, AreNumbered, KeepsFor};
 ghost use Rattle.cfi_step.specs.ModuleLists.{module_list};
 ghost use Rattle.cfi_processes.specs.Registers.{register_count};
-ghost use Rattle.cfi_processes.specs.SampleStacks.{IsSampleUnwound, IsWalkOver, innermost_of};
-ghost use Rattle.cfi_processes.specs.SampleStacks.{known_register, known_registers, stack_memory};
-ghost use Rattle.cfi_processes.specs.SampleStacks.{of_64_bits};
+ghost use Rattle.cfi_processes.specs.SampleStacks.{IsSampleUnwound, innermost_of, known_register};
+ghost use Rattle.cfi_processes.specs.SampleStacks.{known_registers, of_64_bits};
 ghost use Rattle.cfi_perf.specs.Samples.{registers_view, user_view};
 
 use crate::registers::SampleMachine;
@@ -81,44 +80,11 @@ pub fn unwind_sample<R: Reader<Offset = usize>, S: UnwindContextStorage<usize>>(
     let sampled = sampled(user)?;
     let innermost = innermost_of(machine, &sampled)?;
     write_registers(machine, &sampled, registers);
-    Ok(walk_from(
-        modules, machine, innermost, user.stack, cache, ctx, registers, caller, frames,
-    ))
-}
-
-/// Writes the frames from the innermost one on, whose registers are these.
-fn walk_from<R: Reader<Offset = usize>, S: UnwindContextStorage<usize>>(
-    modules: Modules<'_, R>,
-    machine: SampleMachine,
-    innermost: Innermost,
-    stack: &[u8],
-    cache: &mut [CachedRow],
-    ctx: &mut UnwindContext<usize, S>,
-    registers: &mut [Option<u64>],
-    caller: &mut [Option<u64>],
-    frames: &mut [StackFrame],
-) -> Walk
-    requires room { length registers.old ≡ register_count machine }
-    requires same_room { length caller.old ≡ register_count machine }
-    requires numbered { AreNumbered (module_list modules) }
-    requires cached { AreCachedFor R.position 8 S.Rules.limit S.Stack.limit S.Rules.copies_free
-        (module_list modules) cache.old }
-    ensures walk { IsWalkOver R.position (λ n. n)
-        S.Rules.limit S.Stack.limit S.Rules.copies_free (module_list modules.entry) machine
-        (stack_memory stack.now innermost.stack_pointer) innermost.pc registers.old
-        (record { registers = registers.old; caller = caller.old; frames = frames.old })
-        result
-        (record { registers = registers.new; caller = caller.new; frames = frames.new }) }
-    ensures kept { KeepsFor R.position 8 S.Rules.limit S.Stack.limit S.Rules.copies_free
-        (module_list modules.entry) cache.old cache.new }
-    ensures cached { AreCachedFor R.position 8 S.Rules.limit S.Stack.limit S.Rules.copies_free
-        (module_list modules.entry) cache.new }
-{
     let memory = Window {
         base: innermost.stack_pointer,
-        bytes: EndianSlice::new(stack, RunTimeEndian::Little),
+        bytes: EndianSlice::new(user.stack, RunTimeEndian::Little),
     };
-    unwind_from(
+    Ok(unwind_from(
         modules,
         machine,
         &memory,
@@ -128,7 +94,7 @@ fn walk_from<R: Reader<Offset = usize>, S: UnwindContextStorage<usize>>(
         registers,
         caller,
         frames,
-    )
+    ))
 }
 
 /// The registers of user space, if they are those of a 64-bit program.

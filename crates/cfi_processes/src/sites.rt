@@ -3,7 +3,7 @@ ghost use Rattle.std.specs.Prelude.{◌≡◌, Some, map, option_map};
 ghost use Rattle.std.specs.Option.{option_and_then};
 ghost use Rattle.cfi_elf.specs.FunctionPlaces.{place_view};
 ghost use Rattle.cfi_processes.specs.FileFunctions.{mapped_function};
-ghost use Rattle.cfi_processes.specs.CodeMapViews.{map_view};
+ghost use Rattle.cfi_processes.specs.CodeMapViews.{code_map_view};
 ghost use Rattle.cfi_processes.specs.KernelSites.{chain_site};
 ghost use Rattle.cfi_processes.specs.Sites.{file_of, file_site};
 ghost use Rattle.cfi_processes.specs.KnownFiles.{known_view};
@@ -138,7 +138,7 @@ fn map_site<'run>(
     ensures { site_view result ≡ record {
       place = address;
       function = option_map place_view function.entry;
-      file = Some (map_view map.now).name;
+      file = Some (code_map_view map.now).name;
     } }
 {
     Site {

@@ -24,7 +24,7 @@ pub struct TextSymbol<'run> {
 
 /// Two parts of a text, with one byte between them.
 #[derive(Clone, Copy)]
-pub struct Parts<'run> {
+pub struct TextParts<'run> {
     /// What is before the byte.
     pub front: &'run [u8],
     /// What is after it.
@@ -72,7 +72,7 @@ impl<'run> SortedSymbols<'run> {
 }
 
 /// The lines of a text. Fails where memory is refused.
-pub fn lines_of<'run>(alloc: Global, text: &'run [u8]) -> Result<Vec<&'run [u8]>, AllocError>
+pub fn text_lines<'run>(alloc: Global, text: &'run [u8]) -> Result<Vec<&'run [u8]>, AllocError>
     ensures { IfOk result (λ lines. map (λ line. line.now) lines.items ≡ text_lines text.now) }
 {
     text.split(|byte| *byte == b'\n').collect(alloc)
@@ -80,11 +80,11 @@ pub fn lines_of<'run>(alloc: Global, text: &'run [u8]) -> Result<Vec<&'run [u8]>
 
 /// What is before the first byte of this value, and what is after it. Does not
 /// allocate.
-pub fn parts_at(text: &[u8], byte: u8) -> Option<Parts<'_>>
+pub fn split_at_byte(text: &[u8], byte: u8) -> Option<TextParts<'_>>
     ensures { option_map text_parts_view result ≡ split_at_byte byte text.now }
 {
     match text.iter().position(|c| *c == byte) {
-        Some(place) => Some(Parts {
+        Some(place) => Some(TextParts {
             front: &text[..place],
             rest: bytes_from(text, place as u64 + 1),
         }),
@@ -94,7 +94,7 @@ pub fn parts_at(text: &[u8], byte: u8) -> Option<Parts<'_>>
 
 /// The number of one hexadecimal digit or more; `None` where it isn't below 2^64. Does not
 /// allocate.
-pub fn number_of(digits: &[u8]) -> Option<u64>
+pub fn told_number(digits: &[u8]) -> Option<u64>
     ensures { result ≡ told_number digits.now }
 {
     if digits.is_empty() {

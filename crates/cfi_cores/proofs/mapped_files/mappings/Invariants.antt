@@ -1,6 +1,6 @@
 use Rattle.std.proofs.Common.{◌≡◌, drop}
 use Rattle.cfi_elf.specs.Fields.{entries}
-use Rattle.cfi_cores.specs.MappedFiles.{list_view, mappings}
+use Rattle.cfi_cores.specs.MappedFiles.{mappings_view, mappings}
 use Rattle.cfi_cores.proofs.MappingSteps.{behind_these}
 use Rattle.cfi_cores.proofs.mapped_files.mappings.Given as goal
 
@@ -8,4 +8,4 @@ use Rattle.cfi_cores.proofs.mapped_files.mappings.Given as goal
 abbrev pub invariant-loop-index : goal.invariant-loop-index
 invariant-loop-index l =
     let all = entries 24 l.table.entries.now in
-    behind_these (list_view l.list) (mappings l.table.page_size (drop l.index all) l.names) ≡ mappings l.table.page_size all l.table.names.now
+    behind_these (mappings_view l.list) (mappings l.table.page_size (drop l.index all) l.names) ≡ mappings l.table.page_size all l.table.names.now

@@ -1,8 +1,11 @@
 use Rattle.std.proofs.Common.{◌∙◌, List, [], ◌∷◌, ◌++◌, None, ap, get_or, map, refl, subst, sym}
 use Rattle.cfi_processes.specs.declared.opened_file.OpenedFile.{OpenedFile}
 use Rattle.cfi_processes.specs.declared.wanted.WantedFile.{WantedFile}
+use Rattle.std.proofs.lemmas.List.Elements.{All-nil}
+use Rattle.cfi_processes.specs.Notices.{AreMissingSaid}
 use Rattle.cfi_processes.specs.OpenedFiles.{AreOpenedAs, Opened, are_whole, opened_as}
 use Rattle.cfi_processes.specs.Wanted.{wanted_view}
+use Rattle.cfi_processes.proofs.Missing.{missing_pushed}
 use Rattle.cfi_processes.proofs.FileLemmas.{all_opened, none_opened, one_opened, opened_pushed, whole_pushed}
 use Rattle.cfi_processes.proofs.read_files.read_files.Goals as goal
 
@@ -13,6 +16,7 @@ pub loop-file-init : goal.loop-file-init
 loop-file-init g c = (
   ([], subst (λ (list : List OpenedFile). AreOpenedAs list []) (sym c.new-opened.ensures.items) refl, none_opened _ _ (map wanted_view c.args.files.now)),
   λ whole. ap are_whole c.new-opened.ensures.items,
+  subst (AreMissingSaid (g.O.Opener.has_said c.args.opener.now)) (sym c.new-opened.ensures.items) (All-nil _),
 )
 
 pub loop-file-preserved : goal.loop-file-preserved
@@ -23,7 +27,8 @@ loop-file-preserved g c =
     let before = c.loop-file.opened.items in
     let one = c.in_ok-read_file.field-0 in
     let wanted = get_or files i no_file in
-    let ((first, are, so), all_whole) = c.loop-file.invariant in
+    let ((first, are, so), all_whole, all_said) = c.loop-file.invariant in
+    let said = g.O.Opener.has_said c.args.opener.now in
     let (bytes, debug, contents, debug_of, hold) = c.in_ok-read_file.ensures.opened in
     let file : Opened = opened_as (wanted_view wanted) bytes debug in
     let pushed = c.in_ok-push.ensures.items in (
@@ -33,12 +38,20 @@ loop-file-preserved g c =
         one_opened _ _ (map wanted_view files) files i no_file first (first ++ file ∷ []) bytes debug c.loop-file-test.true refl so contents debug_of,
       ),
       λ whole. ap are_whole pushed ∙ whole_pushed before one (all_whole whole) (c.in_ok-read_file.ensures.whole whole),
+      subst (AreMissingSaid said) (sym pushed) (missing_pushed said before one all_said c.in_ok-read_file.ensures.said),
     )
 
 pub returns-clause-opened : goal.returns-clause-opened
 returns-clause-opened g c =
-    let ((first, are, so), all_whole) = c.loop-file.invariant in
+    let ((first, are, so), all_whole, all_said) = c.loop-file.invariant in
     (first, all_opened _ _ c.args.files.now c.loop-file.file-index first c.loop-file-test.false so, are)
 
 pub returns-clause-whole : goal.returns-clause-whole
-returns-clause-whole g c = c.loop-file.invariant.1
+returns-clause-whole g c =
+    let (opened, all_whole, all_said) = c.loop-file.invariant in
+    all_whole
+
+pub returns-clause-said : goal.returns-clause-said
+returns-clause-said g c =
+    let (opened, all_whole, all_said) = c.loop-file.invariant in
+    all_said

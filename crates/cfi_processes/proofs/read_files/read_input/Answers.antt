@@ -1,8 +1,15 @@
-use Rattle.cfi_processes.proofs.ReadFiles.{none_of, reading_of}
+use Rattle.std.proofs.Common.{◌≡◌, Option, refl, true}
+use Rattle.cfi_processes.specs.declared.code_parts.CodeParts.{CodeParts}
+use Rattle.cfi_processes.specs.CodeParts.{ArePartsOf, is_whole}
+use Rattle.cfi_processes.specs.FileReads.{IsAllLeft}
+use Rattle.cfi_processes.proofs.ReadFiles.{all_of, if_read, none_of}
 use Rattle.cfi_processes.proofs.read_files.read_input.Goals as goal
 
-pub returns-in-Ok-clause-contents : goal.returns-in-Ok-clause-contents
-returns-in-Ok-clause-contents g c = reading_of (g.I.FileInput.bytes c.args.file.now) c.in-Ok.code c.in-Ok.ensures.read
+pub returns-clause-contents : goal.returns-clause-contents
+returns-clause-contents g c =
+    let known = g.I.FileInput.bytes c.args.file.now in
+    if_read (λ (code : Option CodeParts). ArePartsOf (IsAllLeft known) code) c.read.result c.if_readable.result c.if_readable.ensures (all_of known c.read.result c.read.ensures.read) (none_of known)
 
-pub returns-in-Err-clause-contents : goal.returns-in-Err-clause-contents
-returns-in-Err-clause-contents g c = none_of (g.I.FileInput.bytes c.args.file.now)
+pub returns-clause-whole : goal.returns-clause-whole
+returns-clause-whole g c =
+    if_read (λ (code : Option CodeParts). c.args.whole ≡ true → is_whole code ≡ true) c.read.result c.if_readable.result c.if_readable.ensures c.read.ensures.whole (λ whole. refl)

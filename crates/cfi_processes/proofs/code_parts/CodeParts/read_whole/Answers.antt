@@ -1,6 +1,6 @@
 use Rattle.cfi_object.specs.FileParts.{image_of}
 use Rattle.cfi_object.proofs.WholeParts.{all_enough}
-use Rattle.cfi_processes.specs.NeededCode.{needed_of_code}
+use Rattle.cfi_processes.specs.Enough.{needed_of_code}
 use Rattle.cfi_processes.proofs.CodeImages.{enough_by}
 use Rattle.cfi_processes.proofs.code_parts.CodeParts.read_whole.Goals as goal
 

@@ -1,8 +1,7 @@
 use Rattle.std.proofs.Common.{◌∙◌, ap}
 use Rattle.cfi_object.proofs.WholeParts.{whole_enough}
 use Rattle.cfi_elf.specs.Images.{whole}
-use Rattle.cfi_processes.specs.Enough.{are_enough}
-use Rattle.cfi_processes.specs.NeededCode.{needed_of_code}
+use Rattle.cfi_processes.specs.Enough.{are_enough, needed_of_code}
 use Rattle.cfi_processes.proofs.CodeImages.{enough_by}
 use Rattle.cfi_processes.proofs.code_parts.CodeParts.whole.Goals as goal
 
