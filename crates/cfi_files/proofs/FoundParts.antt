@@ -8,14 +8,14 @@ use Rattle.cfi_object.specs.declared.register_names.RegisterNames.{RegisterNames
 use Rattle.gimli_cfi.specs.SectionSources.{GivenSection}
 use Rattle.cfi_files.specs.declared.sections.SectionPrinted.{SectionPrinted}
 use Rattle.cfi_files.specs.declared.sections.SectionPrinted.TheVariants.{Compiled, Listed}
-use Rattle.cfi_files.specs.FileLines.{IsUnder, elf_refusal, out_of_memory, under}
+use Rattle.cfi_files.specs.FileLines.{IsUnder, elf_refusal, out_of_memory_in, under}
 use Rattle.cfi_files.specs.FileOutputs.{IsPart, section_format}
 
 -- ---- some output is right for each section
 
 pub some_part : (names : RegisterNames) (what : SectionPrinted) (part : Result GivenSection ElfError) → (printed : Line) × IsPart names what part printed
-some_part names (Listed printed) (Ok frames) = (out_of_memory (printed_format printed), inr refl)
-some_part names Compiled (Ok frames) = (out_of_memory Text, inr refl)
+some_part names (Listed printed) (Ok frames) = (out_of_memory_in (printed_format printed), inr refl)
+some_part names Compiled (Ok frames) = (out_of_memory_in Text, inr refl)
 some_part names what (Err e) = (elf_refusal (section_format what) e, refl)
 
 pub some_under : (front : List ℕ) (names : RegisterNames) (what : SectionPrinted) (part : Result GivenSection ElfError) → (printed : Line) × IsUnder front (IsPart names what part) printed

@@ -29,7 +29,7 @@ use Rattle.cfi_files.specs.declared.request.Printed.TheVariants.{Row, Rows, Dump
 use Rattle.cfi_files.specs.declared.sections.SectionPrinted.{SectionPrinted}
 use Rattle.cfi_files.specs.declared.sections.SectionPrinted.TheVariants.{Compiled, Listed}
 use Rattle.cfi_programs.specs.declared.dump.printed.Printed.TheVariants.{Entries, Rows as AllRows}
-use Rattle.cfi_files.specs.FileLines.{AreEach}
+use Rattle.cfi_files.specs.FileLines.{AllInTurn}
 use Rattle.cfi_files.specs.FileOutputs.{AreEntries, AreFdeRows, AreParts, AreRows, AreRowsAt, AreSections, IsOfNames, needs_plt, needs_symbols, styled}
 use Rattle.cfi_files.specs.Asked.{has_several}
 use Rattle.cfi_files.specs.Found.{debug_frame_in, eh_frame_in}
@@ -170,7 +170,7 @@ module _ (file : File) (image : Image) where
       (same_answers frames style several word (target_addresses file word) line are))
   same_word_line frames e style several word plt line (inr are) = inr (same_answers frames style several word (Err elf.OutOfMemory) line are)
 
-  same_lines : HasSameFrames → HasSameSymbols → (style : Style) (several : Bool) (words : List (List ℕ)) → (list_any names_entry words ≡ true → HasSameEntries) → (line : Line) → AreEach (IsWordLine style file several) words line → AreEach (IsWordLine style other several) words line
+  same_lines : HasSameFrames → HasSameSymbols → (style : Style) (several : Bool) (words : List (List ℕ)) → (list_any names_entry words ≡ true → HasSameEntries) → (line : Line) → AllInTurn (IsWordLine style file several) words line → AllInTurn (IsWordLine style other several) words line
   same_lines frames e style several [] plt line are = are
   same_lines frames e style several (word ∷ words) plt line (first, second, is, are, whole) = (
     first,

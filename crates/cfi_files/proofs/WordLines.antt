@@ -19,7 +19,7 @@ use Rattle.cfi_object.specs.Targets.{IsOrNoMemory, target_addresses}
 use Rattle.cfi_programs.specs.WriterOutput.{PrintsSome}
 use Rattle.cfi_read_core.specs.declared.error.Error.TheVariants.{OutOfMemory}
 use Rattle.cfi_files.specs.Asked.{address_found, asked_text, has_several}
-use Rattle.cfi_files.specs.FileLines.{AreEach, in_turn, no_lines, under}
+use Rattle.cfi_files.specs.FileLines.{AllInTurn, in_turn, no_lines, under}
 use Rattle.cfi_files.specs.Found.{FoundSection, debug_frame_in, eh_frame_in}
 use Rattle.cfi_files.specs.RowOutputs.{AreAnswersIn, several_lines, IsTargetAnswer, IsAddressLine, IsTargetLine, IsWordLine, no_place, no_row_of}
 use Rattle.cfi_programs.specs.Refusals.{refusal_end}
@@ -77,9 +77,9 @@ of_none style eh debug given several word [] old new r e none printed = subst (�
 of_none style eh debug given several word (a ∷ others) old new r e none printed = absurd (true≢false (sym none ∙ not_empty a others))
 
 pub of_some : {E : Type 0} (style : Style) (eh debug : FoundSection) (given several : Bool) (word addresses : List ℕ) (old new : Option (List ℕ)) (r : Result ℕ E) → given ≡ several_lines several (Ok addresses) → (length addresses == 0) ≡ false →
-    PrintsSome (AreEach (IsAddressLine style eh debug given word) addresses) old new r → PrintsSome (λ line. AreAnswersIn style eh debug several word (Ok addresses) line) old new r
+    PrintsSome (AllInTurn (IsAddressLine style eh debug given word) addresses) old new r → PrintsSome (λ line. AreAnswersIn style eh debug several word (Ok addresses) line) old new r
 of_some style eh debug given several word [] old new r e some printed = absurd (cc)
-of_some style eh debug given several word (a ∷ others) old new r e some printed = subst (λ (b : Bool). PrintsSome (AreEach (IsAddressLine style eh debug b word) (a ∷ others)) old new r) e printed
+of_some style eh debug given several word (a ∷ others) old new r e some printed = subst (λ (b : Bool). PrintsSome (AllInTurn (IsAddressLine style eh debug b word) (a ∷ others)) old new r) e printed
 
 -- by what the word names
 pub of_named : {E : Type 0} (style : Style) (file : File) (several : Bool) (word addresses given : List ℕ) (old new : Option (List ℕ)) (r : Result ℕ E) → target_addresses file word ≡ Ok addresses → given ≡ addresses →
@@ -106,7 +106,7 @@ given_as style file word b b' old new status e given = subst (λ (x : Bool). IsG
 -- ---- the lines of things, one after the other, of each of which there is some line
 
 module _ {A : Type 0} (Is : A → Line → Type 0) (some : (x : A) → (line : Line) × Is x line) where
-  some_lines : (xs : List A) → (line : Line) × AreEach Is xs line
+  some_lines : (xs : List A) → (line : Line) × AllInTurn Is xs line
   some_lines [] = (no_lines, refl)
   some_lines (x ∷ xs) =
       let first = some x in
@@ -118,14 +118,14 @@ module _ {A : Type 0} (Is : A → Line → Type 0) (some : (x : A) → (line : L
     pub before : Line
     pub given : Appends old now before.text
     pub reached : status ≡ before.status
-    pub whole : (others : Line) → AreEach Is left others → AreEach Is all (in_turn before others)
+    pub whole : (others : Line) → AllInTurn Is left others → AllInTurn Is all (in_turn before others)
 
   pub none_so_far : (all : List A) (old : Option (List ℕ)) → SoFar all all old old 0
   none_so_far all old = record {
     before = no_lines;
     given = none_yet old;
     reached = refl;
-    whole = λ others are. subst (AreEach Is all) (first_none others) are;
+    whole = λ others are. subst (AllInTurn Is all) (first_none others) are;
   }
 
   pub one_more : (all left : List A) (x : A) (old mid new : Option (List ℕ)) (m n : ℕ) → SoFar all (x ∷ left) old mid m →
@@ -135,16 +135,16 @@ module _ {A : Type 0} (Is : A → Line → Type 0) (some : (x : A) → (line : L
     given = appends_then old mid new so.before.text line.text so.given writes;
     reached = λ i. max (so.reached i) (status i);
     whole = λ others are.
-        subst (AreEach Is all) (regrouped so.before line others)
+        subst (AllInTurn Is all) (regrouped so.before line others)
         (so.whole (in_turn line others) (line, others, is, are, refl));
   }
 
-  pub all_given : (all : List A) (old new : Option (List ℕ)) (status : ℕ) → SoFar all [] old new status → IsGiven (AreEach Is all) old new status
+  pub all_given : (all : List A) (old new : Option (List ℕ)) (status : ℕ) → SoFar all [] old new status → IsGiven (AllInTurn Is all) old new status
   all_given all old new status so =
-      (so.before, (so.given, so.reached), subst (AreEach Is all) (last_none so.before) (so.whole no_lines refl))
+      (so.before, (so.given, so.reached), subst (AllInTurn Is all) (last_none so.before) (so.whole no_lines refl))
 
   pub one_failed : {E : Type 0} (all left : List A) (x : A) (old mid new : Option (List ℕ)) (m : ℕ) (e : E) (r : Result ℕ E) → IsErr r →
-      SoFar all (x ∷ left) old mid m → PrintsSome (Is x) mid new (Err e) → PrintsSome (AreEach Is all) old new r
+      SoFar all (x ∷ left) old mid m → PrintsSome (Is x) mid new (Err e) → PrintsSome (AllInTurn Is all) old new r
   one_failed all left x old mid new m e (Ok n) err so failed = cc
   one_failed {E} all left x old mid new m e (Err e') err so (line, (begun, status), is) =
       let others = some_lines left in (

@@ -7,7 +7,7 @@ use Rattle.cfi_elf.specs.ErrorTexts.{text_of_elf}
 use Rattle.cfi_read_core.specs.declared.error.Error.TheVariants.{OutOfMemory}
 use Rattle.cfi_programs.specs.ErrorWords.{parting}
 use Rattle.cfi_programs.specs.Lines.{Line}
-use Rattle.cfi_programs.specs.Refusals.{reason_line, refusal_in, refused_line}
+use Rattle.cfi_programs.specs.Refusals.{reason_line, refusal_in, refusal_saying}
 use Rattle.cfi_names.specs.Names.{shown}
 use Rattle.cfi_programs.specs.JsonLines.{json_name, json_section}
 use Rattle.cfi_programs.specs.declared.style.Format.{Format}
@@ -15,19 +15,19 @@ use Rattle.cfi_programs.specs.declared.style.Format.TheVariants.{Text, Json}
 
 -- ---- the name of an error of a file, and in a sentence what it says and what to do
 
-abbrev pub advice_on : ElfError → List ℕ
-advice_on Compressed = codes "; objcopy --decompress-debug-sections decompresses it"
-advice_on Core = codes "; cfi stack reads core files"
-advice_on _ = []
+abbrev pub elf_advice : ElfError → List ℕ
+elf_advice Compressed = codes "; objcopy --decompress-debug-sections decompresses it"
+elf_advice Core = codes "; cfi stack reads core files"
+elf_advice _ = []
 
 abbrev pub elf_words : Format → ElfError → List ℕ
 elf_words format error =
-    name_of_elf error ++ (parting format ++ (text_of_elf error ++ advice_on error))
+    name_of_elf error ++ (parting format ++ (text_of_elf error ++ elf_advice error))
 
 -- ---- lines, with their status, by the format
 
 abbrev pub elf_refusal : Format → ElfError → Line
-elf_refusal format error = refused_line format (elf_words format error)
+elf_refusal format error = refusal_saying format (elf_words format error)
 
 abbrev pub no_call_frames : Format → Line
 no_call_frames format = reason_line format (codes "no call frames") 1
@@ -35,11 +35,11 @@ no_call_frames format = reason_line format (codes "no call frames") 1
 abbrev pub no_address : Format → Line
 no_address format = reason_line format (codes "no address") 1
 
-abbrev pub wrong_input : Format → Line
-wrong_input format = reason_line format (codes "wrong input") 2
+abbrev pub wrong_input_in : Format → Line
+wrong_input_in format = reason_line format (codes "wrong input") 2
 
-abbrev pub out_of_memory : Format → Line
-out_of_memory format = refusal_in format OutOfMemory
+abbrev pub out_of_memory_in : Format → Line
+out_of_memory_in format = refusal_in format OutOfMemory
 
 -- ---- beginnings of lines, and lines with a name
 
@@ -78,6 +78,6 @@ abbrev pub no_lines : Line
 no_lines = record { text = []; status = 0 }
 
 -- an output for each thing, with the greatest status
-abbrev pub AreEach : {A : Type 0} → (A → Line → Type 0) → List A → Line → Type 0
-AreEach Is [] printed = printed ≡ no_lines
-AreEach Is (x ∷ xs) printed = InTurn (Is x) (AreEach Is xs) printed
+abbrev pub AllInTurn : {A : Type 0} → (A → Line → Type 0) → List A → Line → Type 0
+AllInTurn Is [] printed = printed ≡ no_lines
+AllInTurn Is (x ∷ xs) printed = InTurn (Is x) (AllInTurn Is xs) printed

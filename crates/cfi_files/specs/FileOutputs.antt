@@ -52,8 +52,8 @@ use Rattle.cfi_files.specs.declared.sections.SectionPrinted.TheVariants as secti
 use Rattle.cfi_files.specs.CompiledTexts.{IsCompiledText}
 use Rattle.cfi_programs.specs.WriterOutput.{PrintsSome}
 use Rattle.cfi_files.specs.FileLines.{IsUnder, InTurn, elf_refusal, elf_words, file_label}
-use Rattle.cfi_files.specs.FileLines.{no_address, no_call_frames, out_of_memory, section_line}
-use Rattle.cfi_files.specs.FileLines.{wrong_input}
+use Rattle.cfi_files.specs.FileLines.{no_address, no_call_frames, out_of_memory_in, section_line}
+use Rattle.cfi_files.specs.FileLines.{wrong_input_in}
 use Rattle.cfi_files.specs.Found.{FoundSection, debug_frame_in, eh_frame_in}
 use Rattle.cfi_files.specs.RowOutputs.{AreWordLines}
 
@@ -162,7 +162,7 @@ AreNamedRows style file addresses printed =
 -- or that memory was refused for these
 abbrev pub AreFdeRows : Style → File → Option (List ℕ) → Line → Type 0
 AreFdeRows style file addresses printed =
-    AreNamedRows style file addresses printed ⊎ (printed ≡ out_of_memory style.format)
+    AreNamedRows style file addresses printed ⊎ (printed ≡ out_of_memory_in style.format)
 
 -- at the addresses that a word names
 abbrev pub AreRowsAt : Style → File → Result (List ℕ) ElfError → Line → Type 0
@@ -188,7 +188,7 @@ AreNamedEntries names file printed =
 -- or that memory was refused for these
 abbrev pub AreEntries : RegisterNames → File → Line → Type 0
 AreEntries names file printed =
-    AreNamedEntries names file printed ⊎ (printed ≡ out_of_memory Text)
+    AreNamedEntries names file printed ⊎ (printed ≡ out_of_memory_in Text)
 
 -- ---- a file
 
@@ -247,7 +247,7 @@ IsOfFileBytes request bytes printed =
 -- or that there was no memory for a copy
 abbrev pub IsOfCopy : Request → Result File ElfError → Line → Type 0
 IsOfCopy request relocated printed =
-    IsOfParsed request relocated printed ⊎ (printed ≡ out_of_memory (format_for request.printed))
+    IsOfParsed request relocated printed ⊎ (printed ≡ out_of_memory_in (format_for request.printed))
 
 -- ---- an input
 
@@ -255,8 +255,8 @@ IsOfCopy request relocated printed =
 abbrev pub IsOwed : Request → List ℕ → Line → Type 0
 IsOwed request bytes printed =
     IsOfFileBytes request bytes printed
-    ⊎ ((printed ≡ out_of_memory (format_for request.printed))
-    ⊎ (printed ≡ wrong_input (format_for request.printed)))
+    ⊎ ((printed ≡ out_of_memory_in (format_for request.printed))
+    ⊎ (printed ≡ wrong_input_in (format_for request.printed)))
 
 -- ---- what was written for an input
 

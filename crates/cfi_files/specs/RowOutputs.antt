@@ -24,7 +24,7 @@ use Rattle.cfi_programs.specs.declared.style.Format.{Format}
 use Rattle.cfi_programs.specs.declared.style.Style.{Style}
 use Rattle.cfi_object.specs.Targets.{target_addresses}
 use Rattle.cfi_files.specs.Asked.{address_found, asked_text, has_several}
-use Rattle.cfi_files.specs.FileLines.{AreEach, IsUnder, elf_words}
+use Rattle.cfi_files.specs.FileLines.{AllInTurn, IsUnder, elf_words}
 use Rattle.cfi_files.specs.Found.{FoundSection, debug_frame_in, eh_frame_in}
 
 -- ---- why there is no row, after what was asked for
@@ -155,7 +155,7 @@ abbrev pub AreAnswersTo :
 AreAnswersTo style eh_frame debug_frame several word (Ok []) printed =
     IsTargetLine style eh_frame debug_frame several word (Ok None) printed
 AreAnswersTo style eh_frame debug_frame several word (Ok (a ∷ others)) printed =
-    AreEach (IsAddressLine style eh_frame debug_frame several word) (a ∷ others) printed
+    AllInTurn (IsAddressLine style eh_frame debug_frame several word) (a ∷ others) printed
 AreAnswersTo style eh_frame debug_frame several word (Err e) printed =
     IsTargetLine style eh_frame debug_frame several word (Err e) printed
 
@@ -180,4 +180,4 @@ IsWordLine style file several word printed =
 -- the lines of each word, with the greatest status
 abbrev pub AreWordLines : Style → File → List (List ℕ) → Line → Type 0
 AreWordLines style file words printed =
-    AreEach (IsWordLine style file (has_several words)) words printed
+    AllInTurn (IsWordLine style file (has_several words)) words printed

@@ -1,8 +1,8 @@
 //! Lines that say why nothing is printed of a file.
 ghost use Rattle.std.specs.Prelude.{◌≡◌, ◌++◌};
 ghost use Rattle.cfi_programs.specs.WriterOutput.{Prints, Writes};
-ghost use Rattle.cfi_files.specs.FileLines.{advice_on, elf_refusal, elf_words, no_address};
-ghost use Rattle.cfi_files.specs.FileLines.{no_call_frames, wrong_input};
+ghost use Rattle.cfi_files.specs.FileLines.{elf_advice, elf_refusal, elf_words, no_address};
+ghost use Rattle.cfi_files.specs.FileLines.{no_call_frames, wrong_input_in};
 ghost use Rattle.cfi_files.specs.RowOutputs.{no_frames, no_place, no_row_of};
 
 use cfi_elf::ElfError;
@@ -62,13 +62,13 @@ fn write_elf_reason<W: Write>(output: &mut W, format: Format, error: ElfError) -
 {
     let name = error.name();
     let parting = parting(format);
-    let advice = advice_on(error);
+    let advice = elf_advice(error);
     write_part(output, format_args!("{name}{parting}{error}{advice}"))
 }
 
 /// Returns what to do about an error, after its sentence.
-fn advice_on(error: ElfError) -> &'static str
-    ensures { result.now ≡ advice_on error }
+fn elf_advice(error: ElfError) -> &'static str
+    ensures { result.now ≡ elf_advice error }
 {
     match error {
         ElfError::Compressed => "; objcopy --decompress-debug-sections decompresses it",
@@ -94,7 +94,8 @@ pub fn write_no_address<W: Write>(output: &mut W, format: Format) -> io::Result<
 
 /// Prints that the input can't be read, and returns the status 2.
 pub fn write_wrong_input<W: Write>(output: &mut W, format: Format) -> io::Result<u8>
-    ensures { Prints (wrong_input format) (W.contents output.old) (W.contents output.new) result }
+    ensures { Prints (wrong_input_in format)
+        (W.contents output.old) (W.contents output.new) result }
 {
     write_reason(output, format, "wrong input", 2)
 }

@@ -1,4 +1,4 @@
-//! What is printed of a file.
+//! What can be asked for of a file, and what of the file it takes.
 ghost use Rattle.std.specs.Prelude.{◌≡◌};
 ghost use Rattle.std.specs.List.{list_any};
 ghost use Rattle.cfi_object.specs.Targets.{names_entry};

@@ -4,7 +4,7 @@ ghost use Rattle.cfi_elf.specs.ElfFiles.{file_view};
 ghost use Rattle.cfi_programs.specs.Words.{texts};
 ghost use Rattle.cfi_programs.specs.WriterOutput.{PrintsSome};
 ghost use Rattle.cfi_files.specs.Found.{AreSectionsOf, frames_view};
-ghost use Rattle.cfi_files.specs.FileLines.{AreEach};
+ghost use Rattle.cfi_files.specs.FileLines.{AllInTurn};
 ghost use Rattle.cfi_files.specs.RowOutputs.{AreAnswersIn, AreWordLines, IsTargetAnswer};
 ghost use Rattle.cfi_files.specs.RowOutputs.{IsAddressLine, IsTargetLine, IsWordLine};
 ghost use Rattle.cfi_files.specs.RowOutputs.{several_lines};
@@ -124,7 +124,7 @@ fn print_each<W: Write>(
     context: &mut Option<UnwindContext<usize>>,
     output: &mut W,
 ) -> io::Result<u8>
-    ensures { PrintsSome (λ line. AreEach (IsAddressLine asked.entry.style
+    ensures { PrintsSome (λ line. AllInTurn (IsAddressLine asked.entry.style
         (frames_view sections.now.eh_frame) (frames_view sections.now.debug_frame)
         asked.entry.has_several asked.entry.word.now) addresses.now line)
         (W.contents output.old) (W.contents output.new) result }

@@ -46,7 +46,7 @@ drawn_boxes drawing sorted = wide_boxes drawing.least (total_of sorted) (boxes_o
 
 -- the stacks in the order of their bytes, in which those that begin with the same functions lie
 -- together
-pub record AreSorted (stacks sorted : List Stack) : Type 0 where
+pub record AreSortedByBytes (stacks sorted : List Stack) : Type 0 where
   pub read : List StackOfCode
   pub ordered : List StackOfCode
   pub are : map stack_view read ≡ stacks
@@ -69,12 +69,12 @@ IsSortedRefused sorted TooManySamples = ¬ (total_of sorted < 2 ^ 64)
 -- of stacks in any order
 abbrev pub IsGraphOfStacks : Drawing → List Stack → List ℕ → Type 0
 IsGraphOfStacks drawing stacks graph =
-    (sorted : List Stack) × AreSorted stacks sorted × IsGraphOfSorted drawing sorted graph
+    (sorted : List Stack) × AreSortedByBytes stacks sorted × IsGraphOfSorted drawing sorted graph
 
 abbrev pub IsStacksRefused : List Stack → FoldedError → Type 0
 IsStacksRefused stacks error =
     (error ≡ OutOfMemory)
-    ⊎ ((sorted : List Stack) × AreSorted stacks sorted × IsSortedRefused sorted error)
+    ⊎ ((sorted : List Stack) × AreSortedByBytes stacks sorted × IsSortedRefused sorted error)
 
 -- of the stacks of a plain text
 abbrev pub IsGraphOfPlain : Drawing → List ℕ → List ℕ → Type 0

@@ -3,11 +3,11 @@
 --     plain text      a text whose semicolons are separators
 use Rattle.std.specs.Prelude.{ℕ, ◌==◌, ◌||◌, List, [], ◌∷◌, if◌then◌else◌}
 use Rattle.std.specs.List.{flat_map}
-use Rattle.cfi_names.specs.Names.{Part, byte_escape, parts, shown_part}
+use Rattle.cfi_names.specs.Names.{NamePart, byte_escape, parts, shown_part}
 use Rattle.cfi_names.specs.Utf8.{scalar}
 
 -- as names are shown, but an XML document has no U+FFFE and no U+FFFF (section 2.2) either
-abbrev pub drawn_part : Part → List ℕ
+abbrev pub drawn_part : NamePart → List ℕ
 drawn_part part =
     if scalar part.bytes == 0xfffe || scalar part.bytes == 0xffff
     then flat_map byte_escape part.bytes
@@ -18,7 +18,7 @@ drawn_name name = flat_map drawn_part (parts name)
 
 -- a semicolon (59) is the unit separator of ASCII, which comes before every character that is
 -- shown; a line feed ends a line
-abbrev pub plain_part : Part → List ℕ
+abbrev pub plain_part : NamePart → List ℕ
 plain_part part =
     if scalar part.bytes == 10 then 10 ∷ []
     else if scalar part.bytes == 59 then 31 ∷ []

@@ -4,7 +4,7 @@
 use Rattle.std.specs.Prelude.{◌≡◌, ℕ, ◌-◌, ◌*◌, ◌/◌, ◌%◌, List, [], ◌∷◌, ◌++◌, codes, decimal}
 use Rattle.std.specs.Prelude.{length, take}
 use Rattle.std.specs.List.{flat_map}
-use Rattle.cfi_flame.specs.Functions.{Row}
+use Rattle.cfi_flame.specs.Functions.{FunctionRow}
 use Rattle.cfi_flame.specs.Rankings.{IsRanking}
 
 -- ---- a line
@@ -28,7 +28,7 @@ count_text all samples =
     aligned_right (codes "            ") (decimal samples)
     ++ aligned_right (codes "         ") (percent all samples)
 
-abbrev pub function_line : ℕ → Row → List ℕ
+abbrev pub function_line : ℕ → FunctionRow → List ℕ
 function_line all row =
     count_text all row.own
     ++ (count_text all row.total ++ (codes "  " ++ (row.name ++ 10 ∷ [])))
@@ -36,12 +36,12 @@ function_line all row =
 abbrev pub heading : List ℕ
 heading = codes "        self    self%       total   total%  function" ++ 10 ∷ []
 
-abbrev pub table_text : ℕ → List Row → List ℕ
+abbrev pub table_text : ℕ → List FunctionRow → List ℕ
 table_text all rows = heading ++ flat_map (function_line all) rows
 
 -- ---- the table
 
 abbrev pub IsReport : List ℕ → List ℕ → Type 0
 IsReport text report =
-    (all : ℕ) × (ranked : List Row) × IsRanking text all ranked
+    (all : ℕ) × (ranked : List FunctionRow) × IsRanking text all ranked
     × (report ≡ table_text all ranked)

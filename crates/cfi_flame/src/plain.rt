@@ -1,6 +1,6 @@
 //! A text as it is drawn, with separators between the names of functions.
 ghost use Rattle.std.specs.Prelude.{◌≡◌, ◌++◌, IfOk, OnOk};
-ghost use Rattle.cfi_names.specs.Names.{part_view};
+ghost use Rattle.cfi_names.specs.Names.{name_part_view};
 ghost use Rattle.cfi_flame.specs.PlainTexts.{drawn_name, drawn_part, plain, plain_part};
 
 use cfi_names::{Part, first_part, push_escapes, push_part, scalar};
@@ -28,7 +28,7 @@ pub fn plain_text(alloc: Global, text: &[u8]) -> Result<Vec<u8>, AllocError>
 /// Appends what a part of a plain text is.
 fn push_plain(text: &mut Vec<u8>, part: Part<'_>) -> Result<(), AllocError>
     ensures { OnOk result
-        (text.new.items ≡ text.old.items ++ plain_part (part_view part.entry)) }
+        (text.new.items ≡ text.old.items ++ plain_part (name_part_view part.entry)) }
 {
     match scalar(part.bytes) {
         0x0a => text.extend_from_slice(b"\n"),
@@ -56,7 +56,7 @@ pub fn drawn_name(alloc: Global, name: &[u8]) -> Result<Vec<u8>, AllocError>
 /// Appends what stands for a part of a name in the graph.
 fn push_drawn(text: &mut Vec<u8>, part: Part<'_>) -> Result<(), AllocError>
     ensures { OnOk result
-        (text.new.items ≡ text.old.items ++ drawn_part (part_view part.entry)) }
+        (text.new.items ≡ text.old.items ++ drawn_part (name_part_view part.entry)) }
 {
     match scalar(part.bytes) {
         0xfffe | 0xffff => push_escapes(text, part.bytes),

@@ -6,7 +6,7 @@ use Rattle.std.proofs.Math.Dec.{leb-zero}
 use Rattle.std.proofs.lemmas.Bool.{and_parts, le-leb, le-ltb, leb-true, lt-leb, ltb-true}
 use Rattle.cfi_names.specs.declared.Kind.TheVariants.{Shown}
 use Rattle.cfi_names.specs.Utf8.{begins, sequence_length}
-use Rattle.cfi_names.specs.Names.{Part, first_part, is_printable, kind_of, parts, parts_after, shown, shown_part}
+use Rattle.cfi_names.specs.Names.{NamePart, first_part, is_printable_ascii, kind_of, parts, parts_after, shown, shown_part}
 
 -- ---- the first part, and the others
 
@@ -45,53 +45,53 @@ pub parts_first : (bytes : List ℕ) → 0 < length bytes → parts bytes ≡ fi
 parts_first [] h = absurd (omega (arith, h))
 parts_first (b ∷ bytes) h =
     let k = length (first_part (b ∷ bytes)).bytes in
-    ap (λ (more : List Part). first_part (b ∷ bytes) ∷ more) (rest_behind (k - 1) bytes ∙ ap parts (drop_one k b bytes (first_some b bytes)))
+    ap (λ (more : List NamePart). first_part (b ∷ bytes) ∷ more) (rest_behind (k - 1) bytes ∙ ap parts (drop_one k b bytes (first_some b bytes)))
 
 pub some_left : (bytes : List ℕ) → (length bytes == 0) ≡ false → 0 < length bytes
 some_left [] h = cc h
 some_left (b ∷ bytes) h = omega arith
 
 -- what is made of each part, of the first and of the others
-pub made_first : (f : Part → List ℕ) (bytes : List ℕ) → 0 < length bytes → flat_map f (parts bytes) ≡ f (first_part bytes) ++ flat_map f (parts (drop (length (first_part bytes).bytes) bytes))
+pub made_first : (f : NamePart → List ℕ) (bytes : List ℕ) → 0 < length bytes → flat_map f (parts bytes) ≡ f (first_part bytes) ++ flat_map f (parts (drop (length (first_part bytes).bytes) bytes))
 made_first f bytes h = ap (flat_map f) (parts_first bytes h)
 
 -- ---- a text that the parts are appended to
 
 -- one more, where this is the first of those that are left
-pub one_made : (f : Part → List ℕ) (bytes line : List ℕ) (part : Part) (left next all : List ℕ) → 0 < length bytes → part ≡ first_part bytes → left ≡ drop (length part.bytes) bytes → next ≡ line ++ f part →
+pub one_made : (f : NamePart → List ℕ) (bytes line : List ℕ) (part : NamePart) (left next all : List ℕ) → 0 < length bytes → part ≡ first_part bytes → left ≡ drop (length part.bytes) bytes → next ≡ line ++ f part →
     line ++ flat_map f (parts bytes) ≡ all → next ++ flat_map f (parts left) ≡ all
 one_made f bytes line part left next all some first is e h =
     let rest = parts (drop (length part.bytes) bytes) in
-    let made : flat_map f (parts bytes) ≡ f part ++ flat_map f rest = subst (λ (p : Part). flat_map f (parts bytes) ≡ f p ++ flat_map f (parts (drop (length p.bytes) bytes))) (sym first) (made_first f bytes some) in
+    let made : flat_map f (parts bytes) ≡ f part ++ flat_map f rest = subst (λ (p : NamePart). flat_map f (parts bytes) ≡ f p ++ flat_map f (parts (drop (length p.bytes) bytes))) (sym first) (made_first f bytes some) in
     ap (λ (xs : List ℕ). next ++ flat_map f (parts xs)) is ∙ ap (λ (x : List ℕ). x ++ flat_map f rest) e
     ∙ append_assoc line (f part) (flat_map f rest) ∙ ap (λ (x : List ℕ). line ++ x) (sym made) ∙ h
 
 -- ---- most names
 
-plain_begins : (b : ℕ) (bytes : List ℕ) → is_printable b ≡ true → begins ((0x00, 0x7f) ∷ []) (b ∷ bytes) ≡ true
+plain_begins : (b : ℕ) (bytes : List ℕ) → is_printable_ascii b ≡ true → begins ((0x00, 0x7f) ∷ []) (b ∷ bytes) ≡ true
 plain_begins b bytes h =
     let below : b < 0x7f = ltb-true b 0x7f (and_parts (nat_le 0x20 b) (nat_lt b 0x7f) h).1 in
     rw (leb-zero b, le-leb b 0x7f (omega (arith, below))) refl
 
-plain_kind : (b : ℕ) → is_printable b ≡ true → kind_of (b ∷ []) ≡ Shown
+plain_kind : (b : ℕ) → is_printable_ascii b ≡ true → kind_of (b ∷ []) ≡ Shown
 plain_kind b h =
     let both = and_parts (nat_le 0x20 b) (nat_lt b 0x7f) h in
     let above : 0x20 ≤ b = leb-true 0x20 b both.0 in
     let below : b < 0x7f = ltb-true b 0x7f both.1 in
     rw (le-ltb b 0x20 above, lt-leb 0x7f b below) refl
 
-plain_part : (b : ℕ) (bytes : List ℕ) → is_printable b ≡ true → first_part (b ∷ bytes) ≡ record { kind = Shown; bytes = b ∷ [] }
+plain_part : (b : ℕ) (bytes : List ℕ) → is_printable_ascii b ≡ true → first_part (b ∷ bytes) ≡ record { kind = Shown; bytes = b ∷ [] }
 plain_part b bytes h =
     let one : sequence_length (b ∷ bytes) ≡ 1 = rw (plain_begins b bytes h) refl in
     rw (one, plain_kind b h) refl
 
-pub parts_plain : (b : ℕ) (bytes : List ℕ) → is_printable b ≡ true → parts (b ∷ bytes) ≡ record { kind = Shown; bytes = b ∷ [] } ∷ parts bytes
+pub parts_plain : (b : ℕ) (bytes : List ℕ) → is_printable_ascii b ≡ true → parts (b ∷ bytes) ≡ record { kind = Shown; bytes = b ∷ [] } ∷ parts bytes
 parts_plain b bytes h = rw (plain_part b bytes h) refl
 
-pub all_shown : (name : List ℕ) → list_all is_printable name ≡ true → shown name ≡ name
+pub all_shown : (name : List ℕ) → list_all is_printable_ascii name ≡ true → shown name ≡ name
 all_shown [] plain = refl
-all_shown (c ∷ cs) plain = by (is_printable c) refl plain (all_shown cs)
+all_shown (c ∷ cs) plain = by (is_printable_ascii c) refl plain (all_shown cs)
   where
-    by : (b : Bool) → is_printable c ≡ b → (b && list_all is_printable cs) ≡ true → (list_all is_printable cs ≡ true → shown cs ≡ cs) → shown (c ∷ cs) ≡ c ∷ cs
+    by : (b : Bool) → is_printable_ascii c ≡ b → (b && list_all is_printable_ascii cs) ≡ true → (list_all is_printable_ascii cs ≡ true → shown cs ≡ cs) → shown (c ∷ cs) ≡ c ∷ cs
     by true is rest same = ap (flat_map shown_part) (parts_plain c cs is) ∙ ap (λ (xs : List ℕ). c ∷ xs) (same rest)
     by false is none same = cc none

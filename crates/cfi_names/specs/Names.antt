@@ -14,12 +14,12 @@ use Rattle.cfi_names.specs.Utf8.{scalar, sequence_length}
 -- ---- the parts of a name
 
 -- A character, or a byte that is none.
-pub record Part : Type 0 where
+pub record NamePart : Type 0 where
   pub kind : Kind
   pub bytes : List ℕ
 
-abbrev pub part_view : PartOfCode → Part
-part_view part = record { kind = part.kind; bytes = part.bytes.now }
+abbrev pub name_part_view : PartOfCode → NamePart
+name_part_view part = record { kind = part.kind; bytes = part.bytes.now }
 
 -- the control characters (general category Cc): U+0000 to U+001F, U+007F to U+009F
 abbrev pub is_control : ℕ → Bool
@@ -29,7 +29,7 @@ abbrev pub kind_of : List ℕ → Kind
 kind_of character = if is_control (scalar character) then Control else Shown
 
 -- a byte with which no character begins is a part of its own
-abbrev pub first_part : List ℕ → Part
+abbrev pub first_part : List ℕ → NamePart
 first_part bytes =
     if sequence_length bytes == 0 then record { kind = Stray; bytes = take 1 bytes }
     else record {
@@ -38,24 +38,24 @@ first_part bytes =
     }
 
 -- those after so many bytes, which are the rest of a part
-abbrev pub parts_after : ℕ → List ℕ → List Part
+abbrev pub parts_after : ℕ → List ℕ → List NamePart
 parts_after k [] = []
 parts_after zero (b ∷ bytes) =
     first_part (b ∷ bytes)
     ∷ parts_after (length (first_part (b ∷ bytes)).bytes - 1) bytes
 parts_after (suc k) (b ∷ bytes) = parts_after k bytes
 
-abbrev pub parts : List ℕ → List Part
+abbrev pub parts : List ℕ → List NamePart
 parts name = parts_after 0 name
 
 -- ---- what is printed
 
 -- two lower-case hexadecimal digits
-abbrev pub hexadecimal : ℕ → List ℕ
-hexadecimal b = digit_glyph false (b / 16) ∷ digit_glyph false (b % 16) ∷ []
+abbrev pub byte_digits : ℕ → List ℕ
+byte_digits b = digit_glyph false (b / 16) ∷ digit_glyph false (b % 16) ∷ []
 
 abbrev pub byte_escape : ℕ → List ℕ
-byte_escape b = codes "\\x" ++ hexadecimal b
+byte_escape b = codes "\\x" ++ byte_digits b
 
 -- of a control character each byte, and a stray one
 abbrev pub shown_kind : Kind → List ℕ → List ℕ
@@ -63,7 +63,7 @@ shown_kind Shown bytes = bytes
 shown_kind Control bytes = flat_map byte_escape bytes
 shown_kind Stray bytes = flat_map byte_escape bytes
 
-abbrev pub shown_part : Part → List ℕ
+abbrev pub shown_part : NamePart → List ℕ
 shown_part part = shown_kind part.kind part.bytes
 
 abbrev pub shown : List ℕ → List ℕ
@@ -72,5 +72,5 @@ shown name = flat_map shown_part (parts name)
 -- ---- most names
 
 -- printable ASCII, which is shown as it is
-abbrev pub is_printable : ℕ → Bool
-is_printable b = nat_le 0x20 b && nat_lt b 0x7f
+abbrev pub is_printable_ascii : ℕ → Bool
+is_printable_ascii b = nat_le 0x20 b && nat_lt b 0x7f

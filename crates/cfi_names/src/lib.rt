@@ -7,7 +7,8 @@ ghost use Rattle.std.specs.Prelude.{◌≡◌, ◌<◌, ◌++◌, IfOk, OnOk, fa
 ghost use Rattle.std.specs.Fmt.{digit_glyph};
 ghost use Rattle.std.specs.List.{list_all};
 ghost use Rattle.cfi_names.specs.Names.{byte_escape, first_part, is_control};
-ghost use Rattle.cfi_names.specs.Names.{is_printable, kind_of, part_view, shown, shown_part};
+ghost use Rattle.cfi_names.specs.Names.{is_printable_ascii, kind_of, name_part_view, shown};
+ghost use Rattle.cfi_names.specs.Names.{shown_part};
 
 mod utf8;
 
@@ -38,7 +39,7 @@ pub struct Part<'name> {
 /// Returns what the bytes of a name, or what is left of them, begin with. Does not allocate.
 pub fn first_part(bytes: &[u8]) -> Part<'_>
     requires { 0 < length bytes.now }
-    ensures { part_view result ≡ first_part bytes.now }
+    ensures { name_part_view result ≡ first_part bytes.now }
 {
     let length = sequence_length(bytes);
     if length == 0 {
@@ -74,7 +75,7 @@ fn is_control(number: u32) -> bool
 
 /// Returns whether each byte of a name is printable ASCII. Such a name is shown as it is.
 pub fn is_plain(name: &[u8]) -> bool
-    ensures { result ≡ list_all is_printable name.now }
+    ensures { result ≡ list_all is_printable_ascii name.now }
 {
     let mut is_plain = true;
     for byte in name {
@@ -100,7 +101,7 @@ pub fn shown_name(alloc: Global, name: &[u8]) -> Result<Vec<u8>, AllocError>
 /// Appends what is printed of a part of a name in a text. Fails where memory is refused.
 pub fn push_part(text: &mut Vec<u8>, part: Part<'_>) -> Result<(), AllocError>
     ensures { OnOk result
-        (text.new.items ≡ text.old.items ++ shown_part (part_view part.entry)) }
+        (text.new.items ≡ text.old.items ++ shown_part (name_part_view part.entry)) }
 {
     match part.kind {
         Kind::Shown => text.extend_from_slice(part.bytes),

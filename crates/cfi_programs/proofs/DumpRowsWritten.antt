@@ -31,7 +31,7 @@ use Rattle.cfi_programs.specs.AnswerLines.{answer_line}
 use Rattle.cfi_programs.specs.Wordings.{Wording}
 use Rattle.cfi_programs.specs.WriterOutput.{IsBeginning, Writes}
 use Rattle.cfi_programs.proofs.WrittenLemmas.{IsGiven, given_all, given_first, given_then, beginning_then, behind_more, writes_last}
-use Rattle.cfi_programs.specs.DumpSectionTexts.{setting_of_fde, fde_rows, lines}
+use Rattle.cfi_programs.specs.DumpSectionTexts.{setting_of_fde, fde_rows, answer_lines}
 
 -- ---- the answers of a table
 
@@ -42,17 +42,17 @@ abbrev numbered : Lent → Result (Option (Row ℕ)) Error
 numbered r = map_ok (option_map (λ row. map_row as_it_is row.now)) r
 
 first_line : (style : Wording) (before after : List (Result (Row ℕ) Error)) (r : Lent) (answer : Result (Bor (Row ℕ)) Error) → result_transpose r ≡ Some answer → IsNext before (numbered r) after
-    → lines style before ≡ (answer_line style (map_ok (λ row. row.now) answer)).text ++ lines style after
+    → answer_lines style before ≡ (answer_line style (map_ok (λ row. row.now) answer)).text ++ answer_lines style after
 first_line style before after (Ok None) answer is next = cc
 first_line style before after (Ok (Some row)) answer is next =
     let same : ◌≡◌ {A = Result (Bor (Row ℕ)) Error} (Ok row) answer = cc in
-    ap (lines style) next ∙ ap (λ x. (answer_line style (Ok x)).text ++ lines style after) (same_row row.now) ∙ ap (λ a. (answer_line style (map_ok (λ x. x.now) a)).text ++ lines style after) same
+    ap (answer_lines style) next ∙ ap (λ x. (answer_line style (Ok x)).text ++ answer_lines style after) (same_row row.now) ∙ ap (λ a. (answer_line style (map_ok (λ x. x.now) a)).text ++ answer_lines style after) same
 first_line style before after (Err e) answer is next =
     let same : ◌≡◌ {A = Result (Bor (Row ℕ)) Error} (Err e) answer = cc in
-    ap (lines style) next ∙ ap (λ a. (answer_line style (map_ok (λ x. x.now) a)).text ++ lines style after) same
+    ap (answer_lines style) next ∙ ap (λ a. (answer_line style (map_ok (λ x. x.now) a)).text ++ answer_lines style after) same
 
-no_line : (style : Wording) (before after : List (Result (Row ℕ) Error)) (r : Lent) → result_transpose r ≡ None → IsNext before (numbered r) after → lines style before ≡ []
-no_line style before after (Ok None) is next = ap (lines style) next.0
+no_line : (style : Wording) (before after : List (Result (Row ℕ) Error)) (r : Lent) → result_transpose r ≡ None → IsNext before (numbered r) after → answer_lines style before ≡ []
+no_line style before after (Ok None) is next = ap (answer_lines style) next.0
 no_line style before after (Ok (Some row)) is next = cc
 no_line style before after (Err e) is next = cc
 
@@ -81,12 +81,12 @@ some_answer (Err e) answer is none = cc
 pub record StandsAt (style : Wording) (s : Setting) (p : TableState (State ℕ) ℕ) (old now : Option (List ℕ)) (waiting text : List ℕ) : Type 0 where
   pub program : Program ℕ
   pub after : IsStateAfter s p.so_far program
-  pub given : IsGiven old now (waiting ++ lines style (answers_to_come s (at_program p program))) text
+  pub given : IsGiven old now (waiting ++ answer_lines style (answers_to_come s (at_program p program))) text
 
 pub stands_first : (style : Wording) (s : Setting) (p : TableState (State ℕ) ℕ) (old : Option (List ℕ)) (waiting : List ℕ) (program : Program ℕ) → waiting ≡ [] → IsStateAfter s p.so_far program
-    → StandsAt style s p old old waiting (lines style (answers_to_come s (at_program p program)))
+    → StandsAt style s p old old waiting (answer_lines style (answers_to_come s (at_program p program)))
 stands_first style s p old waiting program none after =
-    let whole = lines style (answers_to_come s (at_program p program)) in
+    let whole = answer_lines style (answers_to_come s (at_program p program)) in
     record {
       program = program;
       after = after;
@@ -97,7 +97,7 @@ stands_first style s p old waiting program none after =
 module _ (style : Wording) (s : Setting) (p : TableState (State ℕ) ℕ) (old now newer : Option (List ℕ)) (waiting text : List ℕ) (stands : StandsAt style s p old now waiting text) where
   pub out_written : (waits : List ℕ) → waits ≡ [] → Appends now newer waiting → StandsAt style s p old newer waits text
   out_written waits none more =
-      let left = lines style (answers_to_come s (at_program p stands.program)) in
+      let left = answer_lines style (answers_to_come s (at_program p stands.program)) in
       record {
         program = stands.program;
         after = stands.after;
@@ -105,7 +105,7 @@ module _ (style : Wording) (s : Setting) (p : TableState (State ℕ) ℕ) (old n
       }
 
   pub out_begun : ((front : List ℕ) × Appends now newer front × IsBeginning front waiting) → (front : List ℕ) × Appends old newer front × IsBeginning front text
-  out_begun begun = beginning_then old now newer waiting (lines style (answers_to_come s (at_program p stands.program))) text stands.given begun
+  out_begun begun = beginning_then old now newer waiting (answer_lines style (answers_to_come s (at_program p stands.program))) text stands.given begun
 
 module _ (t : Setting) (p q : TableState (State ℕ) ℕ) (r : Lent) (context : ContextState ℕ) (holds : Bool) (lent : LendsNextRow as_it_is t true p r q context holds) where
   pub fewer_after : (answer : Result (Bor (Row ℕ)) Error) → result_transpose r ≡ Some answer → answers_left q < answers_left p
@@ -139,14 +139,14 @@ module _ (s : Setting) (rules : IsSome s.rule_limit) (stack : IsSome s.stack_lim
       -- where no text waits
       pub all_given : waiting ≡ [] → result_transpose r ≡ None → Appends old now text
       all_given none is =
-          given_all old now _ text stands.given (ap (λ (xs : List ℕ). xs ++ lines style (answers_to_come s (at_program p stands.program))) none ∙ no_line style _ left r is comes)
+          given_all old now _ text stands.given (ap (λ (xs : List ℕ). xs ++ answer_lines style (answers_to_come s (at_program p stands.program))) none ∙ no_line style _ left r is comes)
 
       module _ (answer : Result (Bor (Row ℕ)) Error) (is : result_transpose r ≡ Some answer) where
         abbrev part : List ℕ
         part = (answer_line style (map_ok (λ row. row.now) answer)).text
 
-        to_write : (waits : List ℕ) → waits ≡ waiting ++ part → IsGiven old now (waits ++ lines style left) text
-        to_write waits e = behind_more old now waiting waits part (lines style left) _ text stands.given e (first_line style _ left r answer is comes)
+        to_write : (waits : List ℕ) → waits ≡ waiting ++ part → IsGiven old now (waits ++ answer_lines style left) text
+        to_write waits e = behind_more old now waiting waits part (answer_lines style left) _ text stands.given e (first_line style _ left r answer is comes)
 
         -- the line waits too
         pub line_waits : (waits : List ℕ) → waits ≡ waiting ++ part → StandsAt style s q old now waits text
@@ -161,11 +161,11 @@ module _ (s : Setting) (rules : IsSome s.rule_limit) (stack : IsSome s.stack_lim
         line_written newer waits none more = record {
           program = next_program;
           after = (kept.from stands.program stands.after).2;
-          given = subst (λ (xs : List ℕ). IsGiven old newer (xs ++ lines style left) text) (sym none) (given_then old now newer (waiting ++ part) (lines style left) text (to_write (waiting ++ part) refl) more);
+          given = subst (λ (xs : List ℕ). IsGiven old newer (xs ++ answer_lines style left) text) (sym none) (given_then old now newer (waiting ++ part) (answer_lines style left) text (to_write (waiting ++ part) refl) more);
         }
 
         pub line_begun : (newer : Option (List ℕ)) → ((front : List ℕ) × Appends now newer front × IsBeginning front (waiting ++ part)) → (front : List ℕ) × Appends old newer front × IsBeginning front text
-        line_begun newer begun = beginning_then old now newer (waiting ++ part) (lines style left) text (to_write (waiting ++ part) refl) begun
+        line_begun newer begun = beginning_then old now newer (waiting ++ part) (answer_lines style left) text (to_write (waiting ++ part) refl) begun
 
 -- ---- the rows of an FDE
 
@@ -179,17 +179,17 @@ module _ (fde : Fde) (section : Section) where
   -- what is written of a table that stands after the CIE's program
   pub rows_written : {T E : Type 0} (style : Wording) (t : Setting) (p : TableState (State ℕ) ℕ) (old new : Option (List ℕ)) (r : Result T E) → t ≡ setting_of_fde fde
       → AcceptsCieProgram (setting_of_fde fde) true cie (Ok p.so_far) → p.left ≡ fde_instructions section fde → p.has_ended ≡ false
-      → ((program : Program ℕ) → IsStateAfter t p.so_far program → Writes old new r (lines style (answers_to_come t (at_program p program)))) → Writes old new r (lines style (fde_rows section fde))
+      → ((program : Program ℕ) → IsStateAfter t p.so_far program → Writes old new r (answer_lines style (answers_to_come t (at_program p program)))) → Writes old new r (answer_lines style (fde_rows section fde))
   rows_written style t p old new r same (all, keeps, stands) is runs written =
       let accepted = accepted_value (cie_refusal (setting_of_fde fde) cie) cie.values all (kept_cie_is (may_allocate (setting_of_fde fde) true) (setting_of_fde fde) never_of_fde cie (Ok all) keeps) in
       let rows : fde_rows section fde ≡ answers_to_come (setting_of_fde fde) (at_program p (in_fde all [])) =
       ap (on_option (answers (setting_of_fde fde) (in_fde cie.values []) (fde_instructions section fde)) (λ e. Err e ∷ [])) accepted.0
       ∙ (λ k. cond (sym runs k) [] (answers (setting_of_fde fde) (in_fde (sym accepted.1 k) []) (sym is k))) in
-      let each = subst (λ s. (program : Program ℕ) → IsStateAfter s p.so_far program → Writes old new r (lines style (answers_to_come s (at_program p program)))) same written in
-      subst (λ xs. Writes old new r (lines style xs)) (sym rows) (each (in_fde all []) stands)
+      let each = subst (λ s. (program : Program ℕ) → IsStateAfter s p.so_far program → Writes old new r (answer_lines style (answers_to_come s (at_program p program)))) same written in
+      subst (λ xs. Writes old new r (answer_lines style xs)) (sym rows) (each (in_fde all []) stands)
 
-  pub refused_rows : (style : Wording) (e : Error) → AcceptsCieProgram (setting_of_fde fde) true cie (Err e) → (refusal_told style.format e).text ≡ lines style (fde_rows section fde)
+  pub refused_rows : (style : Wording) (e : Error) → AcceptsCieProgram (setting_of_fde fde) true cie (Err e) → (refusal_told style.format e).text ≡ answer_lines style (fde_rows section fde)
   refused_rows style e keeps =
       let refused = refused_error (cie_refusal (setting_of_fde fde) cie) cie.values e (kept_cie_is (may_allocate (setting_of_fde fde) true) (setting_of_fde fde) never_of_fde cie (Err e) keeps) in
       sym (append-nil (refusal_told style.format e).text)
-      ∙ ap (λ o. lines style (on_option (answers (setting_of_fde fde) (in_fde cie.values []) (fde_instructions section fde)) (λ d. Err d ∷ []) o)) (sym refused)
+      ∙ ap (λ o. answer_lines style (on_option (answers (setting_of_fde fde) (in_fde cie.values []) (fde_instructions section fde)) (λ d. Err d ∷ []) o)) (sym refused)

@@ -3,16 +3,16 @@ use Rattle.std.proofs.Common.{◌≡◌, ◌∙◌, ℕ, ◌+◌, ◌<◌, ◌�
 use Rattle.std.specs.List.{flat_map, list_all}
 use Rattle.std.proofs.Math.Seq.{drop-cons}
 use Rattle.std.proofs.lemmas.List.{drop_all}
-use Rattle.cfi_names.specs.Names.{Part, byte_escape, first_part, is_printable, parts}
+use Rattle.cfi_names.specs.Names.{NamePart, byte_escape, first_part, is_printable_ascii, parts}
 use Rattle.cfi_names.proofs.NameLemmas.{made_first, parts_plain}
 use Rattle.cfi_programs.specs.JsonLines.{json_escape, json_escaped, json_name, json_part}
 use Rattle.cfi_programs.proofs.WrittenLemmas.{IsGiven}
 
-module _ (f : Part → List ℕ) (old now : Option (List ℕ)) (bytes : List ℕ) (part : Part) (whole : List ℕ) where
+module _ (f : NamePart → List ℕ) (old now : Option (List ℕ)) (bytes : List ℕ) (part : NamePart) (whole : List ℕ) where
   -- the first part of those that are left is next
   pub next_part : 0 < length bytes → part ≡ first_part bytes → IsGiven old now (flat_map f (parts bytes)) whole → IsGiven old now (f part ++ flat_map f (parts (drop (length part.bytes) bytes))) whole
   next_part some first given =
-      let made : flat_map f (parts bytes) ≡ f part ++ flat_map f (parts (drop (length part.bytes) bytes)) = subst (λ (p : Part). flat_map f (parts bytes) ≡ f p ++ flat_map f (parts (drop (length p.bytes) bytes))) (sym first) (made_first f bytes some) in
+      let made : flat_map f (parts bytes) ≡ f part ++ flat_map f (parts (drop (length part.bytes) bytes)) = subst (λ (p : NamePart). flat_map f (parts bytes) ≡ f p ++ flat_map f (parts (drop (length p.bytes) bytes))) (sym first) (made_first f bytes some) in
       subst (λ (text : List ℕ). IsGiven old now text whole) made given
 
   pub part_behind : (left : List ℕ) → left ≡ drop (length part.bytes) bytes → IsGiven old now (flat_map f (parts (drop (length part.bytes) bytes))) whole → IsGiven old now (flat_map f (parts left)) whole
@@ -38,10 +38,10 @@ named_end text spaced named ended name shown same e f g =
 
 -- ---- most names, in JSON
 
-pub all_escaped : (name : List ℕ) → list_all is_printable name ≡ true → json_name name ≡ json_escaped name
+pub all_escaped : (name : List ℕ) → list_all is_printable_ascii name ≡ true → json_name name ≡ json_escaped name
 all_escaped [] plain = refl
-all_escaped (c ∷ cs) plain = by (is_printable c) refl plain (all_escaped cs)
+all_escaped (c ∷ cs) plain = by (is_printable_ascii c) refl plain (all_escaped cs)
   where
-    by : (b : Bool) → is_printable c ≡ b → (b && list_all is_printable cs) ≡ true → (list_all is_printable cs ≡ true → json_name cs ≡ json_escaped cs) → json_name (c ∷ cs) ≡ json_escaped (c ∷ cs)
+    by : (b : Bool) → is_printable_ascii c ≡ b → (b && list_all is_printable_ascii cs) ≡ true → (list_all is_printable_ascii cs ≡ true → json_name cs ≡ json_escaped cs) → json_name (c ∷ cs) ≡ json_escaped (c ∷ cs)
     by true is rest same = ap (flat_map json_part) (parts_plain c cs is) ∙ ap (λ (more : List ℕ). (json_escape c ++ []) ++ more) (same rest) ∙ ap (λ (one : List ℕ). one ++ json_escaped cs) (append-nil (json_escape c))
     by false is none same = cc none

@@ -14,7 +14,7 @@ use Rattle.cfi_programs.specs.declared.rows.command_line.Request.{Request}
 use Rattle.cfi_programs.specs.declared.rows.command_line.Storage.TheVariants.{OnHeap}
 use Rattle.cfi_programs.specs.Input.{Bytes}
 use Rattle.cfi_programs.specs.SectionOfWords.{given_by}
-use Rattle.cfi_programs.specs.RowsProgramOutput.{IsRequestedRow, room_of}
+use Rattle.cfi_programs.specs.RowsProgramOutput.{IsRequestedRow, limits_of}
 
 -- the FDE for the address, or the refusal in its place
 abbrev FoundIn : Section → Option HeaderSection → ℕ → Result Fde Error → Type 0
@@ -31,7 +31,7 @@ row_of_found section (Some header) a answer (found, finds, is) =
 abbrev given : Request → Bytes → GivenSection
 given r bytes = given_by r.words bytes.section bytes.header
 
-pub answer_of_found : (r : Request) (bytes : Bytes) (answer : Result (Row ℕ) Error) → r.storage ≡ OnHeap → IsRequestedRow (room_of r.storage) r bytes answer
+pub answer_of_found : (r : Request) (bytes : Bytes) (answer : Result (Row ℕ) Error) → r.storage ≡ OnHeap → IsRequestedRow (limits_of r.storage) r bytes answer
     → (found : Result Fde Error) × FoundIn (given_section (given r bytes)) (given_header (given r bytes)) r.address found × (answer ≡ answer_by (row_of_fde (Some 192) (Some 4) (given_section (given r bytes)) r.address) found)
 answer_of_found r bytes answer e is =
-    row_of_found (given_section (given r bytes)) (given_header (given r bytes)) r.address answer (subst (λ storage. IsRequestedRow (room_of storage) r bytes answer) e is)
+    row_of_found (given_section (given r bytes)) (given_header (given r bytes)) r.address answer (subst (λ storage. IsRequestedRow (limits_of storage) r bytes answer) e is)

@@ -5,13 +5,13 @@ use Rattle.std.specs.Io.KnownBytes.{Appends, Keeps}
 use Rattle.cfi_programs.specs.Input.{Bytes}
 use Rattle.cfi_programs.specs.Lines.{Line}
 use Rattle.cfi_programs.specs.Refusals.{wrong_words, wrong_hexadecimal, wrong_input}
-use Rattle.cfi_programs.specs.Runs.{Tool, IsNoWrongLine, IsLineFor, IsOwed, IsRun, LineOfInput, LineOfRequest, LineOfWords, requested, out_of_memory}
+use Rattle.cfi_programs.specs.Runs.{Tool, IsNoWrongLine, IsLineFor, IsOwedBy, IsRun, LineOfInput, LineOfRequest, LineOfWords, requested, out_of_memory}
 use Rattle.cfi_programs.specs.WriterOutput.{IsBeginning, Prints}
 use Rattle.cfi_programs.proofs.WrittenLemmas.{appends_then, keeps_is}
 
 -- what holds of the lines of a program
-abbrev pub ArePlain : Tool → Type 0
-ArePlain tool = (r : tool.Request) (bytes : Bytes) (printed : Line) → tool.IsLine r bytes printed → IsNoWrongLine printed
+abbrev pub AreNoWrongLines : Tool → Type 0
+AreNoWrongLines tool = (r : tool.Request) (bytes : Bytes) (printed : Line) → tool.IsLine r bytes printed → IsNoWrongLine printed
 
 -- ---- the line that is owed
 
@@ -29,25 +29,25 @@ owed_answer tool r input bytes printed e is =
 pub known_of : {A : Type 0} (P : A → Type 0) (o : Option A) (r : A) → o ≡ Some r → IfSome o P → P r
 known_of P o r e h = subst (λ request. IfSome request P) e h
 
-pub owes_memory : (tool : Tool) (o : Option tool.Request) (r : tool.Request) (input : List ℕ) → o ≡ Some r → IsOwed tool o input out_of_memory
+pub owes_memory : (tool : Tool) (o : Option tool.Request) (r : tool.Request) (input : List ℕ) → o ≡ Some r → IsOwedBy tool o input out_of_memory
 owes_memory tool o r input e =
-    let P : Option tool.Request → Type 0 = λ request. IsOwed tool request input out_of_memory in
+    let P : Option tool.Request → Type 0 = λ request. IsOwedBy tool request input out_of_memory in
     subst P (sym e) (inr (refl, inl refl))
 
-pub owes_hexadecimal : (tool : Tool) (o : Option tool.Request) (r : tool.Request) (input : List ℕ) → o ≡ Some r → tool.meaning r input ≡ None → IsOwed tool o input wrong_hexadecimal
+pub owes_hexadecimal : (tool : Tool) (o : Option tool.Request) (r : tool.Request) (input : List ℕ) → o ≡ Some r → tool.meaning r input ≡ None → IsOwedBy tool o input wrong_hexadecimal
 owes_hexadecimal tool o r input e wrong =
-    let P : Option tool.Request → Type 0 = λ request. IsOwed tool request input wrong_hexadecimal in
+    let P : Option tool.Request → Type 0 = λ request. IsOwedBy tool request input wrong_hexadecimal in
     subst P (sym e) (inl (owed_hexadecimal tool r input wrong))
 
 owes_line : (tool : Tool) (r : tool.Request) (input : List ℕ) (bytes : Bytes) (printed : Line) → tool.meaning r input ≡ Some bytes →
-    IsLineFor tool r bytes printed → IsOwed tool (Some r) input printed
+    IsLineFor tool r bytes printed → IsOwedBy tool (Some r) input printed
 owes_line tool r input bytes printed d (inl is) = inl (owed_answer tool r input bytes printed d is)
 owes_line tool r input bytes printed d (inr memory) = inr (refl, inl memory)
 
 pub owes_answer : (Q : Line → Type 0) (tool : Tool) (o : Option tool.Request) (r : tool.Request) (input : List ℕ) (bytes : Bytes) → o ≡ Some r →
-    tool.meaning r input ≡ Some bytes → ((printed : Line) × Q printed × IsLineFor tool r bytes printed) → (printed : Line) × Q printed × IsOwed tool o input printed
+    tool.meaning r input ≡ Some bytes → ((printed : Line) × Q printed × IsLineFor tool r bytes printed) → (printed : Line) × Q printed × IsOwedBy tool o input printed
 owes_answer Q tool o r input bytes e d (printed, shows, which) =
-    let P : Option tool.Request → Type 0 = λ request. IsOwed tool request input printed in
+    let P : Option tool.Request → Type 0 = λ request. IsOwedBy tool request input printed in
     (printed, shows, subst P (sym e) (owes_line tool r input bytes printed d which))
 
 -- ---- a line that begins with the text of another
@@ -69,14 +69,14 @@ no_refusal printed first memory =
     absurd (omega arith)
 
 -- a line that is owed where the words are right, of two that begin with w
-owed_right : (tool : Tool) → ArePlain tool → (r : tool.Request) (bytes : Option Bytes) (printed : Line) → LineOfInput tool r bytes printed → get_or printed.text 0 0 ≡ 119 →
+owed_right : (tool : Tool) → AreNoWrongLines tool → (r : tool.Request) (bytes : Option Bytes) (printed : Line) → LineOfInput tool r bytes printed → get_or printed.text 0 0 ≡ 119 →
     (printed ≡ wrong_hexadecimal) × LineOfInput tool r bytes wrong_hexadecimal
 owed_right tool plain r None printed h e = (h, refl)
 owed_right tool plain r (Some bytes) printed is e =
     let clash : true ≡ false = subst (λ code. (code == 119) ≡ false) e (plain r bytes printed is).beginning in
     cc
 
-words_wrong : (tool : Tool) → ArePlain tool → (request : Option tool.Request) (input : List ℕ) (printed : Line) → IsOwed tool request input printed →
+words_wrong : (tool : Tool) → AreNoWrongLines tool → (request : Option tool.Request) (input : List ℕ) (printed : Line) → IsOwedBy tool request input printed →
     get_or printed.text 0 0 ≡ 119 → get_or printed.text 6 0 ≡ 119 → LineOfRequest tool request input wrong_words
 words_wrong tool plain None input printed owed first seventh = refl
 words_wrong tool plain (Some r) input printed (inl line) first seventh =
@@ -87,7 +87,7 @@ words_wrong tool plain (Some r) input printed (inr (some, inr unread)) first sev
     let e : ◌≡◌ {A = ℕ} 105 119 = first_of printed wrong_input 6 119 seventh unread in
     absurd (omega arith)
 
-hexadecimal_wrong : (tool : Tool) → ArePlain tool → (request : Option tool.Request) (input : List ℕ) (printed : Line) → IsOwed tool request input printed →
+hexadecimal_wrong : (tool : Tool) → AreNoWrongLines tool → (request : Option tool.Request) (input : List ℕ) (printed : Line) → IsOwedBy tool request input printed →
     get_or printed.text 0 0 ≡ 119 → get_or printed.text 6 0 ≡ 104 → LineOfRequest tool request input wrong_hexadecimal
 hexadecimal_wrong tool plain None input printed (inl line) first seventh =
     let e : ◌≡◌ {A = ℕ} 119 104 = first_of printed wrong_words 6 104 seventh line in
@@ -102,7 +102,7 @@ hexadecimal_wrong tool plain (Some r) input printed (inr (some, inr unread)) fir
 status_of : (printed line : Line) → printed.status ≤ 1 → printed ≡ line → line.status ≤ 1
 status_of printed line h e = rw (← e) h
 
-answered : (tool : Tool) (request : Option tool.Request) (input : List ℕ) (printed : Line) → IsOwed tool request input printed → printed.status ≤ 1 →
+answered : (tool : Tool) (request : Option tool.Request) (input : List ℕ) (printed : Line) → IsOwedBy tool request input printed → printed.status ≤ 1 →
     IsSome request × (LineOfRequest tool request input printed ⊎ (printed ≡ out_of_memory))
 answered tool None input printed (inl line) low = (let h : 2 ≤ 1 = status_of printed wrong_words low line in absurd (omega arith))
 answered tool None input printed (inr (none, line)) low = cc
@@ -112,7 +112,7 @@ answered tool (Some r) input printed (inr (some, inr unread)) low = (let h : 2 �
 
 -- ---- the run
 
-is_run : (tool : Tool) → ArePlain tool → (words : Option (List (List ℕ))) (input written : List ℕ) (status : ℕ) (printed : Line) → IsOwed tool (requested tool words) input printed →
+is_run : (tool : Tool) → AreNoWrongLines tool → (words : Option (List (List ℕ))) (input written : List ℕ) (status : ℕ) (printed : Line) → IsOwedBy tool (requested tool words) input printed →
     IsBeginning written printed.text → ((written ≡ printed.text) × (status ≡ printed.status)) ⊎ (IsBeginning written printed.text × (status ≡ 2))
     → (status ≤ 1 → (written ≡ printed.text) × (status ≡ printed.status)) → (1 < status → status ≡ 2) → IsRun tool words input written status
 is_run tool plain words input written status printed owed (rest, begins) ends whole high = record {
@@ -134,18 +134,18 @@ bound_by printed line h e = rw e h
 one_below : (n : ℕ) → n ≤ 1 → n ≤ 2
 one_below n h = omega arith
 
-input_bound : (tool : Tool) → ArePlain tool → (r : tool.Request) (bytes : Option Bytes) (printed : Line) → LineOfInput tool r bytes printed → printed.status ≤ 2
+input_bound : (tool : Tool) → AreNoWrongLines tool → (r : tool.Request) (bytes : Option Bytes) (printed : Line) → LineOfInput tool r bytes printed → printed.status ≤ 2
 input_bound tool plain r None printed e = bound_by printed wrong_hexadecimal (omega arith) e
 input_bound tool plain r (Some bytes) printed is = one_below printed.status (plain r bytes printed is).low
 
-status_bound : (tool : Tool) → ArePlain tool → (request : Option tool.Request) (input : List ℕ) (printed : Line) → IsOwed tool request input printed → printed.status ≤ 2
+status_bound : (tool : Tool) → AreNoWrongLines tool → (request : Option tool.Request) (input : List ℕ) (printed : Line) → IsOwedBy tool request input printed → printed.status ≤ 2
 status_bound tool plain None input printed (inl e) = bound_by printed wrong_words (omega arith) e
 status_bound tool plain (Some r) input printed (inl line) = input_bound tool plain r (tool.meaning r input) printed line
 status_bound tool plain request input printed (inr (some, inl e)) = bound_by printed out_of_memory (omega arith) e
 status_bound tool plain request input printed (inr (some, inr e)) = bound_by printed wrong_input (omega arith) e
 
-pub run_ends : {E : Type 0} (tool : Tool) → ArePlain tool → (words : Option (List (List ℕ))) (input : List ℕ) (old mid new : Option (List ℕ)) (result : Result ℕ E) (status : ℕ) → result ≡ Ok status → Keeps mid new →
-    ((printed : Line) × Prints printed old mid result × IsOwed tool (requested tool words) input printed) → (written : List ℕ) × Appends old new written × IsRun tool words input written status
+pub run_ends : {E : Type 0} (tool : Tool) → AreNoWrongLines tool → (words : Option (List (List ℕ))) (input : List ℕ) (old mid new : Option (List ℕ)) (result : Result ℕ E) (status : ℕ) → result ≡ Ok status → Keeps mid new →
+    ((printed : Line) × Prints printed old mid result × IsOwedBy tool (requested tool words) input printed) → (written : List ℕ) × Appends old new written × IsRun tool words input written status
 run_ends tool plain words input old mid new (Ok answered) status e keeps (printed, prints, owed) =
     let same : answered ≡ status = cc in
     let is : status ≡ printed.status = sym same ∙ prints.1 in
@@ -156,8 +156,8 @@ run_ends tool plain words input old mid new (Ok answered) status e keeps (printe
 run_ends tool plain words input old mid new (Err error) status e keeps (printed, prints, owed) = cc
 
 -- where the line or the flush after it failed
-pub run_fails : {E : Type 0} (tool : Tool) → ArePlain tool → (words : Option (List (List ℕ))) (input : List ℕ) (old mid new : Option (List ℕ)) (result : Result ℕ E) → Keeps mid new →
-    ((printed : Line) × Prints printed old mid result × IsOwed tool (requested tool words) input printed) → (written : List ℕ) × Appends old new written × IsRun tool words input written 2
+pub run_fails : {E : Type 0} (tool : Tool) → AreNoWrongLines tool → (words : Option (List (List ℕ))) (input : List ℕ) (old mid new : Option (List ℕ)) (result : Result ℕ E) → Keeps mid new →
+    ((printed : Line) × Prints printed old mid result × IsOwedBy tool (requested tool words) input printed) → (written : List ℕ) × Appends old new written × IsRun tool words input written 2
 run_fails tool plain words input old mid new (Ok answered) keeps (printed, prints, owed) =
     let P : List ℕ → Type 0 = λ xs. Appends old new xs in
     let whole : Appends old new printed.text = subst P (append-nil printed.text) (appends_then old mid new printed.text [] prints.0 (keeps_is mid new keeps)) in

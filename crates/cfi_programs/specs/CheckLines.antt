@@ -1,4 +1,5 @@
--- The line that is printed.
+-- The line that says whether the table of a header is faithful: in text, and in JSON as the end of
+-- the object that begins with the name of the file.
 use Rattle.std.specs.Prelude.{ℕ, List, ◌++◌, codes}
 use Rattle.std.specs.Fmt.{decimal}
 use Rattle.cfi_read_core.specs.declared.error.Error.{Error}

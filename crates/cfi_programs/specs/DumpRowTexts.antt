@@ -18,7 +18,7 @@ use Rattle.cfi_programs.specs.Refusals.{refusal_told}
 use Rattle.cfi_programs.specs.FunctionLines.{function_text}
 use Rattle.cfi_programs.specs.JsonLines.{json_addresses, json_function}
 use Rattle.cfi_programs.specs.Wordings.{of_section}
-use Rattle.cfi_programs.specs.DumpSectionTexts.{fde_rows, lines}
+use Rattle.cfi_programs.specs.DumpSectionTexts.{fde_rows, answer_lines}
 use Rattle.cfi_programs.specs.declared.style.Format.{Format}
 use Rattle.cfi_programs.specs.declared.style.Format.TheVariants.{Text as AsText, Json}
 use Rattle.cfi_programs.specs.declared.style.Style.{Style}
@@ -63,7 +63,7 @@ abbrev pub fde_rows_text :
 fde_rows_text style function addresses section (Ok fde) =
     if is_asked_for addresses fde
     then addresses_line style.format function fde
-    ++ lines (of_section style section) (fde_rows section fde)
+    ++ answer_lines (of_section style section) (fde_rows section fde)
     else []
 fde_rows_text style function addresses section (Err error) = (refusal_told style.format error).text
 

@@ -1,6 +1,6 @@
 -- What is printed of a section.
 --     fde_rows section fde      the rows of an FDE, and the refusals among them, in order
---     lines wording answers      a line for each
+--     answer_lines wording answers      a line for each
 --     entry_text names function section entry      an entry and its instructions, and after those
 --         of an FDE its rows; with the names of functions, by their addresses
 use Rattle.std.specs.Prelude.{ℕ, Option, Some, None, List, [], ◌∷◌, ◌++◌, Result, Ok, Err}
@@ -39,9 +39,10 @@ fde_rows section fde =
     (λ error. Err error ∷ [])
     (cie_refusal (setting_of_fde fde) (cie_instructions section fde.cie))
 
-abbrev pub lines : Wording → List (Result (Row ℕ) Error) → List ℕ
-lines wording [] = []
-lines wording (answer ∷ answers) = (answer_line wording answer).text ++ lines wording answers
+abbrev pub answer_lines : Wording → List (Result (Row ℕ) Error) → List ℕ
+answer_lines wording [] = []
+answer_lines wording (answer ∷ answers) =
+    (answer_line wording answer).text ++ answer_lines wording answers
 
 -- ---- an entry
 
@@ -64,7 +65,7 @@ abbrev pub fde_text :
 fde_text names function section partial (Ok fde) =
     fde_line (function fde.initial) fde
     ++ (fde_instructions_text names section fde
-    ++ lines (of_section (text_style names) section) (fde_rows section fde))
+    ++ answer_lines (of_section (text_style names) section) (fde_rows section fde))
 fde_text names function section partial (Err error) =
     partial_fde_line partial.prefix.offset partial.prefix.length ++ (refusal_told Text error).text
 

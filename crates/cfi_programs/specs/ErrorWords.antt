@@ -5,9 +5,7 @@ use Rattle.std.specs.Prelude.{ℕ, List, [], ◌++◌, ◌==◌, codes, if◌the
 use Rattle.cfi_read_core.specs.declared.error.Error.{Error}
 use Rattle.cfi_read_core.specs.declared.error.Error.TheVariants.{UnknownCallFrameInstruction}
 use Rattle.cfi_read_core.specs.declared.error.Error.TheVariants.{StackFull, TooManyRegisterRules}
-use Rattle.cfi_read_core.specs.declared.error.Error.TheVariants.{}
 use Rattle.cfi_read_core.specs.declared.error.Error.TheVariants.{TextRelativePointerButTextBaseIsUndefined}
-use Rattle.cfi_read_core.specs.declared.error.Error.TheVariants.{}
 use Rattle.cfi_read_core.specs.declared.error.Error.TheVariants.{DataRelativePointerButDataBaseIsUndefined}
 use Rattle.cfi_read_core.specs.ErrorSentences.{sentence_of}
 use Rattle.cfi_read_core.specs.RefusalNames.{name_of}

@@ -2,15 +2,16 @@
 --     in_words names size section expression      an expression of the section, where an address
 --         has this size
 --     hexadecimal_of section expression      its bytes
-use Rattle.std.specs.Prelude.{ℕ, zero, suc, ◌-◌, ◌/◌, ◌%◌, Bool, true, false, List, [], ◌∷◌, ◌++◌}
+use Rattle.std.specs.Prelude.{ℕ, zero, suc, ◌-◌, Bool, true, false, List, [], ◌∷◌, ◌++◌}
 use Rattle.std.specs.Prelude.{Option, Some, None, Result, Ok, Err, codes, flat_map, ◌==◌}
 use Rattle.std.specs.Prelude.{if◌then◌else◌}
-use Rattle.std.specs.Fmt.{decimal, signed_decimal, digit_glyph}
+use Rattle.std.specs.Fmt.{decimal, signed_decimal}
 use Rattle.cfi_read_core.specs.declared.error.Error.{Error}
 use Rattle.cfi_read_core.specs.declared.instruction.UnwindExpression.{UnwindExpression}
 use Rattle.cfi_read_core.specs.ReadFunctions.{Source, Position, Extent, rest}
 use Rattle.cfi_read_core.specs.ReaderCalls.{bytes_left, read_at, remaining}
 use Rattle.cfi_read_core.specs.ExpressionPlaces.{expression_bytes}
+use Rattle.cfi_names.specs.Names.{byte_digits}
 use Rattle.cfi_object.specs.RegisterNames.{register_text}
 use Rattle.cfi_object.specs.declared.register_names.RegisterNames.{RegisterNames}
 use Rattle.cfi_programs.specs.Lines.{address_text}
@@ -38,21 +39,18 @@ operation_text names o = (operation_entry o.opcode).name ++ operand_text names o
 
 -- ---- bytes
 
-abbrev pub byte_text : ℕ → List ℕ
-byte_text b = digit_glyph false (b / 16) ∷ digit_glyph false (b % 16) ∷ []
-
 abbrev pub hexadecimal_bytes : List ℕ → List ℕ
-hexadecimal_bytes bytes = flat_map byte_text bytes
+hexadecimal_bytes bytes = flat_map byte_digits bytes
 
 -- those after an opcode
 abbrev pub bytes_text : List ℕ → List ℕ
 bytes_text [] = []
-bytes_text (b ∷ bs) = codes " 0x" ++ (byte_text b ++ hexadecimal_bytes bs)
+bytes_text (b ∷ bs) = codes " 0x" ++ (byte_digits b ++ hexadecimal_bytes bs)
 
 -- where an operation isn't known or is cut: the opcode, and all bytes after it
 abbrev pub unknown_text : List ℕ → List ℕ
 unknown_text [] = []
-unknown_text (opcode ∷ bs) = codes "DW_OP_0x" ++ (byte_text opcode ++ bytes_text bs)
+unknown_text (opcode ∷ bs) = codes "DW_OP_0x" ++ (byte_digits opcode ++ bytes_text bs)
 
 -- ---- operations in order
 

@@ -17,7 +17,7 @@ use Rattle.cfi_state.specs.declared.table.rules.RegisterRule.{RegisterRule}
 use Rattle.cfi_state.specs.Machine.{Parts}
 use Rattle.cfi_state.specs.Row.{Row}
 use Rattle.cfi_object.specs.RegisterNames.{register_text}
-use Rattle.cfi_names.specs.Names.{Part, parts}
+use Rattle.cfi_names.specs.Names.{NamePart, byte_digits, parts}
 use Rattle.cfi_names.specs.Utf8.{scalar}
 use Rattle.cfi_names.specs.declared.Kind.{Kind}
 use Rattle.cfi_names.specs.declared.Kind.TheVariants.{Shown, Control, Stray}
@@ -36,8 +36,7 @@ abbrev pub json_escape : ℕ → List ℕ
 json_escape c =
     if c == 34 then codes "\\\""
     else if c == 92 then codes "\\\\"
-    else if nat_lt c 0x20 then codes "\\u00"
-    ++ digit_glyph false (c / 16) ∷ digit_glyph false (c % 16) ∷ []
+    else if nat_lt c 0x20 then codes "\\u00" ++ byte_digits c
     else c ∷ []
 
 abbrev pub json_escaped : List ℕ → List ℕ
@@ -56,7 +55,7 @@ json_kind Shown bytes = json_escaped bytes
 json_kind Control bytes = number_escape (scalar bytes)
 json_kind Stray bytes = codes "\\ufffd"
 
-abbrev pub json_part : Part → List ℕ
+abbrev pub json_part : NamePart → List ℕ
 json_part part = json_kind part.kind part.bytes
 
 abbrev pub json_name : List ℕ → List ℕ

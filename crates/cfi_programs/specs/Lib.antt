@@ -18,7 +18,7 @@ pub mod WriterOutput
 pub mod Runs
 pub mod RowsCommandLine
 pub mod RowsProgramOutput
-pub mod RowsPlainLines
+pub mod RowsNoWrongLines
 pub mod CheckLines
 pub mod ReadingTexts
 pub mod DumpEntryLines

@@ -16,22 +16,22 @@ use Rattle.cfi_programs.specs.declared.operations.Width.TheVariants.{One, Two, F
 
 -- ---- the tables
 
-pub record Entry : Type 0 where
+pub record OperationEntry : Type 0 where
   pub name : List ℕ
   pub form : Form
 
-abbrev pub made : List ℕ → Form → Entry
+abbrev pub made : List ℕ → Form → OperationEntry
 made name form = record { name = name; form = form }
 
 -- what the table has for an opcode, or the other one
-abbrev pub found : ℕ → List (ℕ × Entry) → Entry → Entry
+abbrev pub found : ℕ → List (ℕ × OperationEntry) → OperationEntry → OperationEntry
 found opcode [] other = other
 found opcode (row ∷ rows) other = if row.0 == opcode then row.1 else found opcode rows other
 
 -- register values (section 2.5.1.2), objects and frames (section 2.5.1.3), the one that does
 -- nothing (section 2.5.1.6), and what names a place (sections 2.6.1.1 and 2.6.1.2)
-abbrev pub special_operations : List (ℕ × Entry)
-special_operations =
+abbrev pub special_table : List (ℕ × OperationEntry)
+special_table =
     (0x90, made (codes "DW_OP_regx") form.Register)
     ∷ (0x91, made (codes "DW_OP_fbreg") (Signed Leb128))
     ∷ (0x92, made (codes "DW_OP_bregx") form.RegisterOffset)
@@ -43,12 +43,12 @@ special_operations =
     ∷ (0x9f, made (codes "DW_OP_stack_value") Nothing)
     ∷ []
 
-unfoldable pub other_entry : ℕ → Entry
-other_entry opcode = found opcode special_operations (made [] form.Unknown)
+unfoldable pub other_entry : ℕ → OperationEntry
+other_entry opcode = found opcode special_table (made [] form.Unknown)
 
 -- control flow (section 2.5.1.5)
-abbrev pub control_flow_operations : List (ℕ × Entry)
-control_flow_operations =
+abbrev pub control_flow_table : List (ℕ × OperationEntry)
+control_flow_table =
     (0x28, made (codes "DW_OP_bra") (Signed Two))
     ∷ (0x29, made (codes "DW_OP_eq") Nothing)
     ∷ (0x2a, made (codes "DW_OP_ge") Nothing)
@@ -59,12 +59,12 @@ control_flow_operations =
     ∷ (0x2f, made (codes "DW_OP_skip") (Signed Two))
     ∷ []
 
-unfoldable pub control_entry : ℕ → Entry
-control_entry opcode = found opcode control_flow_operations (other_entry opcode)
+unfoldable pub control_entry : ℕ → OperationEntry
+control_entry opcode = found opcode control_flow_table (other_entry opcode)
 
 -- arithmetic and logical operations (section 2.5.1.4)
-abbrev pub logical_operations : List (ℕ × Entry)
-logical_operations =
+abbrev pub logical_table : List (ℕ × OperationEntry)
+logical_table =
     (0x1a, made (codes "DW_OP_and") Nothing)
     ∷ (0x20, made (codes "DW_OP_not") Nothing)
     ∷ (0x21, made (codes "DW_OP_or") Nothing)
@@ -74,11 +74,11 @@ logical_operations =
     ∷ (0x27, made (codes "DW_OP_xor") Nothing)
     ∷ []
 
-unfoldable pub logic_entry : ℕ → Entry
-logic_entry opcode = found opcode logical_operations (control_entry opcode)
+unfoldable pub logic_entry : ℕ → OperationEntry
+logic_entry opcode = found opcode logical_table (control_entry opcode)
 
-abbrev pub arithmetic_operations : List (ℕ × Entry)
-arithmetic_operations =
+abbrev pub arithmetic_table : List (ℕ × OperationEntry)
+arithmetic_table =
     (0x19, made (codes "DW_OP_abs") Nothing)
     ∷ (0x1b, made (codes "DW_OP_div") Nothing)
     ∷ (0x1c, made (codes "DW_OP_minus") Nothing)
@@ -89,12 +89,12 @@ arithmetic_operations =
     ∷ (0x23, made (codes "DW_OP_plus_uconst") (Unsigned Leb128))
     ∷ []
 
-unfoldable pub arithmetic_entry : ℕ → Entry
-arithmetic_entry opcode = found opcode arithmetic_operations (logic_entry opcode)
+unfoldable pub arithmetic_entry : ℕ → OperationEntry
+arithmetic_entry opcode = found opcode arithmetic_table (logic_entry opcode)
 
 -- stack operations (section 2.5.1.3)
-abbrev pub stack_operations : List (ℕ × Entry)
-stack_operations =
+abbrev pub stack_table : List (ℕ × OperationEntry)
+stack_table =
     (0x06, made (codes "DW_OP_deref") Nothing)
     ∷ (0x12, made (codes "DW_OP_dup") Nothing)
     ∷ (0x13, made (codes "DW_OP_drop") Nothing)
@@ -107,12 +107,12 @@ stack_operations =
     ∷ (0x95, made (codes "DW_OP_xderef_size") (Unsigned One))
     ∷ []
 
-unfoldable pub stack_entry : ℕ → Entry
-stack_entry opcode = found opcode stack_operations (arithmetic_entry opcode)
+unfoldable pub stack_entry : ℕ → OperationEntry
+stack_entry opcode = found opcode stack_table (arithmetic_entry opcode)
 
 -- literal encodings (section 2.5.1.1)
-abbrev pub literal_encodings : List (ℕ × Entry)
-literal_encodings =
+abbrev pub literal_table : List (ℕ × OperationEntry)
+literal_table =
     (0x03, made (codes "DW_OP_addr") form.Address)
     ∷ (0x08, made (codes "DW_OP_const1u") (Unsigned One))
     ∷ (0x09, made (codes "DW_OP_const1s") (Signed One))
@@ -126,15 +126,15 @@ literal_encodings =
     ∷ (0x11, made (codes "DW_OP_consts") (Signed Leb128))
     ∷ []
 
-unfoldable pub constant_entry : ℕ → Entry
-constant_entry opcode = found opcode literal_encodings (stack_entry opcode)
+unfoldable pub constant_entry : ℕ → OperationEntry
+constant_entry opcode = found opcode literal_table (stack_entry opcode)
 
 abbrev pub numbered_register : ℕ → Register
 numbered_register n = record { 0 = n }
 
 -- 0x30 to 0x4f are DW_OP_lit0 to lit31, 0x50 to 0x6f DW_OP_reg0 to reg31, and 0x70 to 0x8f
 -- DW_OP_breg0 to breg31
-abbrev pub operation_entry : ℕ → Entry
+abbrev pub operation_entry : ℕ → OperationEntry
 operation_entry opcode =
     if nat_lt opcode 0x30 then constant_entry opcode
     else if nat_lt opcode 0x50 then made (codes "DW_OP_lit" ++ decimal (opcode - 0x30)) Nothing

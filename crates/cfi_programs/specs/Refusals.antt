@@ -33,16 +33,16 @@ error_in Json before reason = error_object reason
 abbrev pub reason_line : Format → List ℕ → ℕ → Line
 reason_line format reason status = line (error_in format [] reason) status
 
--- that something was refused, by the name of the error
-abbrev pub refused_line : Format → List ℕ → Line
-refused_line format name = line (error_in format (codes "refused ") name) 1
+-- that something was refused, by the name of the error, or by that and what it says
+abbrev pub refusal_saying : Format → List ℕ → Line
+refusal_saying format words = line (error_in format (codes "refused ") words) 1
 
 abbrev pub refusal_in : Format → Error → Line
-refusal_in format error = refused_line format (name_of error)
+refusal_in format error = refusal_saying format (name_of error)
 
 -- the same with what the error says
 abbrev pub refusal_told : Format → Error → Line
-refusal_told format error = refused_line format (error_words format error)
+refusal_told format error = refusal_saying format (error_words format error)
 
 -- ---- after what was asked for, with which an object of JSON has begun
 

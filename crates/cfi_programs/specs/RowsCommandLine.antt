@@ -1,4 +1,4 @@
--- The words of the command line.
+-- The words of the command line of `cfi_rows`.
 use Rattle.std.specs.Prelude.{ℕ, Option, Some, None, List, ◌∷◌, codes, if◌then◌else◌}
 use Rattle.std.specs.Option.{option_and_then, option_map}
 use Rattle.std.specs.Str.{bytes_eq}

@@ -1,4 +1,4 @@
--- Which line is right for words and input.
+-- Which line of `cfi_rows` is right for words and input.
 use Rattle.std.specs.Prelude.{◌≡◌, ℕ, Bool, true, false, Option, Some, None, Result}
 use Rattle.cfi_read_core.specs.declared.error.Error.{Error}
 use Rattle.cfi_state.specs.Row.{Row}
@@ -13,45 +13,44 @@ use Rattle.cfi_programs.specs.Runs.{Tool}
 use Rattle.cfi_programs.specs.SectionOfWords.{given_by}
 use Rattle.cfi_programs.specs.AnswerLines.{plain_line}
 
--- ---- the room for an unwind
+-- ---- the limits of the storage of an unwind
 
-pub record Room : Type 0 where
-  pub rule_limit : Option ℕ  -- the most rules of a row; none where only memory bounds them
-  pub stack_limit : Option ℕ  -- the most rows at once, likewise
+pub record StorageLimits : Type 0 where
+  pub rules : Option ℕ  -- the most rules of a row; none where only memory bounds them
+  pub rows : Option ℕ  -- the most rows at once, likewise
   pub copies_free : Bool  -- a row's rules are copied without taking memory
 
-abbrev pub room : Option ℕ → Option ℕ → Bool → Room
-room rule_limit stack_limit copies_free =
-    record { rule_limit = rule_limit; stack_limit = stack_limit; copies_free = copies_free }
+abbrev pub limits : Option ℕ → Option ℕ → Bool → StorageLimits
+limits rules rows copies_free = record { rules = rules; rows = rows; copies_free = copies_free }
 
-abbrev pub room_of : Storage → Room
-room_of OnHeap = room (Some 192) (Some 4) true
-room_of Growing = room None None false
+abbrev pub limits_of : Storage → StorageLimits
+limits_of OnHeap = limits (Some 192) (Some 4) true
+limits_of Growing = limits None None false
 
 -- ---- the answer
 
 -- What may be answered to a request: the row for the address in the section, by the table of the
 -- header where there is one, or the first refusal on the way. Only an instruction that may allocate
--- may be refused for lack of it; where the room is fixed none is.
-abbrev pub IsRequestedRow : Room → Request → Bytes → Result (Row ℕ) Error → Type 0
-IsRequestedRow room request bytes answer =
-    IsGivenRow room.rule_limit room.stack_limit room.copies_free
+-- may be refused for lack of it; where the storage is fixed none is.
+abbrev pub IsRequestedRow : StorageLimits → Request → Bytes → Result (Row ℕ) Error → Type 0
+IsRequestedRow limits request bytes answer =
+    IsGivenRow limits.rules limits.rows limits.copies_free
     (given_by request.words bytes.section bytes.header) request.address answer
 
 -- ---- the line
 
--- the rows of sections, where the unwind of a request has so much room
-abbrev pub rows_tool_with : (Request → Room) → Tool
-rows_tool_with room_for = record {
+-- the rows of sections, where the storage for a request has these limits
+abbrev pub rows_tool_with : (Request → StorageLimits) → Tool
+rows_tool_with limits_for = record {
   Request = Request;
   request_of = request_of;
   meaning = λ request input. bytes_by request.words.header input;
   IsLine =
       λ request bytes printed.
-      (answer : Result (Row ℕ) Error) × IsRequestedRow (room_for request) request bytes answer
+      (answer : Result (Row ℕ) Error) × IsRequestedRow (limits_for request) request bytes answer
       × (printed ≡ plain_line Numbers answer);
 }
 
 -- the program
 abbrev pub rows_tool : Tool
-rows_tool = rows_tool_with (λ request. room_of request.storage)
+rows_tool = rows_tool_with (λ request. limits_of request.storage)

@@ -1,10 +1,10 @@
 -- Which output is right for the words and the input of a program, and what a run writes.
 --     LineOfWords tool words input printed      the output that is right for words and input
 --     IsLineFor tool request bytes printed      the output of a request, or that memory was refused
---     IsOwed tool request input printed      the same of words that may be wrong, or that the input
---         can't be read
+--     IsOwedBy tool request input printed      the same of words that may be wrong, or that the
+--         input can't be read
 --     IsRun tool words input written status      what a run writes, and its status
---     PrintsRun tool words input old new status      the same for a reader and a writer
+--     PrintsRunOf tool words input old new status      the same for a reader and a writer
 use Rattle.std.specs.Prelude.{◌≡◌, ◌⊎◌, ℕ, ◌≤◌, ◌<◌, ◌==◌, false, get_or, Option, Some, None, List}
 use Rattle.std.specs.Prelude.{Result, IsSome, IfSome}
 use Rattle.std.specs.Io.KnownBytes.{Appends}
@@ -79,26 +79,26 @@ PrintsAnswer tool request bytes old new result =
     (printed : Line) × Prints printed old new result × IsLineFor tool request bytes printed
 
 -- an output that is right, or that there was no memory or no input
-abbrev pub IsOwed : (tool : Tool) → Option tool.Request → List ℕ → Line → Type 0
-IsOwed tool request input printed =
+abbrev pub IsOwedBy : (tool : Tool) → Option tool.Request → List ℕ → Line → Type 0
+IsOwedBy tool request input printed =
     LineOfRequest tool request input printed
     ⊎ (IsSome request × ((printed ≡ out_of_memory) ⊎ (printed ≡ wrong_input)))
 
 -- where the bytes of the input are known, the writer was given what is owed for them, all of it or
 -- a beginning
-abbrev pub PrintsOwed :
+abbrev pub PrintsOwedBy :
     {E : Type 0} → (tool : Tool) → Option tool.Request → Option (List ℕ) → Option (List ℕ) →
     Option (List ℕ) → Result ℕ E → Type 0
-PrintsOwed tool request input old new result =
+PrintsOwedBy tool request input old new result =
     IfSome input
     (λ bytes.
-    (printed : Line) × Prints printed old new result × IsOwed tool request bytes printed)
+    (printed : Line) × Prints printed old new result × IsOwedBy tool request bytes printed)
 
 -- What was written by a run that ends with the status, for the words and all bytes of the input.
 pub record IsRun (tool : Tool) (words : Option (List (List ℕ))) (input written : List ℕ)
     (status : ℕ) : Type 0 where
   pub printed : Line
-  pub owed : IsOwed tool (requested tool words) input printed
+  pub owed : IsOwedBy tool (requested tool words) input printed
   -- all of it, with its status; or, where the output failed, a beginning of it
   pub ends :
       ((written ≡ printed.text) × (status ≡ printed.status))
@@ -119,9 +119,9 @@ pub record IsRun (tool : Tool) (words : Option (List (List ℕ))) (input written
 
 -- where the bytes of the input are known, what the writer was given and the status are those of a
 -- run
-abbrev pub PrintsRun :
+abbrev pub PrintsRunOf :
     Tool → Option (List (List ℕ)) → Option (List ℕ) → Option (List ℕ) → Option (List ℕ) → ℕ → Type 0
-PrintsRun tool words input old new status =
+PrintsRunOf tool words input old new status =
     IfSome input
     (λ bytes.
     (written : List ℕ) × Appends old new written × IsRun tool words bytes written status)

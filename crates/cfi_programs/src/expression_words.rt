@@ -3,7 +3,8 @@ ghost use Rattle.std.specs.Prelude.{◌≡◌, ◌++◌, Some, codes};
 ghost use Rattle.cfi_read_core.specs.ExpressionPlaces.{expression_bytes};
 ghost use Rattle.cfi_read_core.specs.ReaderCalls.{bytes_left, read_at};
 ghost use Rattle.cfi_programs.specs.WriterOutput.{Writes};
-ghost use Rattle.cfi_programs.specs.ExpressionWords.{bytes_text, byte_text, operation_comma};
+ghost use Rattle.cfi_names.specs.Names.{byte_digits};
+ghost use Rattle.cfi_programs.specs.ExpressionWords.{bytes_text, operation_comma};
 ghost use Rattle.cfi_programs.specs.ExpressionWords.{hexadecimal_bytes, hexadecimal_in, in_words};
 ghost use Rattle.cfi_programs.specs.ExpressionWords.{known_operation, operand_text, operation_text};
 ghost use Rattle.cfi_programs.specs.ExpressionWords.{unknown_text, with_operand, words_at};
@@ -233,7 +234,8 @@ fn write_left<R: Reader, W: Write>(output: &mut W, input: &R) -> io::Result<()>
 /// Writes an opcode, and the bytes after it.
 fn write_opcode<R: Reader, W: Write>(output: &mut W, opcode: u8, input: &R) -> io::Result<()>
     ensures { Writes (W.contents output.old) (W.contents output.new) result
-        (codes "DW_OP_0x" ++ (byte_text opcode ++ bytes_text (bytes_left (R.position input.now)))) }
+        (codes "DW_OP_0x"
+        ++ (byte_digits opcode ++ bytes_text (bytes_left (R.position input.now)))) }
 {
     write_text(output, b"DW_OP_0x")?;
     write_byte(output, opcode)?;
@@ -256,7 +258,7 @@ fn write_bytes_after<R: Reader, W: Write>(output: &mut W, input: &R) -> io::Resu
 fn write_first<R: Reader, W: Write>(output: &mut W, first: u8, input: &R) -> io::Result<()>
     ensures { Writes (W.contents output.old) (W.contents output.new) result
         (codes " 0x"
-        ++ (byte_text first ++ hexadecimal_bytes (bytes_left (R.position input.now)))) }
+        ++ (byte_digits first ++ hexadecimal_bytes (bytes_left (R.position input.now)))) }
 {
     write_text(output, b" 0x")?;
     write_byte(output, first)?;
@@ -277,7 +279,7 @@ fn write_hexadecimal<R: Reader, W: Write>(output: &mut W, input: &R) -> io::Resu
 
 /// Writes a byte in hexadecimal.
 fn write_byte<W: Write>(output: &mut W, byte: u8) -> io::Result<()>
-    ensures { Writes (W.contents output.old) (W.contents output.new) result (byte_text byte) }
+    ensures { Writes (W.contents output.old) (W.contents output.new) result (byte_digits byte) }
 {
     write_text(output, &[digit(byte / 16), digit(byte % 16)])
 }

@@ -1,6 +1,6 @@
 //! Names of functions, files and threads, as they are written.
 ghost use Rattle.std.specs.Prelude.{flat_map};
-ghost use Rattle.cfi_names.specs.Names.{byte_escape, part_view, shown, shown_part};
+ghost use Rattle.cfi_names.specs.Names.{byte_escape, name_part_view, shown, shown_part};
 ghost use Rattle.cfi_names.specs.Utf8.{scalar};
 ghost use Rattle.cfi_programs.specs.JsonLines.{json_name, json_part, number_escape};
 ghost use Rattle.cfi_programs.specs.WriterOutput.{Writes};
@@ -38,7 +38,7 @@ pub fn write_parts<W: Write>(output: &mut W, name: &[u8]) -> io::Result<()>
 /// Writes what is shown of a part of a name.
 fn write_part<W: Write>(output: &mut W, part: Part<'_>) -> io::Result<()>
     ensures { Writes (W.contents output.old) (W.contents output.new) result
-        (shown_part (part_view part.entry)) }
+        (shown_part (name_part_view part.entry)) }
 {
     match part.kind {
         Kind::Shown => write_text(output, part.bytes),
@@ -86,7 +86,7 @@ fn write_json_parts<W: Write>(output: &mut W, name: &[u8]) -> io::Result<()>
 /// Writes what stands for a part of a name in a string.
 fn write_json_part<W: Write>(output: &mut W, part: Part<'_>) -> io::Result<()>
     ensures { Writes (W.contents output.old) (W.contents output.new) result
-        (json_part (part_view part.entry)) }
+        (json_part (name_part_view part.entry)) }
 {
     match part.kind {
         Kind::Shown => write_escaped(output, part.bytes),

@@ -2,7 +2,7 @@
 ghost use Rattle.std.specs.Prelude.{◌++◌, [], ◌∷◌};
 ghost use Rattle.cfi_programs.specs.Refusals.{error_end, error_in, reason_end, reason_line};
 ghost use Rattle.cfi_programs.specs.Refusals.{refusal_end, refusal_in, refusal_line, refusal_told};
-ghost use Rattle.cfi_programs.specs.Refusals.{refused_line, wrong_hexadecimal, wrong_input};
+ghost use Rattle.cfi_programs.specs.Refusals.{refusal_saying, wrong_hexadecimal, wrong_input};
 ghost use Rattle.cfi_programs.specs.Refusals.{wrong_words};
 ghost use Rattle.cfi_programs.specs.ErrorWords.{error_words};
 ghost use Rattle.cfi_programs.specs.WriterOutput.{Writes, Prints};
@@ -61,7 +61,7 @@ pub fn write_reason<W: Write>(
 
 /// Prints that something was refused, by the name of the error, and returns the status 1.
 pub fn write_refused_name<W: Write>(output: &mut W, format: Format, name: &str) -> io::Result<u8>
-    ensures { Prints (refused_line format name.now)
+    ensures { Prints (refusal_saying format name.now)
         (W.contents output.old) (W.contents output.new) result }
 {
     write_error(output, format, b"refused ", name)?;

@@ -3,8 +3,8 @@ ghost use Rattle.std.specs.Prelude.{◌≡◌, ℕ, List, Option, IfSome, IsNone
 ghost use Rattle.std.specs.Process.{exit_status};
 ghost use Rattle.cfi_programs.specs.Input.{Bytes, ReadsSections, bytes_of_sections};
 ghost use Rattle.cfi_programs.specs.Lines.{Line};
-ghost use Rattle.cfi_programs.specs.Runs.{IsAskedFor, IsNoWrongLine, PrintsAnswer, PrintsOwed};
-ghost use Rattle.cfi_programs.specs.Runs.{PrintsRun, requested, tool_of};
+ghost use Rattle.cfi_programs.specs.Runs.{IsAskedFor, IsNoWrongLine, PrintsAnswer, PrintsOwedBy};
+ghost use Rattle.cfi_programs.specs.Runs.{PrintsRunOf, requested, tool_of};
 ghost use Rattle.cfi_programs.specs.Words.{texts, texts_given};
 
 use crate::arguments::{texts_of, words_after_name};
@@ -47,7 +47,7 @@ pub trait ProgramRequest: Copy {
             (W.contents output.old) (W.contents output.new) result };
 
     /// No answer is taken for a line that says that words or input are wrong.
-    ghost plain: { (request : Self) (bytes : Bytes) (printed : Line) →
+    ghost no_wrong_line: { (request : Self) (bytes : Bytes) (printed : Line) →
         is_line request bytes printed → IsNoWrongLine printed };
 }
 
@@ -59,7 +59,7 @@ pub fn run_process<Q: ProgramRequest, P: Env + AllocGlobal, R: Read, W: Write>(
     output: &mut W,
 ) -> ExitCode
     ensures { (words : Option (List (List ℕ)))
-        × PrintsRun (tool_of Q.request_of Q.meaning Q.is_line) words (R.remaining input.old)
+        × PrintsRunOf (tool_of Q.request_of Q.meaning Q.is_line) words (R.remaining input.old)
         (W.contents output.old) (W.contents output.new) (exit_status result) }
 {
     let alloc = rt.alloc();
@@ -78,7 +78,7 @@ fn run_for<Q: ProgramRequest, R: Read, W: Write>(
     input: &mut R,
     output: &mut W,
 ) -> ExitCode
-    ensures { PrintsRun (tool_of Q.request_of Q.meaning Q.is_line) (texts_given words.entry)
+    ensures { PrintsRunOf (tool_of Q.request_of Q.meaning Q.is_line) (texts_given words.entry)
         (R.remaining input.old) (W.contents output.old) (W.contents output.new)
         (exit_status result) }
 {
@@ -98,8 +98,9 @@ pub fn run_program<Q: ProgramRequest, R: Read, W: Write>(
     input: &mut R,
     output: &mut W,
 ) -> u8
-    ensures printed { PrintsRun (tool_of Q.request_of Q.meaning Q.is_line) (texts_given words.entry)
-        (R.remaining input.old) (W.contents output.old) (W.contents output.new) result }
+    ensures printed { PrintsRunOf (tool_of Q.request_of Q.meaning Q.is_line)
+        (texts_given words.entry) (R.remaining input.old)
+        (W.contents output.old) (W.contents output.new) result }
     ensures unread { IsNone (requested (tool_of Q.request_of Q.meaning Q.is_line)
         (texts_given words.entry)) → input.new ≡ input.old }
 {
@@ -127,7 +128,7 @@ fn print_line<Q: ProgramRequest, R: Read, W: Write>(
     output: &mut W,
 ) -> io::Result<u8>
     requires { IfSome request (IsAskedFor Q.request_of) }
-    ensures printed { PrintsOwed (tool_of Q.request_of Q.meaning Q.is_line) request
+    ensures printed { PrintsOwedBy (tool_of Q.request_of Q.meaning Q.is_line) request
         (R.remaining input.old) (W.contents output.old) (W.contents output.new) result }
     ensures unread { IsNone request → input.new ≡ input.old }
 {

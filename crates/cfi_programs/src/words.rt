@@ -66,7 +66,7 @@ impl SectionWords {
 
 /// Returns what the first three words say: `debug_frame` or `eh_frame`, `le` or `be`, and 1, 2, 4
 /// or 8; `None` where one is wrong.
-pub fn first(kind: &str, order: &str, size: &str) -> Option<SectionWords>
+pub fn first_words(kind: &str, order: &str, size: &str) -> Option<SectionWords>
     ensures { result ≡ first_words kind.now order.now size.now }
 {
     Some(SectionWords {

@@ -8,7 +8,7 @@
 ghost use Rattle.std.specs.Prelude.{ℕ, List, Option};
 ghost use Rattle.std.specs.Process.{exit_status};
 ghost use Rattle.cfi_programs.specs.RowsProgramOutput.{rows_tool};
-ghost use Rattle.cfi_programs.specs.Runs.{PrintsRun};
+ghost use Rattle.cfi_programs.specs.Runs.{PrintsRunOf};
 
 use cfi_programs::rows::Request;
 use cfi_programs::run::run_process;
@@ -23,7 +23,7 @@ fn main(rt: HostRuntime) -> ExitCode {
 
 /// Runs the program by the words of the process, and returns the status with which it ends.
 fn run<P: Env + AllocGlobal, R: Read, W: Write>(rt: &P, input: &mut R, output: &mut W) -> ExitCode
-    ensures { (words : Option (List (List ℕ))) × PrintsRun rows_tool words (R.remaining input.old)
+    ensures { (words : Option (List (List ℕ))) × PrintsRunOf rows_tool words (R.remaining input.old)
         (W.contents output.old) (W.contents output.new) (exit_status result) }
 {
     run_process::<Request, P, R, W>(rt, input, output)

@@ -10,7 +10,7 @@ ghost use Rattle.cfi_unwind.specs.WalkViews.{IsPartialOf, OfEither, cie_or_fde_v
 ghost use Rattle.cfi_unwind.specs.Scan.{read_fde};
 ghost use Rattle.cfi_elf.specs.FunctionNames.{name_in};
 ghost use Rattle.cfi_programs.specs.WriterOutput.{Writes};
-ghost use Rattle.cfi_programs.specs.DumpSectionTexts.{fde_rows, lines};
+ghost use Rattle.cfi_programs.specs.DumpSectionTexts.{fde_rows, answer_lines};
 ghost use Rattle.cfi_programs.specs.JsonLines.{json_addresses};
 ghost use Rattle.cfi_programs.specs.DumpRowTexts.{fde_addresses_in, addresses_line};
 ghost use Rattle.cfi_programs.specs.DumpRowTexts.{fde_addresses_text, contains_any, function_end};
@@ -108,7 +108,7 @@ fn write_if_asked_for<R: Reader<Offset = usize>, S: UnwindSection<R>, W: Write>(
     requires cie { HasCieOf R.position (S.view at.now.section).position fde.now }
     ensures { let read = fde_view R.position (λ n. n) fde.now in
         let from = section_of (S.view at.now.section) at.now.bases.now in
-        let rows = lines (of_section style from) (fde_rows from read) in
+        let rows = answer_lines (of_section style from) (fde_rows from read) in
         Writes (W.contents output.old) (W.contents output.new) result
         (if is_asked_for (given_addresses asked.entry.addresses) read
         then addresses_line style.format (name_in asked.entry.functions.now) read ++ rows else []) }
@@ -162,7 +162,7 @@ fn write_addressed_rows<R: Reader<Offset = usize>, S: UnwindSection<R>, W: Write
     requires cie { HasCieOf R.position (S.view at.now.section).position fde.now }
     ensures { let read = fde_view R.position (λ n. n) fde.now in
         let from = section_of (S.view at.now.section) at.now.bases.now in
-        let rows = lines (of_section style from) (fde_rows from read) in
+        let rows = answer_lines (of_section style from) (fde_rows from read) in
         Writes (W.contents output.old) (W.contents output.new) result
         (addresses_line style.format (name_in functions.now) read ++ rows) }
 {

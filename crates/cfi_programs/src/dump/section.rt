@@ -19,7 +19,7 @@ ghost use Rattle.cfi_programs.specs.Refusals.{refusal_told};
 ghost use Rattle.cfi_programs.specs.WriterOutput.{Writes};
 ghost use Rattle.cfi_programs.specs.DumpEntryLines.{fde_line, partial_fde_line};
 ghost use Rattle.cfi_programs.specs.DumpSectionTexts.{cie_text, entry_text, fde_instructions_text};
-ghost use Rattle.cfi_programs.specs.DumpSectionTexts.{fde_rows, fde_text, lines};
+ghost use Rattle.cfi_programs.specs.DumpSectionTexts.{fde_rows, fde_text, answer_lines};
 ghost use Rattle.cfi_programs.specs.ReadingTexts.{item_text};
 ghost use Rattle.cfi_programs.specs.DumpProgramOutput.{printed_format, printed_entry, printed_text};
 
@@ -208,8 +208,8 @@ fn write_whole_fde<R: Reader<Offset = usize>, S: UnwindSection<R>, W: Write>(
         let read = fde_view R.position (λ n. n) fde.now in
         let instructions = fde_instructions_text names from read in
         Writes (W.contents output.old) (W.contents output.new) result
-        (fde_line (name_in functions.now read.initial) read
-        ++ (instructions ++ lines (of_section (text_style names) from) (fde_rows from read))) }
+        (fde_line (name_in functions.now read.initial) read ++ (instructions
+        ++ answer_lines (of_section (text_style names) from) (fde_rows from read))) }
 {
     write_fde(output, functions, fde)?;
     write_fde_instructions(output, names, at, fde)?;
@@ -295,7 +295,7 @@ pub(crate) fn write_rows<R: Reader<Offset = usize>, S: UnwindSection<R>, W: Writ
     requires own { IsFdeOf R.position (S.view at.now.section).position fde.now }
     requires cie { HasCieOf R.position (S.view at.now.section).position fde.now }
     ensures { Writes (W.contents output.old) (W.contents output.new) result
-        (lines (of_section style (section_of (S.view at.now.section) at.now.bases.now))
+        (answer_lines (of_section style (section_of (S.view at.now.section) at.now.bases.now))
         (fde_rows (section_of (S.view at.now.section) at.now.bases.now)
         (fde_view R.position (λ n. n) fde.now))) }
 {
@@ -319,7 +319,7 @@ fn write_table<R: Reader<Offset = usize>, S: UnwindSection<R>, W: Write>(
         let wording = worded style from.address_size from.position in
         (program : Program ℕ) → IsStateAfter setting state.so_far program
         → Writes (W.contents output.old) (W.contents output.new) result
-        (lines wording (answers_to_come setting (at_program state program))) }
+        (answer_lines wording (answers_to_come setting (at_program state program))) }
 {
     match style.format {
         Format::Text => write_text_table(
@@ -350,7 +350,7 @@ fn write_text_table<R: Reader<Offset = usize>, S: UnwindSection<R>, W: Write>(
         let wording = worded (text_style names) from.address_size from.position in
         (program : Program ℕ) → IsStateAfter setting state.so_far program
         → Writes (W.contents output.old) (W.contents output.new) result
-        (lines wording (answers_to_come setting (at_program state program))) }
+        (answer_lines wording (answers_to_come setting (at_program state program))) }
 {
     text.clear();
     while let Some(answer) = table.next_row().transpose() {
@@ -377,7 +377,7 @@ fn write_each<R: Reader<Offset = usize>, S: UnwindSection<R>, W: Write>(
         let wording = worded style from.address_size from.position in
         (program : Program ℕ) → IsStateAfter setting state.so_far program
         → Writes (W.contents output.old) (W.contents output.new) result
-        (lines wording (answers_to_come setting (at_program state program))) }
+        (answer_lines wording (answers_to_come setting (at_program state program))) }
 {
     while let Some(answer) = table.next_row().transpose() {
         write_answer(output, style, section, answer)?;

@@ -1,4 +1,4 @@
-//! The words of the command line.
+//! The words of the command line of `cfi_rows`.
 ghost use Rattle.std.specs.Prelude.{◌≡◌};
 ghost use Rattle.cfi_programs.specs.Words.{texts};
 ghost use Rattle.cfi_programs.specs.RowsCommandLine.{first_four_words, option_word, option_words};
@@ -35,15 +35,15 @@ pub fn parse(words: &[&str]) -> Option<Request>
     let [kind, order, size, address, options @ ..] = words else {
         return None;
     };
-    with_options(first(kind, order, size, address)?, options)
+    with_options(first_four_words(kind, order, size, address)?, options)
 }
 
 /// Returns what the first four words ask for; `None` where one is wrong.
-fn first(kind: &str, order: &str, size: &str, address: &str) -> Option<Request>
+fn first_four_words(kind: &str, order: &str, size: &str, address: &str) -> Option<Request>
     ensures { result ≡ first_four_words kind.now order.now size.now address.now }
 {
     Some(Request {
-        words: words::first(kind, order, size)?,
+        words: words::first_words(kind, order, size)?,
         address: number_in(address)?,
         storage: Storage::OnHeap,
     })

@@ -1,6 +1,6 @@
 //! The row for the address that a request asks for.
 ghost use Rattle.cfi_read_core.specs.ReaderCalls.{map_ok};
-ghost use Rattle.cfi_programs.specs.RowsProgramOutput.{rows_tool, room, rows_tool_with};
+ghost use Rattle.cfi_programs.specs.RowsProgramOutput.{limits, rows_tool, rows_tool_with};
 ghost use Rattle.cfi_programs.specs.RowsProgramOutput.{IsRequestedRow};
 ghost use Rattle.cfi_programs.specs.Input.{bytes_of_sections};
 ghost use Rattle.cfi_programs.specs.Runs.{PrintsAnswer};
@@ -41,7 +41,7 @@ fn print_row<S: UnwindContextStorage<usize>, W: Write>(
     output: &mut W,
 ) -> io::Result<u8>
     ensures { PrintsAnswer
-        (rows_tool_with (λ _. room S.Rules.limit S.Stack.limit S.Rules.copies_free))
+        (rows_tool_with (λ _. limits S.Rules.limit S.Stack.limit S.Rules.copies_free))
         request.now (bytes_of_sections sections.now)
         (W.contents output.old) (W.contents output.new) result }
 {
@@ -59,7 +59,7 @@ fn find_row<'ctx, S: UnwindContextStorage<usize>>(
     sections: &Sections,
     context: &'ctx mut UnwindContext<usize, S>,
 ) -> Result<&'ctx UnwindTableRow<usize, S::Rules>, Error>
-    ensures { IsRequestedRow (room S.Rules.limit S.Stack.limit S.Rules.copies_free)
+    ensures { IsRequestedRow (limits S.Rules.limit S.Stack.limit S.Rules.copies_free)
         request.now (bytes_of_sections sections.now) (map_ok (λ row. row.now) result) }
 {
     let header = sections.header.as_slice();

@@ -2,8 +2,8 @@
 ghost use Rattle.std.specs.Prelude.{◌≡◌, IsNone};
 ghost use Rattle.cfi_programs.specs.RowsProgramOutput.{rows_tool};
 ghost use Rattle.cfi_programs.specs.RowsCommandLine.{request_of};
-ghost use Rattle.cfi_programs.specs.RowsPlainLines.{plain};
-ghost use Rattle.cfi_programs.specs.Runs.{PrintsRun, requested};
+ghost use Rattle.cfi_programs.specs.RowsNoWrongLines.{no_wrong_line};
+ghost use Rattle.cfi_programs.specs.Runs.{PrintsRunOf, requested};
 ghost use Rattle.cfi_programs.specs.Words.{texts_given};
 
 use crate::input::{Sections, read_sections};
@@ -39,7 +39,7 @@ impl ProgramRequest for Request {
         print_answer(alloc, self, sections, output)
     }
 
-    ghost plain = { plain };
+    ghost no_wrong_line = { no_wrong_line };
 }
 
 /// Runs the program and returns its status. `words` are those after the program's name, `None`
@@ -57,7 +57,7 @@ pub fn run<R: Read, W: Write>(
     input: &mut R,
     output: &mut W,
 ) -> u8
-    ensures printed { PrintsRun rows_tool (texts_given words.entry) (R.remaining input.old)
+    ensures printed { PrintsRunOf rows_tool (texts_given words.entry) (R.remaining input.old)
         (W.contents output.old) (W.contents output.new) result }
     ensures unread { IsNone (requested rows_tool (texts_given words.entry)) →
         input.new ≡ input.old }

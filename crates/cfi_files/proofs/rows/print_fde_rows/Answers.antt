@@ -1,5 +1,5 @@
 use Rattle.std.proofs.Common.{inl, inr, refl}
-use Rattle.cfi_files.specs.FileLines.{out_of_memory}
+use Rattle.cfi_files.specs.FileLines.{out_of_memory_in}
 use Rattle.cfi_files.proofs.rows.print_fde_rows.Goals as goal
 
 pub returns-in-Ok : goal.returns-in-Ok
@@ -8,4 +8,4 @@ returns-in-Ok g c =
     (printed.0, printed.1, inl printed.2)
 
 pub returns-in-Err : goal.returns-in-Err
-returns-in-Err g c = (out_of_memory c.args.style.format, c.write_refusal_in.ensures, inr refl)
+returns-in-Err g c = (out_of_memory_in c.args.style.format, c.write_refusal_in.ensures, inr refl)

@@ -1,5 +1,5 @@
 use Rattle.std.proofs.Common.{inl, inr, refl}
-use Rattle.cfi_files.specs.FileLines.{out_of_memory, wrong_input}
+use Rattle.cfi_files.specs.FileLines.{out_of_memory_in, wrong_input_in}
 use Rattle.cfi_files.specs.FileOutputs.{format_for}
 use Rattle.cfi_files.proofs.Joined.{for_input}
 use Rattle.cfi_files.proofs.run.print_whole.Goals as goal
@@ -7,9 +7,9 @@ use Rattle.cfi_files.proofs.run.print_whole.Goals as goal
 pub returns-in-Err-OutOfMemory : goal.returns-in-Err-OutOfMemory
 returns-in-Err-OutOfMemory g c =
     let format = format_for c.args.request.printed in
-    for_input (g.I.FileInput.bytes c.args.input.now) _ (λ bytes. (out_of_memory format, (rw c.format-format.ensures at c.write_refusal_in.ensures), inr (inl refl)))
+    for_input (g.I.FileInput.bytes c.args.input.now) _ (λ bytes. (out_of_memory_in format, (rw c.format-format.ensures at c.write_refusal_in.ensures), inr (inl refl)))
 
 pub returns-in-Err : goal.returns-in-Err
 returns-in-Err g c =
     let format = format_for c.args.request.printed in
-    for_input (g.I.FileInput.bytes c.args.input.now) _ (λ bytes. (wrong_input format, (rw c.format-format.ensures at c.write_wrong_input.ensures), inr (inr refl)))
+    for_input (g.I.FileInput.bytes c.args.input.now) _ (λ bytes. (wrong_input_in format, (rw c.format-format.ensures at c.write_wrong_input.ensures), inr (inr refl)))

@@ -1,11 +1,11 @@
 use Rattle.std.proofs.Common.{ap, map, refl, rules, sym}
 use Rattle.std.proofs.lemmas.List.Sorted.{answers_always}
-use Rattle.cfi_flame.specs.Flames.{AreSorted, drawing_view}
+use Rattle.cfi_flame.specs.Flames.{AreSortedByBytes, drawing_view}
 use Rattle.cfi_flame.specs.FoldedStacks.{stack_view}
 use Rattle.cfi_flame.proofs.FlameLemmas.{sorted_drawn, sorted_refused}
 use Rattle.cfi_flame.proofs.flame.flame_of_stacks.Goals as goal
 
-are_sorted : (c : goal.After-drop-sorted) → AreSorted (map stack_view c.args.stacks.items) (map stack_view c.as_slice.result.now)
+are_sorted : (c : goal.After-drop-sorted) → AreSortedByBytes (map stack_view c.args.stacks.items) (map stack_view c.as_slice.result.now)
 are_sorted c =
     let keys = answers_always _ _ _ (λ f a r next called. search rules) in record {
       read = c.args.stacks.items;

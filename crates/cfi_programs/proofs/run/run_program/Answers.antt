@@ -5,13 +5,13 @@ use Rattle.cfi_programs.proofs.run.run_program.Goals as goal
 
 pub returns-in-Ok-Ok-clause-printed : goal.returns-in-Ok-Ok-clause-printed
 returns-in-Ok-Ok-clause-printed g c = IfSome_then (g.R.Read.remaining c.args.input.now) c.print_line-printed.ensures.printed (λ bytes prints.
-    run_ends (tool_of g.Q.ProgramRequest.request_of g.Q.ProgramRequest.meaning g.Q.ProgramRequest.is_line) g.met.Q.ProgramRequest.plain _ bytes _ _ _ _ c.in-Ok-Ok.status c.in-Ok-Ok.is-0 c.flush-flushed.ensures.bytes
+    run_ends (tool_of g.Q.ProgramRequest.request_of g.Q.ProgramRequest.meaning g.Q.ProgramRequest.is_line) g.met.Q.ProgramRequest.no_wrong_line _ bytes _ _ _ _ c.in-Ok-Ok.status c.in-Ok-Ok.is-0 c.flush-flushed.ensures.bytes
     (rw c.requested.ensures at prints))
 
 pub returns-in_default-clause-printed : goal.returns-in_default-clause-printed
 returns-in_default-clause-printed g c = IfSome_then (g.R.Read.remaining c.args.input.now) c.print_line-printed.ensures.printed (λ bytes prints.
-    run_fails (tool_of g.Q.ProgramRequest.request_of g.Q.ProgramRequest.meaning g.Q.ProgramRequest.is_line) g.met.Q.ProgramRequest.plain _ bytes _ _ _ _ c.flush-flushed.ensures.bytes (rw c.requested.ensures at prints))
+    run_fails (tool_of g.Q.ProgramRequest.request_of g.Q.ProgramRequest.meaning g.Q.ProgramRequest.is_line) g.met.Q.ProgramRequest.no_wrong_line _ bytes _ _ _ _ c.flush-flushed.ensures.bytes (rw c.requested.ensures at prints))
 
 pub returns-in_default-2-clause-printed : goal.returns-in_default-2-clause-printed
 returns-in_default-2-clause-printed g c = IfSome_then (g.R.Read.remaining c.args.input.now) c.print_line-printed.ensures.printed (λ bytes prints.
-    run_fails (tool_of g.Q.ProgramRequest.request_of g.Q.ProgramRequest.meaning g.Q.ProgramRequest.is_line) g.met.Q.ProgramRequest.plain _ bytes _ _ _ _ c.flush-flushed.ensures.bytes (rw c.requested.ensures at prints))
+    run_fails (tool_of g.Q.ProgramRequest.request_of g.Q.ProgramRequest.meaning g.Q.ProgramRequest.is_line) g.met.Q.ProgramRequest.no_wrong_line _ bytes _ _ _ _ c.flush-flushed.ensures.bytes (rw c.requested.ensures at prints))

@@ -5,7 +5,7 @@ use Rattle.cfi_state.specs.AcceptedInstructions.{at_program}
 use Rattle.cfi_state.specs.Program.{Program}
 use Rattle.cfi_state.specs.UnwindTableStates.{answers_to_come}
 use Rattle.cfi_unwind.specs.UnwindTableViews.{table_state}
-use Rattle.cfi_programs.specs.DumpSectionTexts.{lines}
+use Rattle.cfi_programs.specs.DumpSectionTexts.{answer_lines}
 use Rattle.cfi_programs.specs.Wordings.{worded}
 use Rattle.cfi_programs.proofs.DumpRowsWritten.{StandsAt, answers_left}
 use Rattle.cfi_programs.proofs.dump.section.write_each.Given as goal
@@ -19,7 +19,7 @@ invariant-loop-answer g l =
     let wording = worded l.style from.address_size from.position in
     (setting_of l.table.parameters (Some 192) (Some 4) ≡ setting)
     × ((program : Program ℕ) → IsStateAfter setting first.so_far program
-    → StandsAt wording setting (table_state g.R.Reader.position (λ n. n) l.table) (g.W.Write.contents l.initial.output) (g.W.Write.contents l.output) [] (lines wording (answers_to_come setting (at_program first program))))
+    → StandsAt wording setting (table_state g.R.Reader.position (λ n. n) l.table) (g.W.Write.contents l.initial.output) (g.W.Write.contents l.output) [] (answer_lines wording (answers_to_come setting (at_program first program))))
 
 abbrev pub decreases-loop-answer : goal.decreases-loop-answer
 decreases-loop-answer g l = answers_left (table_state g.R.Reader.position (λ n. n) l.table)

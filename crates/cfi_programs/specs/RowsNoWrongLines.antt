@@ -11,12 +11,12 @@ use Rattle.cfi_programs.specs.Runs.{IsNoWrongLine}
 use Rattle.cfi_programs.specs.declared.rows.command_line.Request.{Request}
 use Rattle.cfi_programs.specs.RowsProgramOutput.{rows_tool}
 
-plain_answer : (answer : Result (Row ℕ) Error) → IsNoWrongLine (plain_line Numbers answer)
-plain_answer (Ok row) = record { beginning = refl; low = lit≤ tt }
-plain_answer (Err e) = record { beginning = refl; low = lit≤ tt }
+no_wrong_answer : (answer : Result (Row ℕ) Error) → IsNoWrongLine (plain_line Numbers answer)
+no_wrong_answer (Ok row) = record { beginning = refl; low = lit≤ tt }
+no_wrong_answer (Err e) = record { beginning = refl; low = lit≤ tt }
 
-pub plain :
+pub no_wrong_line :
     (request : Request) (bytes : Bytes) (printed : Line) → rows_tool.IsLine request bytes printed →
     IsNoWrongLine printed
-plain request bytes printed (answer, is, e) =
-    subst (λ line. IsNoWrongLine line) (sym e) (plain_answer answer)
+no_wrong_line request bytes printed (answer, is, e) =
+    subst (λ line. IsNoWrongLine line) (sym e) (no_wrong_answer answer)

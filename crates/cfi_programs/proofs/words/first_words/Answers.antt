@@ -1,6 +1,6 @@
 use Rattle.std.proofs.Common.{◌≡◌, Some, sym, ◌∙◌}
 use Rattle.cfi_programs.specs.Words.{kind_named, order_named, size_named}
-use Rattle.cfi_programs.proofs.words.first.Goals as goal
+use Rattle.cfi_programs.proofs.words.first_words.Goals as goal
 
 pub returns : goal.returns
 returns c =
