@@ -12,7 +12,7 @@ use Rattle.cfi_cores.specs.declared.core_file.Core.{Core as CoreOfCode}
 use Rattle.cfi_cores.specs.declared.error.CoreError.{CoreError}
 use Rattle.cfi_cores.specs.declared.error.CoreError.TheVariants.{OutOfMemory}
 use Rattle.cfi_cores.specs.CoreFiles.{Core, IsCore, IsCoreOf, core_of, core_view}
-use Rattle.cfi_cores.specs.CoreMemories.{CoreMemory, number_at}
+use Rattle.cfi_cores.specs.CoreMemories.{CoreMemory, memory_number}
 use Rattle.cfi_cores.specs.CoreSegments.{CoreSegment}
 use Rattle.cfi_cores.specs.CoreThreads.{CoreThread}
 use Rattle.cfi_stacks.specs.declared.listing.ThreadListing.{ThreadListing}
@@ -63,8 +63,8 @@ printed_by listing core opened files old new result are (printed, prints, inr no
 
 -- a thread's text, where what is mapped and the memory are these
 pub text_there : (listing : ThreadListing) (machine : SampleMachine) (files : List KnownFile) (list these : List MappedCode) (m memory : CoreMemory) (name of : Option (List ℕ)) (thread : CoreThread) (text : List ℕ) → list ≡ these → m ≡ memory → name ≡ of
-    → IsThreadText listing machine files list (number_at m) name thread text → IsThreadText listing machine files these (number_at memory) of thread text
+    → IsThreadText listing machine files list (memory_number m) name thread text → IsThreadText listing machine files these (memory_number memory) of thread text
 text_there listing machine files list these m memory name of thread text mapped same named is =
-    subst (λ (list : List MappedCode). IsThreadText listing machine files list (number_at memory) of thread text) mapped
-    (subst (λ (m : CoreMemory). IsThreadText listing machine files list (number_at m) of thread text) same
-    (subst (λ (n : Option (List ℕ)). IsThreadText listing machine files list (number_at m) n thread text) named is))
+    subst (λ (list : List MappedCode). IsThreadText listing machine files list (memory_number memory) of thread text) mapped
+    (subst (λ (m : CoreMemory). IsThreadText listing machine files list (memory_number m) of thread text) same
+    (subst (λ (n : Option (List ℕ)). IsThreadText listing machine files list (memory_number m) n thread text) named is))

@@ -4,7 +4,7 @@ use Rattle.std.specs.Option.{option_eq}
 use Rattle.std.proofs.Math.Seq.{drop-cons}
 use Rattle.std.proofs.lemmas.List.{map-append, take-append-drop}
 use Rattle.std.specs.List.{flat_map}
-use Rattle.cfi_names.specs.Names.{Part, first_part, parts, shown, shown_part}
+use Rattle.cfi_names.specs.Names.{NamePart, first_part, parts, shown, shown_part}
 use Rattle.cfi_names.proofs.NameLemmas.{one_made}
 use Rattle.cfi_flame.specs.declared.folded.FoldedError.{FoldedError}
 use Rattle.cfi_flame.specs.declared.folded.FoldedError.TheVariants.{OutOfMemory, NotFolded, NoSamples, TooManySamples}
@@ -56,11 +56,11 @@ one_mapped f text line next all xs i d inside e h =
     ∙ ap (λ (rest : List ℕ). line ++ map f (flat_map text rest)) (sym first) ∙ h
 
 -- a name, part by part
-mapped_parts : (f : ℕ → ℕ) (parts : List Part) → map f (flat_map shown_part parts) ≡ flat_map (λ part. map f (shown_part part)) parts
+mapped_parts : (f : ℕ → ℕ) (parts : List NamePart) → map f (flat_map shown_part parts) ≡ flat_map (λ part. map f (shown_part part)) parts
 mapped_parts f [] = refl
 mapped_parts f (part ∷ parts) = map-append f (shown_part part) (flat_map shown_part parts) ∙ ap (λ (more : List ℕ). map f (shown_part part) ++ more) (mapped_parts f parts)
 
-pub one_named_part : (f : ℕ → ℕ) (bytes line : List ℕ) (part : Part) (left next all : List ℕ) → 0 < length bytes → part ≡ first_part bytes → left ≡ drop (length part.bytes) bytes → next ≡ line ++ map f (shown_part part)
+pub one_named_part : (f : ℕ → ℕ) (bytes line : List ℕ) (part : NamePart) (left next all : List ℕ) → 0 < length bytes → part ≡ first_part bytes → left ≡ drop (length part.bytes) bytes → next ≡ line ++ map f (shown_part part)
     → line ++ map f (shown bytes) ≡ all → next ++ map f (shown left) ≡ all
 one_named_part f bytes line part left next all some first is e h =
     ap (λ (more : List ℕ). next ++ more) (mapped_parts f (parts left))

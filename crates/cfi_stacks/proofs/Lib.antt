@@ -21,6 +21,7 @@ mod TurnLemmas
 mod AroundLemmas
 mod ShownLemmas
 mod SampleTurns
+mod TakenLemmas
 mod FoundLemmas
 mod SortedPieces
 mod WantedPieces

@@ -31,15 +31,15 @@ use Rattle.cfi_processes.specs.OpenedFiles.{Opened}
 use Rattle.cfi_processes.specs.Registers.{pc_number}
 use Rattle.cfi_processes.specs.Registers.{machine_abi}
 use Rattle.cfi_processes.specs.WantedFiles.{with_file}
-use Rattle.cfi_processes.specs.SampleStacks.{Room}
+use Rattle.cfi_processes.specs.SampleStacks.{WalkRoom}
 use Rattle.cfi_processes.specs.Wanted.{Wanted}
-use Rattle.cfi_cores.specs.Builds.{build_of, image_of}
+use Rattle.cfi_cores.specs.Builds.{build_of, mapped_image}
 use Rattle.cfi_cores.specs.Builds.{mapped_start}
 use Rattle.cfi_cores.specs.CoreFiles.{Core}
 use Rattle.cfi_cores.specs.CoreMemories.{CoreMemory}
 use Rattle.cfi_cores.specs.PartialCores.{bytes_if, head_in, is_head, segment_at, with_all}
 use Rattle.cfi_cores.specs.CoreSegments.{CoreSegment, bytes_at}
-use Rattle.cfi_cores.specs.CoreThreads.{CoreThread, register_of}
+use Rattle.cfi_cores.specs.CoreThreads.{CoreThread, thread_register}
 use Rattle.cfi_cores.specs.MappedFiles.{CoreMapping}
 use Rattle.cfi_cores.specs.Vdso.{vdso_name}
 use Rattle.cfi_elf.specs.Images.{Image, IsImageOf}
@@ -120,7 +120,7 @@ module _ (bytes : List ℕ) (core : Core) (places : List ProgramHeader) (heads :
   same_code : (m : CoreMapping) → is_code core.segments m ≡ is_code whole.segments m
   same_code m = ap (λ (segments : List CoreSegment). is_code segments m) heads ∙ all_same bytes core.mapped m places
 
-  same_image : (name : List ℕ) → image_of core.segments core.mapped name ≡ image_of whole.segments core.mapped name
+  same_image : (name : List ℕ) → mapped_image core.segments core.mapped name ≡ mapped_image whole.segments core.mapped name
   same_image name = by (mapped_start core.mapped name) refl
     where
       by : (o : Option ℕ) → mapped_start core.mapped name ≡ o → option_and_then (bytes_at core.segments) o ≡ option_and_then (bytes_at whole.segments) o
@@ -149,15 +149,15 @@ module _ (bytes : List ℕ) (core : Core) (places : List ProgramHeader) (heads :
 -- ---- a walk over a part of the stack that lacks nothing
 
 module _ {R T : Type 0} (position : R → Position) (number : T → ℕ) (rule_limit stack_limit : Option ℕ) (copies_free : Bool) (modules : List (LoadedModule R)) (machine : SampleMachine) (m m' : ℕ → ℕ → Option ℕ)
-    (more : Extends m m') (thread : CoreThread) (old : Room) (result : Result Walk NoFrames) (new : Room) (whole : walk_lacks machine result ≡ false) where
+    (more : Extends m m') (thread : CoreThread) (old : WalkRoom) (result : Result Walk NoFrames) (new : WalkRoom) (whole : walk_lacks machine result ≡ false) where
   -- the same frames; of the last one more registers may be known
   pub record Unwound : Type 0 where
-    pub room : Room
+    pub room : WalkRoom
     pub unwound : IsUnwound position number rule_limit stack_limit copies_free modules machine m' thread old result room
     pub frames : room.frames ≡ new.frames
 
   record UnwoundFrom (pc : Option ℕ) : Type 0 where
-    room : Room
+    room : WalkRoom
     unwound : IsUnwoundFrom position number rule_limit stack_limit copies_free modules machine m' thread old result room pc
     frames : room.frames ≡ new.frames
 
@@ -183,7 +183,7 @@ module _ {R T : Type 0} (position : R → Position) (number : T → ℕ) (rule_l
 
   pub unwound_more : IsUnwound position number rule_limit stack_limit copies_free modules machine m thread old result new → Unwound
   unwound_more is =
-      let u = by_pc (register_of machine thread (pc_number machine)) is in
+      let u = by_pc (thread_register machine thread (pc_number machine)) is in
       record { room = u.room; unwound = u.unwound; frames = u.frames }
 
 -- ---- results that may hold something

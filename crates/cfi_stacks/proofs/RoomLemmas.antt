@@ -13,13 +13,13 @@ use Rattle.cfi_step.specs.CachedRows.{AreAlike, AreCachedFor, AreNumbered, Keeps
 use Rattle.cfi_processes.specs.declared.file_code.FileCode.{FileCode}
 use Rattle.cfi_processes.specs.declared.profile_files.ProfileFile.{ProfileFile}
 use Rattle.cfi_processes.specs.FileModules.{AreModulesOfFiles, IsModuleOfFiles}
-use Rattle.cfi_processes.specs.SampleStacks.{Beginning, HasRoom, IsUnwoundFrom, Room as WalkRoom, beginning_of}
+use Rattle.cfi_processes.specs.SampleStacks.{Beginning, HasRoom, IsUnwoundFrom, WalkRoom, beginning_of}
 use Rattle.cfi_processes.specs.SampleStacks.{IsSampleUnwound}
 use Rattle.cfi_perf.specs.Samples.{UserState}
 use Rattle.cfi_processes.specs.declared.registers.SampleMachine.{SampleMachine}
 use Rattle.cfi_processes.specs.declared.sample_stack.NoFrames.{NoFrames}
 use Rattle.cfi_processes.specs.Registers.{pc_number}
-use Rattle.cfi_cores.specs.CoreThreads.{CoreThread, register_of}
+use Rattle.cfi_cores.specs.CoreThreads.{CoreThread, thread_register}
 use Rattle.cfi_stacks.specs.ThreadStacks.{IsUnwound as IsThreadUnwound, IsUnwoundFrom as IsThreadUnwoundFrom}
 use Rattle.cfi_stacks.specs.declared.room.Room.{Room}
 use Rattle.cfi_stacks.specs.Rooms.{AreKeptFor, IsRoomFor, KeepsNoRows}
@@ -114,4 +114,4 @@ module _ (modules : Modules) (machine : SampleMachine) (old : WalkRoom) (result 
 
   pub thread_fits : (memory : ℕ → ℕ → Option ℕ) (thread : CoreThread) (n : ℕ) (before : List StackFrame) → n ≡ length new.frames → IsThreadUnwound (slice_position is_big) (λ n. n) (Some 192) (Some 4) true modules machine memory thread old result new
       → Fits (refill n before new.frames) result
-  thread_fits memory thread n before long is = refilled n before long (by_pc memory thread (register_of machine thread (pc_number machine)) is)
+  thread_fits memory thread n before long is = refilled n before long (by_pc memory thread (thread_register machine thread (pc_number machine)) is)

@@ -10,7 +10,7 @@ use Rattle.std.specs.Ordering.{MatchOrdering, is_lt, nat_cmp}
 use Rattle.std.specs.declared.cmp.Ordering.{Ordering}
 use Rattle.std.specs.declared.cmp.Ordering.TheVariants.{Less, Equal, Greater}
 use Rattle.cfi_cores.specs.declared.segments.CoreSegment.{CoreSegment as SegmentOfCode}
-use Rattle.cfi_cores.specs.CoreSegments.{AreSorted, CoreSegment, segment_view}
+use Rattle.cfi_cores.specs.CoreSegments.{AreSortedByAddress, CoreSegment, segment_view}
 
 both : (a b : Bool) → (a && b) ≡ true → (a ≡ true) × (b ≡ true)
 both true b is = (refl, is)
@@ -112,7 +112,7 @@ viewed (s ∷ found) = ap (λ (others : List CoreSegment). s ∷ others) (viewed
 pub windows_of : List CoreSegment → List CoreSegment
 windows_of found = map segment_view (sorted (λ (s : SegmentOfCode). s.start) (map of_code found))
 
-pub windows_sorted : (found : List CoreSegment) → AreSorted found (windows_of found)
+pub windows_sorted : (found : List CoreSegment) → AreSortedByAddress found (windows_of found)
 unfolding windows_of
 windows_sorted found = record {
   read = map of_code found;

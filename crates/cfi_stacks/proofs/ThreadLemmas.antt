@@ -9,11 +9,11 @@ use Rattle.cfi_step.specs.declared.module.LoadedModule.{LoadedModule}
 use Rattle.cfi_step.specs.declared.walk.Walk.{Walk}
 use Rattle.cfi_cores.specs.declared.error.CoreError.{CoreError}
 use Rattle.cfi_cores.specs.CoreFiles.{Core}
-use Rattle.cfi_cores.specs.CoreThreads.{CoreThread, register_of}
+use Rattle.cfi_cores.specs.CoreThreads.{CoreThread, thread_register}
 use Rattle.cfi_processes.specs.declared.registers.SampleMachine.{SampleMachine}
 use Rattle.cfi_processes.specs.KnownFiles.{KnownFile}
 use Rattle.cfi_processes.specs.Registers.{pc_number}
-use Rattle.cfi_processes.specs.SampleStacks.{Room}
+use Rattle.cfi_processes.specs.SampleStacks.{WalkRoom}
 use Rattle.cfi_programs.specs.WriterOutput.{IsBeginning, Prints, PrintsSome}
 use Rattle.cfi_programs.proofs.WrittenLemmas.{appends_then, beginning_then, none_yet, writes_refused}
 use Rattle.cfi_programs.proofs.DumpSectionWritten.{last_written}
@@ -27,9 +27,9 @@ use Rattle.cfi_stacks.specs.declared.listing.ThreadListing.{ThreadListing}
 use Rattle.cfi_stacks.specs.ThreadStacks.{IsThreadWalk, IsUnwound, IsUnwoundFrom, thread_registers}
 
 module _ {R T : Type 0} (position : R → Position) (number : T → ℕ) (rule_limit stack_limit : Option ℕ) (copies_free : Bool) (modules : List (LoadedModule R)) (machine : SampleMachine) (memory : ℕ → ℕ → Option ℕ)
-    (thread : CoreThread) (old new : Room) where
+    (thread : CoreThread) (old new : WalkRoom) where
   -- from its pc, the frames are those of a walk over the memory
-  pub unwound : (pc : ℕ) (known : List (Option ℕ)) (walk : Walk) → Some pc ≡ register_of machine thread (pc_number machine) → known ≡ thread_registers machine thread
+  pub unwound : (pc : ℕ) (known : List (Option ℕ)) (walk : Walk) → Some pc ≡ thread_register machine thread (pc_number machine) → known ≡ thread_registers machine thread
       → IsThreadWalk position number rule_limit stack_limit copies_free modules machine memory pc known old walk new
       → IsUnwound position number rule_limit stack_limit copies_free modules machine memory thread old (Ok walk) new
   unwound pc known walk has_pc are walks =

@@ -4,13 +4,13 @@ use Rattle.std.proofs.lemmas.Bool.Decides.{nat_tests}
 use Rattle.cfi_elf.specs.Images.{Image, IsImageOf, whole}
 use Rattle.cfi_processes.specs.declared.code_parts.CodeParts.{CodeParts}
 use Rattle.cfi_processes.specs.declared.opened_file.OpenedFile.{OpenedFile}
-use Rattle.cfi_processes.specs.CodeParts.{IsOf, is_whole, parts_of}
+use Rattle.cfi_processes.specs.CodeParts.{ArePartsOfBytes, is_whole, parts_of}
 use Rattle.cfi_processes.specs.FileReads.{AreOpened}
 use Rattle.cfi_processes.specs.OpenedFiles.{AreOpenedAs, IsOpenedAs, Opened}
 use Rattle.cfi_processes.specs.Wanted.{FilePlace, Wanted}
 use Rattle.cfi_object.proofs.WholeParts.{whole_is}
 use Rattle.cfi_processes.proofs.FileLemmas.{opened_pushed}
-use Rattle.cfi_cores.specs.Builds.{build_of, image_of}
+use Rattle.cfi_cores.specs.Builds.{build_of, mapped_image}
 use Rattle.cfi_cores.specs.CoreFiles.{Core}
 use Rattle.cfi_cores.specs.Vdso.{vdso_name}
 use Rattle.cfi_stacks.specs.CoreCode.{AreOpenedFor, IsVdsoAs, and_file, core_code_files, vdso_file, with_vdso_file}
@@ -43,7 +43,7 @@ module _ (core : Core) (one : OpenedFile) (image : List ℕ) where
     map_name = None;
   }
 
-  pub vdso_held : image_of core.segments core.mapped vdso_name ≡ Some image → one.name.now ≡ vdso_name → option_map (λ id. id.now) one.build_id ≡ build_of core.segments core.mapped vdso_name → IsOf one.code (Some image)
+  pub vdso_held : mapped_image core.segments core.mapped vdso_name ≡ Some image → one.name.now ≡ vdso_name → option_map (λ id. id.now) one.build_id ≡ build_of core.segments core.mapped vdso_name → ArePartsOfBytes one.code (Some image)
       → one.debug ≡ None → one.process ≡ None → one.map_name ≡ None → IsVdsoAs (Some one) (vdso_file core)
   vdso_held found name built code debug process map_name = (
     known_of image,
@@ -52,7 +52,7 @@ module _ (core : Core) (one : OpenedFile) (image : List ℕ) where
       name_is = sym name;
       build_id_is = sym built;
       bytes_are = code;
-      debug_is = subst (λ (d : Option CodeParts). IsOf d None) (sym debug) refl;
+      debug_is = subst (λ (d : Option CodeParts). ArePartsOfBytes d None) (sym debug) refl;
       process_is = sym process;
       map_name_is = sym (ap (option_map string_bytes) map_name);
     },

@@ -23,6 +23,7 @@ use Rattle.cfi_stacks.specs.StackWalks.{IsSampleWalked}
 use Rattle.cfi_stacks.specs.SampleOutputs.{sample_in_format}
 use Rattle.cfi_stacks.specs.KnownSamples.{KnownSample, chosen, in_kernel_of}
 use Rattle.cfi_stacks.specs.Sequences.{AreOfAll}
+use Rattle.cfi_stacks.specs.TakenSamples.{Taken}
 
 -- ---- the frames of a sample
 
@@ -50,6 +51,12 @@ module _ (style : StackStyle) (machine : SampleMachine) (files : List KnownFile)
   abbrev pub AreStackTexts : Choice → List Record → List ℕ → Type 0
   AreStackTexts choice records text = AreOfAll IsTextOf (chosen choice files records) text
 
+-- as it was taken
+abbrev pub IsStackOf : StackStyle → SampleMachine → Taken → List ℕ → Type 0
+IsStackOf style machine taken text =
+    IsStackText style machine taken.files taken.in_kernel taken.mapped taken.name taken.time
+    taken.sample text
+
 -- ---- the samples by their folded stacks
 
 -- one for each, or its period; one also where the period is 0
@@ -61,6 +68,10 @@ abbrev pub IsFoldedText :
     List ℕ → Type 0
 IsFoldedText machine files in_kernel list name s text =
     IsOfFrames machine files list s (folded_text in_kernel files list name s) text
+
+abbrev pub IsFoldedOf : SampleMachine → Taken → List ℕ → Type 0
+IsFoldedOf machine taken text =
+    IsFoldedText machine taken.files taken.in_kernel taken.mapped taken.name taken.sample text
 
 module _ (by_period : Bool) (machine : SampleMachine) (files : List KnownFile) where
   abbrev pub IsSampleOf : KnownSample → List Stack → Type 0

@@ -17,7 +17,7 @@ use Rattle.cfi_processes.specs.OpenedFiles.{IsOpenedAs, Opened}
 use Rattle.cfi_processes.specs.FileReads.{AreOpened}
 use Rattle.cfi_processes.specs.WantedFiles.{with_file}
 use Rattle.cfi_processes.specs.Wanted.{FilePlace, Wanted}
-use Rattle.cfi_cores.specs.Builds.{build_of, image_of}
+use Rattle.cfi_cores.specs.Builds.{build_of, mapped_image}
 use Rattle.cfi_cores.specs.CoreFiles.{Core}
 use Rattle.cfi_cores.specs.CoreSegments.{CoreSegment}
 use Rattle.cfi_cores.specs.MappedFiles.{CoreMapping}
@@ -79,7 +79,7 @@ vdso_file core =
       debug = None;
       process = None;
       map_name = None;
-    }) (image_of core.segments core.mapped vdso_name)
+    }) (mapped_image core.segments core.mapped vdso_name)
 
 -- what the code has of it
 abbrev pub IsVdsoAs : Option OpenedFile → Option Opened → Type 0

@@ -8,7 +8,7 @@ use Rattle.std.specs.Prelude.{Result, Ok, Err, codes, not, take}
 use Rattle.cfi_programs.specs.declared.style.Format.{Format}
 use Rattle.cfi_object.specs.FileInputs.{AreLeft}
 use Rattle.cfi_programs.specs.Lines.{Line}
-use Rattle.cfi_programs.specs.Refusals.{reason_line as why_line, refused_line}
+use Rattle.cfi_programs.specs.Refusals.{reason_line as why_line, refusal_saying}
 use Rattle.cfi_programs.specs.WriterOutput.{PrintsSome}
 use Rattle.cfi_processes.specs.KnownFiles.{KnownFile}
 use Rattle.cfi_processes.specs.OpenedFiles.{Opened}
@@ -17,7 +17,7 @@ use Rattle.cfi_processes.specs.FileReads.{AreOpened}
 use Rattle.cfi_processes.specs.Wanted.{FilePlace, Wanted}
 use Rattle.cfi_cores.specs.declared.error.CoreError.{CoreError}
 use Rattle.cfi_cores.specs.CoreFiles.{Core, IsSortedCore, core_of}
-use Rattle.cfi_cores.specs.CoreMemories.{number_at}
+use Rattle.cfi_cores.specs.CoreMemories.{memory_number}
 use Rattle.cfi_cores.specs.CoreSegments.{CoreSegment}
 use Rattle.cfi_cores.specs.CoreThreads.{CoreThread}
 use Rattle.cfi_cores.specs.ErrorNames.{name_of_core}
@@ -30,7 +30,7 @@ use Rattle.cfi_stacks.specs.AskedThreads.{asked_threads, lacks_thread}
 use Rattle.cfi_stacks.specs.ProfileOutputs.{IsInputRefused, no_memory}
 
 abbrev pub core_refusal : Format → CoreError → Line
-core_refusal format error = refused_line format (name_of_core error)
+core_refusal format error = refusal_saying format (name_of_core error)
 
 abbrev pub no_thread : Format → Line
 no_thread format = why_line format (codes "no thread") 1
@@ -61,7 +61,7 @@ module _ (listing : ThreadListing) (files : List KnownFile) (memory : ℕ → �
 -- ---- a core file
 
 abbrev pub core_memory : Core → List CoreSegment → ℕ → ℕ → Option ℕ
-core_memory core windows = number_at (record { dumped = core.segments; mapped = windows })
+core_memory core windows = memory_number (record { dumped = core.segments; mapped = windows })
 
 -- in the memory that the core and the files have
 abbrev pub IsCoreOfFiles : ThreadListing → Core → List Opened → List KnownFile → Line → Type 0

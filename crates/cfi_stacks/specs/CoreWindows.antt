@@ -5,7 +5,7 @@ use Rattle.std.specs.List.{filter_map}
 use Rattle.std.specs.Option.{option_and_then, option_map}
 use Rattle.std.specs.Str.{bytes_eq}
 use Rattle.cfi_processes.specs.OpenedFiles.{Opened}
-use Rattle.cfi_cores.specs.CoreSegments.{AreSorted, CoreSegment}
+use Rattle.cfi_cores.specs.CoreSegments.{AreSortedByAddress, CoreSegment}
 use Rattle.cfi_cores.specs.MappedFiles.{CoreMapping}
 
 abbrev pub mapped_part : CoreMapping → List ℕ → CoreSegment
@@ -24,4 +24,5 @@ file_window opened m = option_map (mapped_part m) (bytes_named opened m.name)
 
 -- by rising addresses
 abbrev pub AreWindows : List Opened → List CoreMapping → List CoreSegment → Type 0
-AreWindows opened mapped windows = AreSorted (filter_map (file_window opened) mapped) windows
+AreWindows opened mapped windows =
+    AreSortedByAddress (filter_map (file_window opened) mapped) windows

@@ -20,6 +20,7 @@ use Rattle.cfi_processes.specs.Sites.{site_of}
 use Rattle.cfi_processes.specs.Sites.{Site}
 use Rattle.cfi_stacks.specs.SampleHeads.{thread_name_text}
 use Rattle.cfi_stacks.specs.FrameLines.{unknown}
+use Rattle.cfi_stacks.specs.TakenSamples.{Taken}
 
 -- ---- names
 
@@ -89,3 +90,6 @@ abbrev pub folded_text :
 folded_text in_kernel files list name s result room =
     thread_name s.tid name
     ++ (user_names files list s result room ++ chain_names in_kernel (kernel_frames s))
+
+abbrev pub folded_of : Taken → Result Walk NoFrames → List StackFrame → List ℕ
+folded_of taken = folded_text taken.in_kernel taken.files taken.mapped taken.name taken.sample

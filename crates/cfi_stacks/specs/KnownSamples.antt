@@ -10,7 +10,7 @@ use Rattle.cfi_processes.specs.declared.replay.Replay.{Replay}
 use Rattle.cfi_processes.specs.KnownFiles.{KnownFile}
 use Rattle.cfi_processes.specs.KernelSites.{kernel_site}
 use Rattle.cfi_processes.specs.Sites.{Site}
-use Rattle.cfi_processes.specs.Replays.{after, replayed}
+use Rattle.cfi_processes.specs.Replays.{mapped_after, replayed}
 use Rattle.cfi_processes.specs.Replays.{named_thread}
 use Rattle.cfi_processes.specs.ThreadNames.{names_after}
 use Rattle.cfi_stacks.specs.Choices.{Choice, chooses, limited}
@@ -24,7 +24,7 @@ pub record Known : Type 0 where
 
 abbrev pub known_after : List KnownFile → Event → Known → Known
 known_after files event before = record {
-  mapped = after files event before.mapped;
+  mapped = mapped_after files event before.mapped;
   names = names_after event before.names;
 }
 

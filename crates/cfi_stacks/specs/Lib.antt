@@ -17,6 +17,7 @@ pub mod WalkObjects
 pub mod SampleOutputs
 pub mod Sequences
 pub mod KnownSamples
+pub mod TakenSamples
 pub mod ChosenStacks
 pub mod ProfileOutputs
 pub mod Turns

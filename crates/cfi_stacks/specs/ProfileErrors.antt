@@ -9,7 +9,7 @@ use Rattle.cfi_perf.specs.ErrorTexts.{text_of_perf}
 use Rattle.cfi_programs.specs.declared.style.Format.{Format}
 use Rattle.cfi_programs.specs.ErrorWords.{parting}
 use Rattle.cfi_programs.specs.Lines.{Line}
-use Rattle.cfi_programs.specs.Refusals.{refused_line}
+use Rattle.cfi_programs.specs.Refusals.{refusal_saying}
 
 abbrev pub perf_advice : PerfError → List ℕ
 perf_advice (AttributeSize size) = codes "; record with perf of Linux 3.7 or later"
@@ -23,4 +23,4 @@ perf_words format error =
     name_of_perf error ++ (parting format ++ (text_of_perf error ++ perf_advice error))
 
 abbrev pub perf_refusal : Format → PerfError → Line
-perf_refusal format error = refused_line format (perf_words format error)
+perf_refusal format error = refusal_saying format (perf_words format error)

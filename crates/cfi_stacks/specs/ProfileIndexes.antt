@@ -6,11 +6,13 @@
 --     IsReadAt known index place record      this may be the record at a place, read again
 --     HoldsOf known index Is      there may be records of an index of which this holds
 --     IsTallyOf tally records      what was told of the recording is what these records say
+--     IsTallySaid Said tally      what it shows was said
 --     AreRecordsOf known index sorted      there are bytes of which these are the records by their
 --         times: those of the file, where these are known
 --     IsReadAround known before behind count      there are so many bytes that begin and end so:
 --         those of the file, where these are known
-use Rattle.std.specs.Prelude.{◌≡◌, ◌≤◌, ℕ, ◌+◌, true, false, List, ◌++◌, drop, length, map}
+use Rattle.std.specs.Prelude.{◌≡◌, ◌==◌, ◌≤◌, ℕ, ◌+◌, true, false, not, ◌&&◌, List, ◌++◌, drop}
+use Rattle.std.specs.Prelude.{length, map}
 use Rattle.std.specs.Prelude.{Option, Some, None, Ok, IfSome, slice_range, if◌then◌else◌}
 use Rattle.std.specs.List.{All, Contains, flat_map}
 use Rattle.std.specs.List.Sorted.{IsSortedByKey}
@@ -21,7 +23,7 @@ use Rattle.cfi_perf.specs.declared.index.PlaceKind.TheVariants.{InFile, Kept, No
 use Rattle.cfi_perf.specs.declared.index.RecordPlace.{RecordPlace}
 use Rattle.cfi_perf.specs.declared.windows.RecordWalk.{RecordWalk}
 use Rattle.cfi_perf.specs.Events.{Event, OtherEvent, Record}
-use Rattle.cfi_perf.specs.Indexes.{AreIndexed, AreIndexedSorted, IsInTimeOrder, IsKeptIn}
+use Rattle.cfi_perf.specs.Indexes.{AreIndexed, AreIndexedSorted, IsInTimeOrder, IsWithinKept}
 use Rattle.cfi_perf.specs.Indexes.{record_bytes}
 use Rattle.cfi_perf.specs.Indexes.{kept_of, places_of}
 use Rattle.cfi_perf.specs.ProfilesAround.{IsAround}
@@ -29,6 +31,7 @@ use Rattle.cfi_perf.specs.Recordings.{has_samples, has_stacks, is_sample, lost_i
 use Rattle.cfi_perf.specs.Records.{no_records}
 use Rattle.cfi_perf.specs.Windows.{record_alone, records_in}
 use Rattle.cfi_perf.specs.Windows.{record_bytes_left, next_place}
+use Rattle.cfi_processes.specs.Notices.{Notice, lost, without_stacks}
 use Rattle.cfi_processes.specs.WantedFiles.{has_kernel_frames}
 use Rattle.cfi_stacks.specs.declared.profile_index.ProfileIndex.{ProfileIndex}
 use Rattle.cfi_stacks.specs.declared.profile_index.Tally.{Tally}
@@ -91,7 +94,7 @@ IsPlacedIn InFile known walk kept piece =
     × IfSome known (λ file. record_bytes piece.place (records_bytes walk file) ≡ piece.bytes)
 IsPlacedIn Kept known walk kept piece =
     (record_alone walk (record_bytes piece.place kept) ≡ Ok piece.found)
-    × IsKeptIn Kept (length kept) piece.place × (is_sample piece.found.event ≡ false)
+    × IsWithinKept Kept (length kept) piece.place × (is_sample piece.found.event ≡ false)
 IsPlacedIn Nothing known walk kept piece = piece.found.event ≡ OtherEvent
 
 pub record IsPieceOf (known : Option (List ℕ)) (walk : RecordWalk) (kept : List ℕ) (piece : Piece) :
@@ -117,6 +120,13 @@ pub record IsTallyOf (tally : Tally) (records : List Record) : Type 0 where
   pub stacks : tally.has_stacks ≡ has_stacks records
   pub lost : tally.lost_records ≡ (lost_in records).records
   pub lost_samples : tally.lost_samples ≡ (lost_in records).samples
+
+-- what it shows was said: that no sample has a copy of a stack, and how much was lost
+pub record IsTallySaid (Said : Notice → Type 0) (tally : Tally) : Type 0 where
+  pub copies : (tally.has_samples && not tally.has_stacks) ≡ true → Said without_stacks
+  pub losses :
+      (tally.lost_records == 0 && tally.lost_samples == 0) ≡ false →
+      Said (lost tally.lost_records tally.lost_samples)
 
 -- ---- an index
 

@@ -5,8 +5,8 @@
 --     IsStackIn memory stack      each number of a part of the stack is that of the memory
 use Rattle.std.specs.Prelude.{◌≡◌, ◌||◌, ℕ, Bool, true, false, List, Option, Some, Result, Ok}
 use Rattle.std.specs.Prelude.{Err}
-use Rattle.cfi_cores.specs.CoreMemories.{number_at}
-use Rattle.cfi_cores.specs.CoreSegments.{CoreSegment, number_of}
+use Rattle.cfi_cores.specs.CoreMemories.{memory_number}
+use Rattle.cfi_cores.specs.CoreSegments.{CoreSegment, segment_number}
 use Rattle.cfi_expression.specs.declared.error.FrameError.{FrameError}
 use Rattle.cfi_expression.specs.declared.error.FrameError.TheVariants.{UnknownRegister}
 use Rattle.cfi_expression.specs.declared.error.FrameError.TheVariants.{UnreadableMemory}
@@ -49,8 +49,8 @@ walk_lacks machine (Err why) = false
 -- ---- memory
 
 abbrev pub memory_by : List CoreSegment → List CoreSegment → ℕ → ℕ → Option ℕ
-memory_by dumped lent = number_at (record { dumped = dumped; mapped = lent })
+memory_by dumped lent = memory_number (record { dumped = dumped; mapped = lent })
 
 abbrev pub IsStackIn : (ℕ → ℕ → Option ℕ) → CoreSegment → Type 0
 IsStackIn memory stack =
-    (a size n : ℕ) → number_of a size stack ≡ Some n → memory a size ≡ Some n
+    (a size n : ℕ) → segment_number a size stack ≡ Some n → memory a size ≡ Some n

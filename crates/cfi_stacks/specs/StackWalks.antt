@@ -19,17 +19,19 @@ use Rattle.cfi_processes.specs.KnownFiles.{KnownFile}
 use Rattle.cfi_processes.specs.ProcessModules.{modules_in}
 use Rattle.cfi_processes.specs.Modules.{loaded_module_view}
 use Rattle.cfi_processes.specs.Registers.{register_count}
-use Rattle.cfi_processes.specs.SampleStacks.{HasRoom, Room}
+use Rattle.cfi_processes.specs.SampleStacks.{HasRoom, WalkRoom}
 use Rattle.cfi_processes.specs.SampleStacks.{IsSampleUnwound}
 use Rattle.cfi_cores.specs.CoreThreads.{CoreThread}
 use Rattle.cfi_stacks.specs.ThreadStacks.{IsUnwound as IsThreadUnwound}
 
 module _ (machine : SampleMachine) (files : List KnownFile) (list : List MappedCode) where
   abbrev pub IsWalkedInRoom :
-      (List (LoadedModule (EndianSlice RunTimeEndian)) → Room → Result Walk NoFrames → Room →
+      (List (LoadedModule (EndianSlice RunTimeEndian)) → WalkRoom → Result Walk NoFrames →
+      WalkRoom →
       Type 0) → Result Walk NoFrames → List StackFrame → Type 0
   IsWalkedInRoom IsBy result frames =
-      (modules : List (LoadedModule (EndianSlice RunTimeEndian))) × (old : Room) × (new : Room)
+      (modules : List (LoadedModule (EndianSlice RunTimeEndian))) × (old : WalkRoom)
+      × (new : WalkRoom)
       × (map loaded_module_view modules ≡ modules_in files list) × HasRoom old.frames
       × (length old.caller ≡ register_count machine) × IsBy modules old result new
       × (new.frames ≡ frames) × HasRoom frames

@@ -18,14 +18,14 @@ use Rattle.cfi_processes.specs.declared.registers.SampleMachine.{SampleMachine}
 use Rattle.cfi_processes.specs.declared.sample_stack.NoFrames.{NoFrames}
 use Rattle.cfi_processes.specs.declared.sample_stack.NoFrames.TheVariants.{NoProgramCounter}
 use Rattle.cfi_processes.specs.Registers.{machine_abi, pc_number, register_count}
-use Rattle.cfi_processes.specs.SampleStacks.{Room}
-use Rattle.cfi_cores.specs.CoreThreads.{CoreThread, register_of}
+use Rattle.cfi_processes.specs.SampleStacks.{WalkRoom}
+use Rattle.cfi_cores.specs.CoreThreads.{CoreThread, thread_register}
 use Rattle.cfi_stacks.specs.NullCalls.{IsNullStep}
 use Rattle.cfi_stacks.specs.SignalTrampolines.{IsSignalStep}
 
 abbrev pub thread_registers : SampleMachine → CoreThread → List (Option ℕ)
 thread_registers machine thread =
-    map (register_of machine thread) (range_with_len 0 (register_count machine))
+    map (thread_register machine thread) (range_with_len 0 (register_count machine))
 
 module _ {R T : Type 0} (position : R → Position) (number : T → ℕ)
     (rule_limit stack_limit : Option ℕ) (copies_free : Bool) (modules : List (LoadedModule R))
@@ -37,7 +37,7 @@ module _ {R T : Type 0} (position : R → Position) (number : T → ℕ)
       (IsStepAmong position number memory 8 (machine_abi machine) rule_limit stack_limit copies_free
       modules))
 
-  abbrev pub IsThreadWalk : ℕ → List (Option ℕ) → Room → Walk → Room → Type 0
+  abbrev pub IsThreadWalk : ℕ → List (Option ℕ) → WalkRoom → Walk → WalkRoom → Type 0
   IsThreadWalk pc registers old walk new =
       IsWalkBy written IsThreadStep
       (record {
@@ -48,7 +48,8 @@ module _ {R T : Type 0} (position : R → Position) (number : T → ℕ)
       (take walk.count new.frames) walk.end new.registers new.caller
       × AreWritten walk old.frames new.frames
 
-  module _ (thread : CoreThread) (old : Room) (result : Result Walk NoFrames) (new : Room) where
+  module _ (thread : CoreThread) (old : WalkRoom) (result : Result Walk NoFrames)
+      (new : WalkRoom) where
     -- from its pc, if that is known
     abbrev pub IsUnwoundFrom : Option ℕ → Type 0
     IsUnwoundFrom (Some pc) =
@@ -57,4 +58,4 @@ module _ {R T : Type 0} (position : R → Position) (number : T → ℕ)
     IsUnwoundFrom None = (result ≡ Err NoProgramCounter) × (new ≡ old)
 
     abbrev pub IsUnwound : Type 0
-    IsUnwound = IsUnwoundFrom (register_of machine thread (pc_number machine))
+    IsUnwound = IsUnwoundFrom (thread_register machine thread (pc_number machine))

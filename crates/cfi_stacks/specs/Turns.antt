@@ -20,7 +20,7 @@ use Rattle.cfi_perf.specs.declared.index.RecordPlace.{RecordPlace}
 use Rattle.cfi_perf.specs.Events.{Event, Record, SampleEvent}
 use Rattle.cfi_processes.specs.declared.registers.SampleMachine.{SampleMachine}
 use Rattle.cfi_processes.specs.KnownFiles.{KnownFile}
-use Rattle.cfi_processes.specs.Replays.{after}
+use Rattle.cfi_processes.specs.Replays.{mapped_after}
 use Rattle.cfi_processes.specs.ThreadNames.{names_after}
 use Rattle.cfi_programs.specs.WriterOutput.{IsBeginning}
 use Rattle.cfi_stacks.specs.declared.folding.Unfolded.{Unfolded}
@@ -45,7 +45,7 @@ left_after left _ = left
 -- what is known was known before, but for what the event says
 abbrev pub IsKnownAfter : List KnownFile → Event → Known → Known → Type 0
 IsKnownAfter files event before now =
-    ((pid : ℕ) → now.mapped pid ≡ after files event before.mapped pid)
+    ((pid : ℕ) → now.mapped pid ≡ mapped_after files event before.mapped pid)
     × ((tid : ℕ) → now.names tid ≡ names_after event before.names tid)
 
 -- a record is passed by, of which nothing comes, or it is followed: what is known and how many are

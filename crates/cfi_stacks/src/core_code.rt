@@ -1,6 +1,6 @@
 //! What is mapped as code in the process of a core.
 ghost use Rattle.std.specs.Prelude.{◌≡◌, List, IfOk, map, true};
-ghost use Rattle.cfi_cores.specs.CoreSegments.{AreInOrder, segment_view};
+ghost use Rattle.cfi_cores.specs.CoreSegments.{AreByAddress, segment_view};
 ghost use Rattle.cfi_cores.specs.CoreFiles.{core_view};
 ghost use Rattle.cfi_cores.specs.MappedFiles.{mapping_view};
 ghost use Rattle.cfi_processes.specs.FileModules.{AreModulesOfFiles};
@@ -49,7 +49,7 @@ pub fn whole_code<'a, 'run>(
     ensures windows { (all : List Opened) → AreOpenedAs opened.now all
         → IfOk result (λ code. AreWindows all (core_view core.now).mapped
         (map segment_view code.windows.items)) }
-    ensures in_order { IfOk result (λ code. AreInOrder code.windows.items) }
+    ensures in_order { IfOk result (λ code. AreByAddress code.windows.items) }
 {
     let windows = file_windows(alloc, core.mapped.as_slice(), opened)?;
     core_code(alloc, core, files, windows)

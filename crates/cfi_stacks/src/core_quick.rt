@@ -30,6 +30,7 @@ use crate::asked_threads::{is_asked_for, lacks_thread};
 use crate::core_code::{CoreCode, core_code};
 use crate::core_errors::write_end;
 use crate::core_files::opened_files;
+use crate::core_process::CoreProcess;
 use crate::core_run::print_whole;
 use crate::core_text::print_found;
 use crate::lacking::walk_lacks;
@@ -41,17 +42,22 @@ use cfi_cores::{CoreSegment, CoreThread, PartialCore, stack_at};
 use cfi_elf::{Image, ProgramHeader};
 use cfi_expression::Window;
 use cfi_object::{FileInput, FileParts};
+use cfi_processes::Opener;
 use cfi_processes::process_code::ProcessCode;
-use cfi_processes::process_modules::FileModule;
 use cfi_processes::profile_files::{OpenedFile, ProfileFile, profile_files};
-use cfi_processes::registers::SampleMachine;
-use cfi_processes::{Name, Opener};
 use cfi_programs::lines::write_text;
 use cfi_programs::refusals::{write_reason, write_refusal_in};
 use gimli_cfi::{EndianSlice, Error, RunTimeEndian};
 use std::alloc::{AllocError, Global};
 use std::io;
 use std::io::Write;
+
+/// The parts that were read of a core file, and what they say.
+#[derive(Drop)]
+pub(crate) struct CoreParts<'p> {
+    pub(crate) parts: &'p FileParts,
+    pub(crate) partial: PartialCore<'p>,
+}
 
 /// The output for a core file.
 #[derive(Drop)]
@@ -67,26 +73,23 @@ pub(crate) fn print_partial<O: Opener, I: FileInput, W: Write>(
     alloc: Global,
     listing: ThreadListing,
     opener: &O,
-    parts: &FileParts,
-    partial: PartialCore<'_>,
+    read: &CoreParts<'_>,
     input: &mut I,
     output: &mut W,
 ) -> io::Result<u8>
-    requires parts { AreOfInput (I.bytes input.old) (image_of parts.now) }
-    requires partial { (bytes : List ℕ) → IsImageOf (image_of parts.now) bytes
-        → IsPartial bytes partial }
+    requires parts { AreOfInput (I.bytes input.old) (image_of read.now.parts.now) }
+    requires partial { (bytes : List ℕ) → IsImageOf (image_of read.now.parts.now) bytes
+        → IsPartial bytes read.now.partial }
     ensures { PrintsCoreOwed listing (O.may_open opener.now) O.File.remaining (I.bytes input.old)
         (W.contents output.old) (W.contents output.new) result }
 {
-    if lacks_thread(listing, &partial.core) {
+    if lacks_thread(listing, &read.partial.core) {
         return write_reason(output, listing.format, "no thread", 1);
     }
-    match opened_files(alloc, false, opener, &partial.core) {
+    match opened_files(alloc, false, opener, &read.partial.core) {
         Ok(opened) => {
             let opened = opened.as_slice();
-            print_by_parts(
-                alloc, listing, opener, parts, &partial, opened, input, output,
-            )
+            print_by_parts(alloc, listing, opener, read, opened, input, output)
         }
         Err(_) => write_refusal_in(output, listing.format, Error::OutOfMemory),
     }
@@ -97,22 +100,21 @@ fn print_by_parts<O: Opener, I: FileInput, W: Write>(
     alloc: Global,
     listing: ThreadListing,
     opener: &O,
-    parts: &FileParts,
-    partial: &PartialCore<'_>,
+    read: &CoreParts<'_>,
     opened: &[OpenedFile<'_>],
     input: &mut I,
     output: &mut W,
 ) -> io::Result<u8>
-    requires parts { AreOfInput (I.bytes input.old) (image_of parts.now) }
-    requires partial { (bytes : List ℕ) → IsImageOf (image_of parts.now) bytes
-        → IsPartial bytes partial.now }
+    requires parts { AreOfInput (I.bytes input.old) (image_of read.now.parts.now) }
+    requires partial { (bytes : List ℕ) → IsImageOf (image_of read.now.parts.now) bytes
+        → IsPartial bytes read.now.partial }
     requires opened { (all : List Opened) × AreOpenedFor (O.may_open opener.now) O.File.remaining
-        (core_view partial.now.core) all × AreOpenedAs opened.now all }
-    requires threads { lacks_thread listing (core_view partial.now.core) ≡ false }
+        (core_view read.now.partial.core) all × AreOpenedAs opened.now all }
+    requires threads { lacks_thread listing (core_view read.now.partial.core) ≡ false }
     ensures { PrintsCoreOwed listing (O.may_open opener.now) O.File.remaining (I.bytes input.old)
         (W.contents output.old) (W.contents output.new) result }
 {
-    match quick_opened(alloc, listing, parts.image(), partial, opened) {
+    match quick_opened(alloc, listing, read.parts.image(), &read.partial, opened) {
         Ok(Some(quick)) => write_quick(&quick, output),
         Ok(None) => {
             let quiet = QuietOpener { opener };
@@ -207,27 +209,25 @@ fn quick_threads(
     let mut room = room;
     let mut text = Vec::new(alloc);
     let core = &partial.core;
-    let process = ProcessCode {
-        mappings: code.mappings.as_slice(),
-        files,
-    };
+    let modules = code.modules.as_slice();
     let name = shown_name(core.name);
+    let process = CoreProcess {
+        machine: core.machine,
+        code: ProcessCode {
+            mappings: code.mappings.as_slice(),
+            files,
+        },
+        modules,
+        name,
+    };
+    let places = partial.places.as_slice();
     let threads = core.threads.as_slice();
     for thread in threads {
         if !is_asked_for(listing, thread) {
             continue;
         }
         let whole = quick_thread(
-            listing,
-            core.machine,
-            &process,
-            code.modules.as_slice(),
-            image,
-            partial.places.as_slice(),
-            name,
-            thread,
-            &mut room,
-            &mut text,
+            listing, &process, image, places, thread, &mut room, &mut text,
         )?;
         if !whole {
             return Ok(None);
@@ -241,83 +241,70 @@ fn quick_threads(
 /// of the stack were enough; where they weren't, nothing is printed.
 fn quick_thread<W: Write>(
     listing: ThreadListing,
-    machine: SampleMachine,
-    code: &ProcessCode<'_, '_, '_>,
-    modules: &[FileModule<'_, '_>],
+    process: &CoreProcess<'_, '_, '_>,
     image: Image<'_>,
     places: &[ProgramHeader],
-    name: Option<Name<'_>>,
     thread: &CoreThread<'_>,
     room: &mut Room,
     output: &mut W,
 ) -> io::Result<bool>
-    requires order { AreMappedInOrder 0 code.now.mappings.now }
-    requires modules { map loaded_module_view modules.now
-        ≡ modules_in (map known_view code.now.files.now) code.now.mappings.now }
-    requires files { AreModulesOfFiles code.now.files.now modules.now }
-    requires cached { IsRoomFor code.now.files.now room.old }
+    requires order { AreMappedInOrder 0 process.now.code.mappings.now }
+    requires modules { map loaded_module_view process.now.modules.now
+        ≡ modules_in (map known_view process.now.code.files.now) process.now.code.mappings.now }
+    requires files { AreModulesOfFiles process.now.code.files.now process.now.modules.now }
+    requires cached { IsRoomFor process.now.code.files.now room.old }
     requires places { IsNonDecreasingBy (λ (h : ProgramHeader). h.p_vaddr) places.now }
     ensures printed { (bytes : List ℕ) → IsImageOf (image_view image.entry) bytes
         → (lent : List Lent) → IfOk result (λ whole. whole ≡ true
         → (text : List ℕ) × Appends (W.contents output.old) (W.contents output.new) text
-        × IsThreadText listing machine (map known_view code.now.files.now) code.now.mappings.now
-        (memory_by (map (segment_at bytes) places.now) lent) (name_bytes name.entry)
-        (thread_view thread.now) text) }
-    ensures cached { IsRoomFor code.now.files.now room.new }
+        × IsThreadText listing process.now.machine (map known_view process.now.code.files.now)
+        process.now.code.mappings.now (memory_by (map (segment_at bytes) places.now) lent)
+        (name_bytes process.now.name) (thread_view thread.now) text) }
+    ensures cached { IsRoomFor process.now.code.files.now room.new }
 {
-    let number = machine.abi().stack_pointer.0 as usize;
-    let Some(pointer) = thread.register(machine, number) else {
+    let number = process.machine.abi().stack_pointer.0 as usize;
+    let Some(pointer) = thread.register(process.machine, number) else {
         return Ok(false);
     };
     let Some(stack) = stack_at(image, places, pointer) else {
         return Ok(false);
     };
-    quick_walk(
-        listing, machine, code, modules, &stack, name, thread, room, output,
-    )
+    quick_walk(listing, process, &stack, thread, room, output)
 }
 
 /// The same by these bytes of the stack.
 fn quick_walk<W: Write>(
     listing: ThreadListing,
-    machine: SampleMachine,
-    code: &ProcessCode<'_, '_, '_>,
-    modules: &[FileModule<'_, '_>],
+    process: &CoreProcess<'_, '_, '_>,
     stack: &CoreSegment<'_>,
-    name: Option<Name<'_>>,
     thread: &CoreThread<'_>,
     room: &mut Room,
     output: &mut W,
 ) -> io::Result<bool>
-    requires order { AreMappedInOrder 0 code.now.mappings.now }
-    requires modules { map loaded_module_view modules.now
-        ≡ modules_in (map known_view code.now.files.now) code.now.mappings.now }
-    requires files { AreModulesOfFiles code.now.files.now modules.now }
-    requires cached { IsRoomFor code.now.files.now room.old }
+    requires order { AreMappedInOrder 0 process.now.code.mappings.now }
+    requires modules { map loaded_module_view process.now.modules.now
+        ≡ modules_in (map known_view process.now.code.files.now) process.now.code.mappings.now }
+    requires files { AreModulesOfFiles process.now.code.files.now process.now.modules.now }
+    requires cached { IsRoomFor process.now.code.files.now room.old }
     ensures printed { (memory : ℕ → ℕ → Option ℕ) → IsStackIn memory (segment_view stack.now)
         → IfOk result (λ whole. whole ≡ true
         → (text : List ℕ) × Appends (W.contents output.old) (W.contents output.new) text
-        × IsThreadText listing machine (map known_view code.now.files.now) code.now.mappings.now
-        memory (name_bytes name.entry) (thread_view thread.now) text) }
-    ensures cached { IsRoomFor code.now.files.now room.new }
+        × IsThreadText listing process.now.machine (map known_view process.now.code.files.now)
+        process.now.code.mappings.now memory (name_bytes process.now.name)
+        (thread_view thread.now) text) }
+    ensures cached { IsRoomFor process.now.code.files.now room.new }
 {
     let bytes = EndianSlice::new(stack.bytes, RunTimeEndian::Little);
     let memory = Window {
         base: stack.start,
         bytes,
     };
-    let found = room.walk_thread(machine, code, modules, &memory, thread);
-    if walk_lacks(machine, found) {
+    let code = &process.code;
+    let found = room.walk_thread(process.machine, code, process.modules, &memory, thread);
+    if walk_lacks(process.machine, found) {
         return Ok(false);
     }
-    print_found(
-        listing,
-        code,
-        name,
-        thread,
-        found,
-        room.frames.as_slice(),
-        output,
-    )?;
+    let frames = room.frames.as_slice();
+    print_found(listing, code, process.name, thread, found, frames, output)?;
     Ok(true)
 }

@@ -1,6 +1,6 @@
 //! The stacks of a core file that is read whole.
 ghost use Rattle.std.specs.Prelude.{◌≡◌, ◌⊎◌, ℕ, List, map, true};
-ghost use Rattle.cfi_cores.specs.CoreSegments.{AreInOrder, segment_view};
+ghost use Rattle.cfi_cores.specs.CoreSegments.{AreByAddress, segment_view};
 ghost use Rattle.cfi_cores.specs.CoreFiles.{core_view};
 ghost use Rattle.cfi_object.specs.FileParts.{image_of};
 ghost use Rattle.cfi_object.specs.FileParts.{AreOfInput};
@@ -23,7 +23,8 @@ use crate::asked_threads::{is_asked_for, lacks_thread};
 use crate::core_code::{CoreCode, whole_code};
 use crate::core_errors::{write_core_refusal, write_end};
 use crate::core_files::opened_files;
-use crate::core_quick::print_partial;
+use crate::core_process::CoreProcess;
+use crate::core_quick::{CoreParts, print_partial};
 use crate::core_text::print_thread;
 use crate::listing::ThreadListing;
 use crate::names::shown_name;
@@ -99,7 +100,8 @@ fn print_parts<O: Opener, I: FileInput, W: Write>(
 {
     match partial_core(alloc, parts.image()) {
         Ok(Some(partial)) => {
-            print_partial(alloc, listing, opener, parts, partial, input, output)
+            let read = CoreParts { parts, partial };
+            print_partial(alloc, listing, opener, &read, input, output)
         }
         Ok(None) => print_whole(alloc, listing, opener, input, output),
         Err(_) => write_refusal_in(output, listing.format, Error::OutOfMemory),
@@ -149,7 +151,7 @@ fn print_read<O: Opener, W: Write>(
     core: &Core<'_>,
     output: &mut W,
 ) -> io::Result<u8>
-    requires { AreInOrder core.now.segments.items }
+    requires { AreByAddress core.now.segments.items }
     ensures { PrintsSome (λ line. IsOfCore listing (O.may_open opener.now) O.File.remaining
         (core_view core.now) line ⊎ (line ≡ no_memory listing.format))
         (W.contents output.old) (W.contents output.new) result }
@@ -171,7 +173,7 @@ fn print_opened<W: Write>(
     opened: &[OpenedFile<'_>],
     output: &mut W,
 ) -> io::Result<u8>
-    requires dumped { AreInOrder core.now.segments.items }
+    requires dumped { AreByAddress core.now.segments.items }
     requires whole { are_whole opened.now ≡ true }
     ensures { (all : List Opened) → AreOpenedAs opened.now all
         → PrintsSome (λ line. IsCoreOfOpened listing (core_view core.now) all line
@@ -193,7 +195,7 @@ fn print_by_files<W: Write>(
     files: &[ProfileFile<'_>],
     output: &mut W,
 ) -> io::Result<u8>
-    requires dumped { AreInOrder core.now.segments.items }
+    requires dumped { AreByAddress core.now.segments.items }
     requires whole { are_whole opened.now ≡ true }
     ensures { (all : List Opened) → AreOpenedAs opened.now all
         → PrintsSome (λ line. IsCoreOfFiles listing (core_view core.now) all
@@ -220,8 +222,8 @@ fn print_code<W: Write>(
     requires modules { map loaded_module_view code.now.modules.items
         ≡ modules_in (map known_view files.now) code.now.mappings }
     requires files { AreModulesOfFiles files.now code.now.modules.items }
-    requires dumped { AreInOrder core.now.segments.items }
-    requires windows { AreInOrder code.now.windows.items }
+    requires dumped { AreByAddress core.now.segments.items }
+    requires windows { AreByAddress code.now.windows.items }
     ensures { PrintsSome (λ line. AreThreadsPrinted listing (map known_view files.now)
         (core_memory (core_view core.now) (map segment_view code.now.windows.items))
         (core_view core.now) line)
@@ -247,8 +249,8 @@ fn print_threads<W: Write>(
     requires modules { map loaded_module_view code.now.modules.items
         ≡ modules_in (map known_view files.now) code.now.mappings }
     requires files { AreModulesOfFiles files.now code.now.modules.items }
-    requires dumped { AreInOrder core.now.segments.items }
-    requires windows { AreInOrder code.now.windows.items }
+    requires dumped { AreByAddress core.now.segments.items }
+    requires windows { AreByAddress code.now.windows.items }
     requires rows { KeepsNoRows room }
     requires frames { HasRoom room.frames.items }
     ensures { PrintsSome (λ line. AreThreadsPrinted listing (map known_view files.now)
@@ -257,28 +259,24 @@ fn print_threads<W: Write>(
         (W.contents output.old) (W.contents output.new) result }
 {
     let mut room = room;
-    let process = ProcessCode {
-        mappings: code.mappings.as_slice(),
-        files,
+    let modules = code.modules.as_slice();
+    let name = shown_name(core.name);
+    let process = CoreProcess {
+        machine: core.machine,
+        code: ProcessCode {
+            mappings: code.mappings.as_slice(),
+            files,
+        },
+        modules,
+        name,
     };
     let memory = CoreMemory::new(core.segments.as_slice(), code.windows.as_slice());
-    let name = shown_name(core.name);
     let threads = core.threads.as_slice();
     for thread in threads {
         if !is_asked_for(listing, thread) {
             continue;
         }
-        print_thread(
-            listing,
-            core.machine,
-            &process,
-            code.modules.as_slice(),
-            &memory,
-            name,
-            thread,
-            &mut room,
-            output,
-        )?;
+        print_thread(listing, &process, &memory, thread, &mut room, output)?;
     }
     write_end(output, listing.format, core.error)
 }

@@ -1,6 +1,6 @@
 //! The text of a thread's stack.
 ghost use Rattle.std.specs.Prelude.{◌≡◌, ◌≤◌, ℕ, IfOk, List, length, map};
-ghost use Rattle.cfi_cores.specs.CoreMemories.{memory_view, number_at};
+ghost use Rattle.cfi_cores.specs.CoreMemories.{memory_view, memory_number};
 ghost use Rattle.cfi_cores.specs.CoreThreads.{thread_view};
 ghost use Rattle.cfi_programs.specs.WriterOutput.{Writes};
 ghost use Rattle.cfi_processes.specs.FileModules.{AreModulesOfFiles};
@@ -13,6 +13,7 @@ ghost use Rattle.cfi_stacks.specs.ThreadOutputs.{IsThreadText, thread_in_format,
 ghost use Rattle.cfi_stacks.specs.Rooms.{IsRoomFor};
 
 use crate::core_object::write_thread_object;
+use crate::core_process::CoreProcess;
 use crate::frame_lines::LineRoom;
 use crate::listing::{FrameStyle, ThreadListing};
 use crate::room::Room;
@@ -21,8 +22,6 @@ use crate::walk_lines::print_walk;
 use cfi_cores::{CoreMemory, CoreThread};
 use cfi_processes::Name;
 use cfi_processes::process_code::ProcessCode;
-use cfi_processes::process_modules::FileModule;
-use cfi_processes::registers::SampleMachine;
 use cfi_processes::sample_stack::NoFrames;
 use cfi_programs::lines::write_text;
 use cfi_programs::style::Format;
@@ -39,36 +38,28 @@ use std::io::Write;
 /// files. There is room for 4096 frames. Does not allocate.
 pub fn print_thread<W: Write>(
     listing: ThreadListing,
-    machine: SampleMachine,
-    code: &ProcessCode<'_, '_, '_>,
-    modules: &[FileModule<'_, '_>],
+    process: &CoreProcess<'_, '_, '_>,
     memory: &CoreMemory<'_>,
-    name: Option<Name<'_>>,
     thread: &CoreThread<'_>,
     room: &mut Room,
     output: &mut W,
 ) -> io::Result<()>
-    requires order { AreMappedInOrder 0 code.now.mappings.now }
-    requires modules { map loaded_module_view modules.now
-        ≡ modules_in (map known_view code.now.files.now) code.now.mappings.now }
-    requires files { AreModulesOfFiles code.now.files.now modules.now }
-    requires cached { IsRoomFor code.now.files.now room.old }
+    requires order { AreMappedInOrder 0 process.now.code.mappings.now }
+    requires modules { map loaded_module_view process.now.modules.now
+        ≡ modules_in (map known_view process.now.code.files.now) process.now.code.mappings.now }
+    requires files { AreModulesOfFiles process.now.code.files.now process.now.modules.now }
+    requires cached { IsRoomFor process.now.code.files.now room.old }
     ensures printed { (text : List ℕ)
         × Writes (W.contents output.old) (W.contents output.new) result text
-        × IsThreadText listing machine (map known_view code.now.files.now) code.now.mappings.now
-        (number_at (memory_view memory.now)) (name_bytes name.entry) (thread_view thread.now) text }
-    ensures cached { IsRoomFor code.now.files.now room.new }
+        × IsThreadText listing process.now.machine (map known_view process.now.code.files.now)
+        process.now.code.mappings.now (memory_number (memory_view memory.now))
+        (name_bytes process.now.name) (thread_view thread.now) text }
+    ensures cached { IsRoomFor process.now.code.files.now room.new }
 {
-    let found = room.walk_thread(machine, code, modules, memory, thread);
-    print_found(
-        listing,
-        code,
-        name,
-        thread,
-        found,
-        room.frames.as_slice(),
-        output,
-    )
+    let code = &process.code;
+    let found = room.walk_thread(process.machine, code, process.modules, memory, thread);
+    let frames = room.frames.as_slice();
+    print_found(listing, code, process.name, thread, found, frames, output)
 }
 
 /// Prints what was found of a thread's stack.

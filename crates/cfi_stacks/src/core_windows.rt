@@ -1,7 +1,7 @@
 //! What the files of a core have of the memory of its process.
 ghost use Rattle.std.specs.Prelude.{◌≡◌, List, IfOk, map, option_map, take, true};
 ghost use Rattle.std.specs.List.{filter_map};
-ghost use Rattle.cfi_cores.specs.CoreSegments.{AreInOrder, segment_view};
+ghost use Rattle.cfi_cores.specs.CoreSegments.{AreByAddress, segment_view};
 ghost use Rattle.cfi_cores.specs.MappedFiles.{mapping_view};
 ghost use Rattle.cfi_processes.specs.OpenedFiles.{AreOpenedAs, Opened, are_whole};
 ghost use Rattle.cfi_stacks.specs.CoreWindows.{AreWindows, bytes_named, file_window, mapped_part};
@@ -21,7 +21,7 @@ pub(crate) fn file_windows<'run>(
     ensures windows { (all : List Opened) → AreOpenedAs opened.now all
         → IfOk result (λ windows. AreWindows all (map mapping_view mapped.now)
         (map segment_view windows.items)) }
-    ensures in_order { IfOk result (λ windows. AreInOrder windows.items) }
+    ensures in_order { IfOk result (λ windows. AreByAddress windows.items) }
 {
     let mut windows = mapped_windows(alloc, mapped, opened)?;
     windows.sort_by_key(|window| window.start)?;

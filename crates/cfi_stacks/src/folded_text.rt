@@ -1,18 +1,20 @@
 //! The folded stack of a sample.
 ghost use Rattle.std.specs.Prelude.{◌≡◌, ◌≤◌, ◌++◌, IfOk, None, OnOk, codes, length, map};
 ghost use Rattle.std.specs.Prelude.{flat_map, option_map};
-ghost use Rattle.cfi_names.specs.Names.{byte_escape, part_view, shown_part};
+ghost use Rattle.cfi_names.specs.Names.{byte_escape, name_part_view, shown_part};
 ghost use Rattle.cfi_perf.specs.CallChains.{addresses_left};
 ghost use Rattle.cfi_perf.specs.Samples.{sample_view};
 ghost use Rattle.cfi_processes.specs.KnownFiles.{known_view};
-ghost use Rattle.cfi_processes.specs.KernelSites.{chain_site, kernel_site};
+ghost use Rattle.cfi_processes.specs.KernelSites.{chain_site};
 ghost use Rattle.cfi_processes.specs.Mappings.{AreMappedInOrder};
 ghost use Rattle.cfi_processes.specs.Sites.{site_view};
 ghost use Rattle.cfi_processes.specs.ThreadNames.{name_bytes};
 ghost use Rattle.cfi_stacks.specs.FoldedTexts.{base_name, chain_names, file_name, folded_name};
-ghost use Rattle.cfi_stacks.specs.FoldedTexts.{folded_text, frame_name, harmless, names_text};
+ghost use Rattle.cfi_stacks.specs.FoldedTexts.{folded_of, frame_name, harmless, names_text};
 ghost use Rattle.cfi_stacks.specs.FoldedTexts.{site_name, thread_name, user_names, walk_names};
+ghost use Rattle.cfi_stacks.specs.TakenSamples.{taken_view};
 
+use crate::taken_sample::TakenSample;
 use cfi_flame::folded::last_part;
 use cfi_names::{Kind, Part, byte_escape, first_part, is_plain};
 use cfi_perf::{Addresses, Sample};
@@ -27,8 +29,7 @@ use std::alloc::AllocError;
 /// each after a semicolon, those of user space before the kernel's.
 ///
 /// The functions of user space are those of the frames that were found, or of the call chain where
-/// the sample's event copies no stacks. `kernel` is what is mapped as code of the kernel, and
-/// `addresses` is room for those of a call chain.
+/// the sample's event copies no stacks. `addresses` is room for those of a call chain.
 ///
 /// A frame without a function has the name of its file in brackets, without the folders, or
 /// `[unknown]`. Names are as they are printed, but a semicolon becomes a colon, and a space in a
@@ -36,24 +37,20 @@ use std::alloc::AllocError;
 pub fn push_stack(
     line: &mut Vec<u8>,
     addresses: &mut Vec<u64>,
-    kernel: &ProcessCode<'_, '_, '_>,
-    code: &ProcessCode<'_, '_, '_>,
-    name: Option<Name<'_>>,
-    sample: &Sample<'_>,
+    taken: &TakenSample<'_, '_, '_>,
     found: Result<Walk, NoFrames>,
     frames: &[StackFrame],
 ) -> Result<(), AllocError>
-    requires kernel { AreMappedInOrder 0 kernel.now.mappings.now }
-    requires order { AreMappedInOrder 0 code.now.mappings.now }
+    requires kernel { AreMappedInOrder 0 taken.now.kernel.mappings.now }
+    requires order { AreMappedInOrder 0 taken.now.code.mappings.now }
     requires count { IfOk found (λ walk. walk.count ≤ length frames.now) }
-    ensures { OnOk result (line.new.items ≡ line.old.items ++ folded_text
-        (kernel_site (map known_view kernel.now.files.now) kernel.now.mappings.now)
-        (map known_view code.now.files.now) code.now.mappings.now
-        (name_bytes name.entry) (sample_view sample.now) found frames.now) }
+    ensures { OnOk result (line.new.items ≡ line.old.items
+        ++ folded_of (taken_view taken.now) found frames.now) }
 {
-    push_thread(line, sample.tid, name)?;
-    push_user_names(line, addresses, code, sample, found, frames)?;
-    push_chain(line, addresses, true, kernel, sample.kernel_frames())
+    let sample = &taken.sample;
+    push_thread(line, sample.tid, taken.name)?;
+    push_user_names(line, addresses, &taken.code, sample, found, frames)?;
+    push_chain(line, addresses, true, &taken.kernel, sample.kernel_frames())
 }
 
 /// Appends the functions of user space.
@@ -262,7 +259,7 @@ fn push_name(line: &mut Vec<u8>, name: &[u8], space: u8) -> Result<(), AllocErro
 /// Appends what is shown of a part of a name.
 fn push_part(line: &mut Vec<u8>, part: Part<'_>, space: u8) -> Result<(), AllocError>
     ensures { OnOk result (line.new.items
-        ≡ line.old.items ++ map (harmless space) (shown_part (part_view part.entry))) }
+        ≡ line.old.items ++ map (harmless space) (shown_part (name_part_view part.entry))) }
 {
     match part.kind {
         Kind::Shown => push_harmless(line, part.bytes, space),

@@ -9,36 +9,33 @@ ghost use Rattle.cfi_programs.specs.Runs.{out_of_memory};
 ghost use Rattle.cfi_programs.specs.WriterOutput.{Prints, PrintsSome};
 ghost use Rattle.cfi_processes.specs.FileModules.{AreModulesOfFiles};
 ghost use Rattle.cfi_processes.specs.KnownFiles.{known_view};
-ghost use Rattle.cfi_processes.specs.KernelSites.{kernel_site};
 ghost use Rattle.cfi_processes.specs.ProcessModules.{modules_in};
 ghost use Rattle.cfi_processes.specs.Mappings.{AreMappedInOrder};
 ghost use Rattle.cfi_processes.specs.Modules.{loaded_module_view};
 ghost use Rattle.cfi_processes.specs.Replays.{AreModulesFor, HasOwnModules, replay_known};
 ghost use Rattle.cfi_processes.specs.Replays.{replay_files};
 ghost use Rattle.cfi_processes.specs.SampleStacks.{HasRoom};
-ghost use Rattle.cfi_processes.specs.ThreadNames.{name_bytes};
 ghost use Rattle.cfi_programs.specs.declared.style.Format.TheVariants.{Text};
 ghost use Rattle.cfi_stacks.specs.Choices.{choice_view};
 ghost use Rattle.cfi_stacks.specs.Turns.{CountsRecord, CountsTurn, IsFollowed, IsNotFollowed};
 ghost use Rattle.cfi_stacks.specs.ProfileIndexes.{HoldsOf, IsIndex};
 ghost use Rattle.cfi_stacks.specs.ProfileOutputs.{AreFolded, IsFolded, IsUnfolded, folded_refusal};
 ghost use Rattle.cfi_stacks.specs.ProfileOutputs.{profile_ended};
-ghost use Rattle.cfi_stacks.specs.ChosenStacks.{IsFoldedText, sample_weight};
+ghost use Rattle.cfi_stacks.specs.ChosenStacks.{IsFoldedOf, sample_weight};
 ghost use Rattle.cfi_stacks.specs.KnownSamples.{known_in};
 ghost use Rattle.cfi_stacks.specs.Rooms.{IsRoomFor, KeepsNoRows};
+ghost use Rattle.cfi_stacks.specs.TakenSamples.{taken_view};
 
-use crate::choice::Choice;
 use crate::folded_text::push_stack;
 use crate::profile_errors::write_end;
-use crate::profile_index::ProfileIndex;
 use crate::room::Room;
-use crate::turns::{follow_other, is_left_out, left_after, load_for};
+use crate::taken_sample::TakenSample;
+use crate::turns::{ChosenSamples, Walker, follow_other, is_left_out, left_after, load_for};
 use cfi_flame::{FoldedError, StackCounts};
 use cfi_inputs::write_input_refusal;
 use cfi_object::input::{FileInput, InputError};
 use cfi_perf::{Event, PerfError, PlaceKind, Record, RecordPlace, Sample};
-use cfi_processes::Name;
-use cfi_processes::process_code::{KERNEL, ProcessCode};
+use cfi_processes::process_code::KERNEL;
 use cfi_processes::process_modules::FileModule;
 use cfi_processes::profile_files::ProfileFile;
 use cfi_processes::registers::SampleMachine;
@@ -60,97 +57,82 @@ pub enum Unfolded {
     TooMany,
 }
 
-/// Prints the folded stacks of the records, by the files, and then the error that ended the
+/// Prints the folded stacks of the samples, by the files, and then the error that ended the
 /// records.
 pub(crate) fn print_folded<I: FileInput, W: Write>(
-    alloc: Global,
+    chosen: &ChosenSamples<'_, '_>,
     by_period: bool,
-    choice: &Choice<'_>,
-    machine: SampleMachine,
     files: &[ProfileFile<'_>],
-    index: &ProfileIndex<'_>,
     input: &mut I,
     output: &mut W,
 ) -> io::Result<u8>
-    requires { IsIndex (I.bytes input.old) index.now }
-    ensures { PrintsSome (λ line. HoldsOf (I.bytes input.old) index.now (λ sorted.
-        IsFolded by_period machine (map known_view files.now)
-        (choice_view choice.now) sorted index.now.error line))
+    requires { IsIndex (I.bytes input.old) chosen.now.index.now }
+    ensures { PrintsSome (λ line. HoldsOf (I.bytes input.old) chosen.now.index.now (λ sorted.
+        IsFolded by_period chosen.now.machine (map known_view files.now)
+        (choice_view chosen.now.choice.now) sorted chosen.now.index.now.error line))
         (W.contents output.old) (W.contents output.new) result }
 {
-    match fold_records(alloc, by_period, choice, machine, files, index, input) {
-        Ok(counts) => write_counts(alloc, &counts, index.error, output),
+    match fold_records(chosen, by_period, files, input) {
+        Ok(counts) => write_counts(chosen.alloc, &counts, chosen.index.error, output),
         Err(error) => write_unfolded(output, error),
     }
 }
 
-/// Counts the samples of the records by their folded stacks.
+/// Counts the samples by their folded stacks.
 fn fold_records<I: FileInput>(
-    alloc: Global,
+    chosen: &ChosenSamples<'_, '_>,
     by_period: bool,
-    choice: &Choice<'_>,
-    machine: SampleMachine,
     files: &[ProfileFile<'_>],
-    index: &ProfileIndex<'_>,
     input: &mut I,
 ) -> Result<StackCounts, Unfolded>
-    requires index { IsIndex (I.bytes input.old) index.now }
-    ensures folded { IfOk result (λ counts. HoldsOf (I.bytes input.old) index.now (λ sorted.
-        AreFolded by_period machine (map known_view files.now) (choice_view choice.now) sorted
-        (counted_in counts))) }
-    ensures refused { IfErr result (λ why. HoldsOf (I.bytes input.old) index.now (λ sorted.
-        IsUnfolded by_period machine (map known_view files.now) (choice_view choice.now) sorted
-        why)) }
+    requires index { IsIndex (I.bytes input.old) chosen.now.index.now }
+    ensures folded { IfOk result (λ counts. HoldsOf (I.bytes input.old) chosen.now.index.now
+        (λ sorted. AreFolded by_period chosen.now.machine (map known_view files.now)
+        (choice_view chosen.now.choice.now) sorted (counted_in counts))) }
+    ensures refused { IfErr result (λ why. HoldsOf (I.bytes input.old) chosen.now.index.now
+        (λ sorted. IsUnfolded by_period chosen.now.machine (map known_view files.now)
+        (choice_view chosen.now.choice.now) sorted why)) }
 {
-    match Room::new(alloc) {
-        Ok(room) => fold_in(alloc, by_period, choice, room, machine, files, index, input),
+    match Room::new(chosen.alloc) {
+        Ok(room) => fold_in(chosen, by_period, room, files, input),
         Err(_) => Err(Unfolded::Input(InputError::OutOfMemory)),
     }
 }
 
-/// Counts the samples of the records in this room. Neither a sample that isn't chosen nor one after
-/// the limit is unwound.
+/// Counts the samples in this room. Neither a sample that isn't chosen nor one after the limit is
+/// unwound.
 fn fold_in<I: FileInput>(
-    alloc: Global,
+    chosen: &ChosenSamples<'_, '_>,
     by_period: bool,
-    choice: &Choice<'_>,
     room: Room,
-    machine: SampleMachine,
     files: &[ProfileFile<'_>],
-    index: &ProfileIndex<'_>,
     input: &mut I,
 ) -> Result<StackCounts, Unfolded>
     requires rows { KeepsNoRows room }
     requires frames { HasRoom room.frames.items }
-    requires index { IsIndex (I.bytes input.old) index.now }
-    ensures folded { IfOk result (λ counts. HoldsOf (I.bytes input.old) index.now (λ sorted.
-        AreFolded by_period machine (map known_view files.now) (choice_view choice.now) sorted
-        (counted_in counts))) }
-    ensures refused { IfErr result (λ why. HoldsOf (I.bytes input.old) index.now (λ sorted.
-        IsUnfolded by_period machine (map known_view files.now) (choice_view choice.now) sorted
-        why)) }
+    requires index { IsIndex (I.bytes input.old) chosen.now.index.now }
+    ensures folded { IfOk result (λ counts. HoldsOf (I.bytes input.old) chosen.now.index.now
+        (λ sorted. AreFolded by_period chosen.now.machine (map known_view files.now)
+        (choice_view chosen.now.choice.now) sorted (counted_in counts))) }
+    ensures refused { IfErr result (λ why. HoldsOf (I.bytes input.old) chosen.now.index.now
+        (λ sorted. IsUnfolded by_period chosen.now.machine (map known_view files.now)
+        (choice_view chosen.now.choice.now) sorted why)) }
 {
-    let mut room = room;
-    let mut replay = Replay::new(alloc, files);
-    let mut line = Vec::new(alloc);
-    let mut counts = StackCounts::new(alloc);
-    let mut left = choice.limit;
-    for place in index.records.places() {
+    let replay = Replay::new(chosen.alloc, files);
+    let mut walker = Walker { replay, room };
+    let mut counts = StackCounts::new(chosen.alloc);
+    let mut left = chosen.choice.limit;
+    for place in chosen.index.records.places() {
         if left == Some(0) {
             return Ok(counts);
         }
         left = fold_place(
-            alloc,
+            chosen,
             by_period,
-            choice,
-            machine,
-            index,
             place,
             left,
             input,
-            &mut replay,
-            &mut room,
-            &mut line,
+            &mut walker,
             &mut counts,
         )?;
     }
@@ -160,43 +142,36 @@ fn fold_in<I: FileInput>(
 /// Follows the record at a place, and counts it if it is a sample that is chosen. Returns how many
 /// more may be counted.
 fn fold_place<'k, I: FileInput>(
-    alloc: Global,
+    chosen: &ChosenSamples<'k, '_>,
     by_period: bool,
-    choice: &Choice<'_>,
-    machine: SampleMachine,
-    index: &'k ProfileIndex<'_>,
     place: &RecordPlace,
     left: Option<u64>,
     input: &mut I,
-    replay: &mut Replay<'_, '_, 'k>,
-    room: &mut Room,
-    line: &mut Vec<u8>,
+    walker: &mut Walker<'_, '_, 'k>,
     counts: &mut StackCounts,
 ) -> Result<Option<u64>, Unfolded>
-    requires own { HasOwnModules replay.old }
-    requires cached { IsRoomFor (replay_files replay.old) room.old }
-    ensures counted { CountsTurn by_period machine (replay_known replay.old)
-        (choice_view choice.now)
-        (I.bytes input.old) index.now place.now (known_in replay.old) left (known_in replay.new)
+    requires own { HasOwnModules walker.old.replay }
+    requires cached { IsRoomFor (replay_files walker.old.replay) walker.old.room }
+    ensures counted { CountsTurn by_period chosen.now.machine (replay_known walker.old.replay)
+        (choice_view chosen.now.choice.now) (I.bytes input.old) chosen.now.index.now place.now
+        (known_in walker.old.replay) left (known_in walker.new.replay)
         (counted_in counts.old) (counted_in counts.new) result }
     ensures same { I.bytes input.new ≡ I.bytes input.old }
-    ensures own { HasOwnModules replay.new }
-    ensures cached { IsRoomFor (replay_files replay.new) room.new }
-    ensures files { replay_files replay.new ≡ replay_files replay.old }
+    ensures own { HasOwnModules walker.new.replay }
+    ensures cached { IsRoomFor (replay_files walker.new.replay) walker.new.room }
+    ensures files { replay_files walker.new.replay ≡ replay_files walker.old.replay }
 {
     match place.kind {
-        PlaceKind::InFile => match index.sample_bytes(alloc, place, input) {
+        PlaceKind::InFile => match chosen.index.sample_bytes(chosen.alloc, place, input) {
             Ok(bytes) => {
-                let Some(item) = index.sample_at(place, bytes.as_slice()) else {
+                let Some(item) = chosen.index.sample_at(place, bytes.as_slice()) else {
                     return Err(Unfolded::Input(InputError::Unreadable));
                 };
-                fold_chosen(
-                    alloc, by_period, choice, machine, &item, left, replay, room, line, counts,
-                )
+                fold_chosen(chosen, by_period, &item, left, walker, counts)
             }
             Err(error) => Err(Unfolded::Input(error)),
         },
-        _ => match follow_other(index, place, left, replay) {
+        _ => match follow_other(chosen.index, place, left, &mut walker.replay) {
             Ok(left) => Ok(left),
             Err(error) => Err(Unfolded::Input(error)),
         },
@@ -205,34 +180,37 @@ fn fold_place<'k, I: FileInput>(
 
 /// Counts a sample, if it is chosen.
 fn fold_chosen(
-    alloc: Global,
+    chosen: &ChosenSamples<'_, '_>,
     by_period: bool,
-    choice: &Choice<'_>,
-    machine: SampleMachine,
     item: &Record<'_>,
     left: Option<u64>,
-    replay: &mut Replay<'_, '_, '_>,
-    room: &mut Room,
-    line: &mut Vec<u8>,
+    walker: &mut Walker<'_, '_, '_>,
     counts: &mut StackCounts,
 ) -> Result<Option<u64>, Unfolded>
     requires sample { is_sample (record_view item.now).event ≡ true }
-    requires own { HasOwnModules replay.old }
-    requires cached { IsRoomFor (replay_files replay.old) room.old }
-    ensures counted { CountsRecord by_period machine (replay_known replay.old)
-        (choice_view choice.now)
-        (record_view item.now) (known_in replay.old) left (known_in replay.new)
+    requires own { HasOwnModules walker.old.replay }
+    requires cached { IsRoomFor (replay_files walker.old.replay) walker.old.room }
+    ensures counted { CountsRecord by_period chosen.now.machine (replay_known walker.old.replay)
+        (choice_view chosen.now.choice.now) (record_view item.now)
+        (known_in walker.old.replay) left (known_in walker.new.replay)
         (counted_in counts.old) (counted_in counts.new) result }
-    ensures own { HasOwnModules replay.new }
-    ensures cached { IsRoomFor (replay_files replay.new) room.new }
-    ensures files { replay_files replay.new ≡ replay_files replay.old }
+    ensures own { HasOwnModules walker.new.replay }
+    ensures cached { IsRoomFor (replay_files walker.new.replay) walker.new.room }
+    ensures files { replay_files walker.new.replay ≡ replay_files walker.old.replay }
 {
-    if is_left_out(choice, replay, item) {
+    if is_left_out(chosen.choice, &walker.replay, item) {
         return Ok(left);
     }
-    match load_for(replay, item) {
+    match load_for(&mut walker.replay, item) {
         Ok(()) => {
-            match fold_followed(alloc, by_period, machine, replay, item, room, line, counts) {
+            match fold_followed(
+                chosen,
+                by_period,
+                &walker.replay,
+                item,
+                &mut walker.room,
+                counts,
+            ) {
                 Ok(()) => Ok(left_after(left, item)),
                 Err(FoldedError::TooManySamples) => Err(Unfolded::TooMany),
                 Err(_) => Err(Unfolded::Input(InputError::OutOfMemory)),
@@ -244,34 +222,40 @@ fn fold_chosen(
 
 /// Counts a record that was followed last, if it is a sample.
 fn fold_followed(
-    alloc: Global,
+    chosen: &ChosenSamples<'_, '_>,
     by_period: bool,
-    machine: SampleMachine,
     replay: &Replay<'_, '_, '_>,
     item: &Record<'_>,
     room: &mut Room,
-    line: &mut Vec<u8>,
     counts: &mut StackCounts,
 ) -> Result<(), FoldedError>
     requires modules { AreModulesFor (record_view item.now).event replay.now }
     requires own { HasOwnModules replay.now }
     requires cached { IsRoomFor (replay_files replay.now) room.old }
-    ensures followed { OnOk result (IsFollowed by_period machine (replay_known replay.now)
+    ensures followed { OnOk result (IsFollowed by_period chosen.now.machine
+        (replay_known replay.now)
         (known_in replay.now) item.now.time (record_view item.now).event
         (counted_in counts.old) (counted_in counts.new)) }
-    ensures refused { IfErr result (IsNotFollowed by_period machine (replay_known replay.now)
+    ensures refused { IfErr result (IsNotFollowed by_period chosen.now.machine
+        (replay_known replay.now)
         (known_in replay.now) item.now.time (record_view item.now).event
         (counted_in counts.old)) }
     ensures cached { IsRoomFor (replay_files replay.now) room.new }
 {
     match item.event {
         Event::Sample(sample) => {
-            let kernel = replay.code(KERNEL);
-            let code = replay.code(sample.pid);
-            let name = replay.name(sample.tid);
-            let modules = replay.modules();
-            match fold_sample(machine, &kernel, &code, modules, name, &sample, room, line) {
-                Ok(()) => counts.add(alloc, line.as_slice(), weight(by_period, &sample)),
+            let taken = TakenSample {
+                kernel: replay.code(KERNEL),
+                code: replay.code(sample.pid),
+                name: replay.name(sample.tid),
+                time: item.time,
+                sample,
+            };
+            match fold_sample(chosen.machine, replay.modules(), &taken, room) {
+                Ok(()) => {
+                    let weight = weight(by_period, &sample);
+                    counts.add(chosen.alloc, room.line.as_slice(), weight)
+                }
                 Err(_) => Err(FoldedError::OutOfMemory),
             }
         }
@@ -290,37 +274,32 @@ fn weight(by_period: bool, sample: &Sample<'_>) -> u64
     }
 }
 
-/// Makes the line the folded stack of a sample.
+/// Makes the line of the room the folded stack of a sample.
 ///
 /// The modules are those of what is mapped. The rows that the room keeps are those of the files, in
 /// whichever process they were found. Fails where memory is refused. Allocates where the line has
 /// no room for the stack.
 fn fold_sample(
     machine: SampleMachine,
-    kernel: &ProcessCode<'_, '_, '_>,
-    code: &ProcessCode<'_, '_, '_>,
     modules: &[FileModule<'_, '_>],
-    name: Option<Name<'_>>,
-    sample: &Sample<'_>,
+    taken: &TakenSample<'_, '_, '_>,
     room: &mut Room,
-    line: &mut Vec<u8>,
 ) -> Result<(), AllocError>
-    requires kernel { AreMappedInOrder 0 kernel.now.mappings.now }
-    requires order { AreMappedInOrder 0 code.now.mappings.now }
+    requires kernel { AreMappedInOrder 0 taken.now.kernel.mappings.now }
+    requires order { AreMappedInOrder 0 taken.now.code.mappings.now }
     requires modules { map loaded_module_view modules.now
-        ≡ modules_in (map known_view code.now.files.now) code.now.mappings.now }
-    requires files { AreModulesOfFiles code.now.files.now modules.now }
-    requires cached { IsRoomFor code.now.files.now room.old }
-    ensures folded { OnOk result (IsFoldedText machine (map known_view code.now.files.now)
-        (kernel_site (map known_view kernel.now.files.now) kernel.now.mappings.now)
-        code.now.mappings.now (name_bytes name.entry) (sample_view sample.now) line.new.items) }
-    ensures cached { IsRoomFor code.now.files.now room.new }
+        ≡ modules_in (taken_view taken.now).files taken.now.code.mappings.now }
+    requires files { AreModulesOfFiles taken.now.code.files.now modules.now }
+    requires cached { IsRoomFor taken.now.code.files.now room.old }
+    ensures folded { OnOk result
+        (IsFoldedOf machine (taken_view taken.now) room.new.line.items) }
+    ensures cached { IsRoomFor taken.now.code.files.now room.new }
 {
-    let found = room.walk_sample(machine, code, modules, &sample.user);
-    line.clear();
+    let found = room.walk_sample(machine, &taken.code, modules, &taken.sample.user);
+    room.line.clear();
     let addresses = &mut room.addresses;
     let frames = room.frames.as_slice();
-    push_stack(line, addresses, kernel, code, name, sample, found, frames)
+    push_stack(&mut room.line, addresses, taken, found, frames)
 }
 
 /// Prints the folded stacks, and then the error that ended the records, and returns the status.

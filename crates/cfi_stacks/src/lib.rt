@@ -4,12 +4,14 @@
 //! (`around`) and by where these are (`profile_index`). `sample_stacks` prints those of the samples
 //! that are chosen (`choice`) one after the other, `folding` counts them by their folded stacks,
 //! whose text `folded_text` makes; both follow the records by `turns`. `sample_text` and
-//! `sample_object` write the stack of a sample, `profile_errors` why there are no more.
+//! `sample_object` write the stack of a sample, by what was known when it was taken
+//! (`taken_sample`), `profile_errors` why there are no more.
 //!
 //! A core file: `core_run` prints its stacks, `core_quick` by the parts of it that are mostly
 //! enough (`lacking`). `core_files` opens the files of its process, `core_code` has what is mapped,
 //! `core_windows` what they have of the memory. `core_text` and `core_object` write the stack of a
-//! thread that is asked for (`asked_threads`), `core_errors` why there are no more.
+//! thread of the process (`core_process`) that is asked for (`asked_threads`), `core_errors` why
+//! there are no more.
 //!
 //! All are walked in a `room`, threads by `thread_stack`, over signal trampolines and from the
 //! address 0 too (`signal_steps`, `null_steps`). Of a stack `sample_head` and `thread_head`, or
@@ -25,6 +27,7 @@ mod core_code;
 mod core_errors;
 pub mod core_files;
 mod core_object;
+pub mod core_process;
 mod core_quick;
 pub mod core_run;
 mod core_text;
@@ -51,6 +54,7 @@ mod sample_stacks;
 mod sample_text;
 pub mod signal_steps;
 pub mod signals;
+pub mod taken_sample;
 mod thread_head;
 mod thread_members;
 pub mod thread_stack;

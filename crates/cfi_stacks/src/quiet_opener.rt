@@ -1,4 +1,5 @@
 //! An opener that says nothing.
+ghost use Rattle.std.specs.Prelude.{⊤};
 
 use cfi_processes::opener::Opener;
 use cfi_processes::wanted::LinkFolder;
@@ -14,6 +15,8 @@ impl<O: Opener> Opener for QuietOpener<'_, O> {
     type File = O::File;
 
     ghost may_open = { λ quiet place opened. O.may_open quiet.opener.now place opened };
+
+    ghost has_said = { λ _ _. ⊤ };
 
     fn open(&self, name: &[u8]) -> Option<O::File> {
         self.opener.find(name)

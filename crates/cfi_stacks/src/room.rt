@@ -40,6 +40,8 @@ pub struct Room {
     pub(crate) cache: Vec<CachedRow>,
     /// Those of a call chain, which is a stack without a walk.
     pub(crate) addresses: Vec<u64>,
+    /// The folded stack that was made last.
+    pub(crate) line: Vec<u8>,
 }
 
 impl Room {
@@ -70,6 +72,7 @@ impl Room {
                 frames,
                 cache,
                 addresses: Vec::new(alloc),
+                line: Vec::new(alloc),
             }),
             Err(_) => Err(Error::OutOfMemory),
         }

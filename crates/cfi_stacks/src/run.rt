@@ -10,7 +10,7 @@ ghost use Rattle.cfi_processes.specs.OpenedFiles.{AreOpenedAs, Opened};
 ghost use Rattle.cfi_processes.specs.Wanted.{wanted_view};
 ghost use Rattle.cfi_stacks.specs.Choices.{choice_view};
 ghost use Rattle.cfi_stacks.specs.ProfileIndexes.{AreBytesAt, AreBytesOf, HasRecords, HasRecordsAt};
-ghost use Rattle.cfi_stacks.specs.ProfileIndexes.{HoldsOf, IsIndex, IsReadAround};
+ghost use Rattle.cfi_stacks.specs.ProfileIndexes.{HoldsOf, IsIndex, IsReadAround, IsTallySaid};
 ghost use Rattle.cfi_stacks.specs.ProfileOutputs.{IsInputRefused, IsListingOwed, IsListingPrinted};
 ghost use Rattle.cfi_stacks.specs.ProfileOutputs.{IsOfArchitecture, IsOfRecords, IsProfileOfOpened};
 ghost use Rattle.cfi_stacks.specs.ProfileOutputs.{IsProfileOfSorted, IsProfileOfWanted};
@@ -21,8 +21,9 @@ use crate::choice::Choice;
 use crate::folding::print_folded;
 use crate::listing::{Listing, StackStyle};
 use crate::profile_errors::{write_perf_refusal, write_unknown_machine};
-use crate::profile_index::{ProfileIndex, index_records};
+use crate::profile_index::index_records;
 use crate::sample_stacks::print_stacks;
+use crate::turns::ChosenSamples;
 use cfi_inputs::write_input_refusal;
 use cfi_object::input::FileInput;
 use cfi_object::read_whole;
@@ -37,6 +38,15 @@ use gimli_cfi::Error;
 use std::alloc::Global;
 use std::io;
 use std::io::Write;
+
+/// How the stacks of a profile are printed, and what opens the files of its code.
+#[derive(Drop)]
+struct Printing<'r, O> {
+    alloc: Global,
+    listing: Listing,
+    choice: &'r Choice<'r>,
+    opener: &'r O,
+}
 
 /// Prints the stacks of the samples of a profile that are chosen: one after the other, in the order
 /// of their times, or folded. Other samples are neither unwound nor printed.
@@ -86,8 +96,14 @@ pub fn list_profile<O: Opener, I: FileInput, W: Write>(
         bytes line)
         (W.contents output.old) (W.contents output.new) result }
 {
+    let printing = Printing {
+        alloc,
+        listing,
+        choice,
+        opener,
+    };
     match read_around(alloc, input) {
-        Ok(around) => print_around(alloc, listing, choice, opener, &around, input, output),
+        Ok(around) => print_around(&printing, &around, input, output),
         Err(error) => write_input_refusal(output, listing.format(), error),
     }
 }
@@ -95,10 +111,7 @@ pub fn list_profile<O: Opener, I: FileInput, W: Write>(
 /// Prints the stacks of a profile, by what stands around its records; of one of which more is
 /// needed for these by all of its bytes.
 fn print_around<O: Opener, I: FileInput, W: Write>(
-    alloc: Global,
-    listing: Listing,
-    choice: &Choice<'_>,
-    opener: &O,
+    printing: &Printing<'_, O>,
     around: &Around,
     input: &mut I,
     output: &mut W,
@@ -106,37 +119,34 @@ fn print_around<O: Opener, I: FileInput, W: Write>(
     requires { IsReadAround (I.bytes input.old) around.now.before.items around.now.behind.items
         around.now.length }
     ensures { (bytes : List ℕ) × AreLeft (I.bytes input.old) bytes
-        × PrintsSome (λ line. IsListingOwed listing (choice_view choice.now)
-        (O.may_open opener.now) O.File.remaining
-        bytes line)
+        × PrintsSome (λ line. IsListingOwed printing.now.listing
+        (choice_view printing.now.choice.now) (O.may_open printing.now.opener.now)
+        O.File.remaining bytes line)
         (W.contents output.old) (W.contents output.new) result }
 {
     let before = around.before.as_slice();
     match Profile::parse_around(before, around.behind.as_slice(), around.length) {
-        Ok(Some(head)) => print_profile(alloc, listing, choice, opener, &head, input, output),
-        Ok(None) => print_whole(alloc, listing, choice, opener, input, output),
-        Err(error) => write_perf_refusal(output, listing.format(), error),
+        Ok(Some(head)) => print_profile(printing, &head, input, output),
+        Ok(None) => print_whole(printing, input, output),
+        Err(error) => write_perf_refusal(output, printing.listing.format(), error),
     }
 }
 
 /// Reads the profile whole, and prints its stacks.
 fn print_whole<O: Opener, I: FileInput, W: Write>(
-    alloc: Global,
-    listing: Listing,
-    choice: &Choice<'_>,
-    opener: &O,
+    printing: &Printing<'_, O>,
     input: &mut I,
     output: &mut W,
 ) -> io::Result<u8>
     ensures { (bytes : List ℕ) × AreLeft (I.bytes input.old) bytes
-        × PrintsSome (λ line. IsListingOwed listing (choice_view choice.now)
-        (O.may_open opener.now) O.File.remaining
-        bytes line)
+        × PrintsSome (λ line. IsListingOwed printing.now.listing
+        (choice_view printing.now.choice.now) (O.may_open printing.now.opener.now)
+        O.File.remaining bytes line)
         (W.contents output.old) (W.contents output.new) result }
 {
-    match read_whole(alloc, input) {
-        Ok(bytes) => print_bytes(alloc, listing, choice, opener, bytes.as_slice(), output),
-        Err(error) => write_input_refusal(output, listing.format(), error),
+    match read_whole(printing.alloc, input) {
+        Ok(bytes) => print_bytes(printing, bytes.as_slice(), output),
+        Err(error) => write_input_refusal(output, printing.listing.format(), error),
     }
 }
 
@@ -165,34 +175,28 @@ pub fn unwind_profile<O: Opener, I: FileInput, W: Write>(
 
 /// Prints the stacks of the profile that these bytes are.
 fn print_bytes<O: Opener, W: Write>(
-    alloc: Global,
-    listing: Listing,
-    choice: &Choice<'_>,
-    opener: &O,
+    printing: &Printing<'_, O>,
     bytes: &[u8],
     output: &mut W,
 ) -> io::Result<u8>
-    ensures { PrintsSome (λ line. IsProfileOutput listing (choice_view choice.now)
-        (O.may_open opener.now) O.File.remaining
-        bytes.now line)
+    ensures { PrintsSome (λ line. IsProfileOutput printing.now.listing
+        (choice_view printing.now.choice.now) (O.may_open printing.now.opener.now)
+        O.File.remaining bytes.now line)
         (W.contents output.old) (W.contents output.new) result }
 {
     match Profile::parse(bytes) {
         Ok(profile) => {
             let mut input = bytes;
             let head = profile.head();
-            print_profile(alloc, listing, choice, opener, &head, &mut input, output)
+            print_profile(printing, &head, &mut input, output)
         }
-        Err(error) => write_perf_refusal(output, listing.format(), error),
+        Err(error) => write_perf_refusal(output, printing.listing.format(), error),
     }
 }
 
 /// Prints the stacks of a profile, which says this before its records.
 fn print_profile<O: Opener, I: FileInput, W: Write>(
-    alloc: Global,
-    listing: Listing,
-    choice: &Choice<'_>,
-    opener: &O,
+    printing: &Printing<'_, O>,
     head: &ProfileHead<'_>,
     input: &mut I,
     output: &mut W,
@@ -201,36 +205,24 @@ fn print_profile<O: Opener, I: FileInput, W: Write>(
         (head_view head.now).size }
     ensures { PrintsSome (λ line. (all : List ℕ)
         × AreBytesAt (I.bytes input.old) (head_view head.now).place (head_view head.now).size all
-        × IsOfArchitecture listing (choice_view choice.now)
-        (O.may_open opener.now) O.File.remaining
+        × IsOfArchitecture printing.now.listing (choice_view printing.now.choice.now)
+        (O.may_open printing.now.opener.now) O.File.remaining
         (head_view head.now).architecture (records_by (head_view head.now) all) line)
         (W.contents output.old) (W.contents output.new) result }
 {
     match head.architecture() {
         Ok(Some(name)) => match SampleMachine::named(name) {
-            Some(machine) => print_records(
-                alloc,
-                listing,
-                choice,
-                opener,
-                machine,
-                head.walk(),
-                input,
-                output,
-            ),
-            None => write_unknown_machine(output, listing.format()),
+            Some(machine) => print_records(printing, machine, head.walk(), input, output),
+            None => write_unknown_machine(output, printing.listing.format()),
         },
-        Ok(None) => write_unknown_machine(output, listing.format()),
-        Err(error) => write_perf_refusal(output, listing.format(), error),
+        Ok(None) => write_unknown_machine(output, printing.listing.format()),
+        Err(error) => write_perf_refusal(output, printing.listing.format(), error),
     }
 }
 
 /// Prints the stacks that the records have, and then the error that ends them, if any.
 fn print_records<O: Opener, I: FileInput, W: Write>(
-    alloc: Global,
-    listing: Listing,
-    choice: &Choice<'_>,
-    opener: &O,
+    printing: &Printing<'_, O>,
     machine: SampleMachine,
     walk: RecordWalk<'_>,
     input: &mut I,
@@ -238,45 +230,48 @@ fn print_records<O: Opener, I: FileInput, W: Write>(
 ) -> io::Result<u8>
     requires { HasRecords (I.bytes input.old) walk }
     ensures { PrintsSome (λ line. (all : List ℕ) × AreBytesOf (I.bytes input.old) walk.entry all
-        × IsOfRecords listing (choice_view choice.now)
-        (O.may_open opener.now) O.File.remaining
+        × IsOfRecords printing.now.listing (choice_view printing.now.choice.now)
+        (O.may_open printing.now.opener.now) O.File.remaining
         machine (records_in walk.entry all) line)
         (W.contents output.old) (W.contents output.new) result }
 {
-    match index_records(alloc, walk, input) {
-        Ok(index) => print_indexed(
-            alloc, listing, choice, opener, machine, &index, input, output,
-        ),
-        Err(error) => write_input_refusal(output, listing.format(), error),
+    match index_records(printing.alloc, walk, input) {
+        Ok(index) => {
+            let chosen = ChosenSamples {
+                alloc: printing.alloc,
+                choice: printing.choice,
+                machine,
+                index: &index,
+            };
+            print_indexed(printing.listing, printing.opener, &chosen, input, output)
+        }
+        Err(error) => write_input_refusal(output, printing.listing.format(), error),
     }
 }
 
 /// Prints the stacks of the records of an index. Says before them if there are no copies of stacks,
 /// and after them what was lost.
 fn print_indexed<O: Opener, I: FileInput, W: Write>(
-    alloc: Global,
     listing: Listing,
-    choice: &Choice<'_>,
     opener: &O,
-    machine: SampleMachine,
-    index: &ProfileIndex<'_>,
+    chosen: &ChosenSamples<'_, '_>,
     input: &mut I,
     output: &mut W,
 ) -> io::Result<u8>
-    requires { IsIndex (I.bytes input.old) index.now }
-    ensures { PrintsSome (λ line. HoldsOf (I.bytes input.old) index.now (λ sorted.
-        IsProfileOfSorted listing (choice_view choice.now) (O.may_open opener.now) O.File.remaining
-        machine sorted index.now.error line)
+    requires { IsIndex (I.bytes input.old) chosen.now.index.now }
+    ensures printed { PrintsSome (λ line. HoldsOf (I.bytes input.old) chosen.now.index.now
+        (λ sorted. IsProfileOfSorted listing (choice_view chosen.now.choice.now)
+        (O.may_open opener.now) O.File.remaining chosen.now.machine sorted
+        chosen.now.index.now.error line)
         ⊎ IsInputRefused (listing_format listing) line)
         (W.contents output.old) (W.contents output.new) result }
+    ensures said { IsTallySaid (O.has_said opener.now) chosen.now.index.now.tally }
 {
-    let tally = index.tally;
+    let tally = chosen.index.tally;
     if tally.has_samples && !tally.has_stacks {
         opener.tell_without_stacks();
     }
-    let printed = print_mapped(
-        alloc, listing, choice, opener, machine, index, input, output,
-    );
+    let printed = print_mapped(listing, opener, chosen, input, output);
     if tally.lost_records != 0 || tally.lost_samples != 0 {
         opener.tell_lost(tally.lost_records, tally.lost_samples);
     }
@@ -285,28 +280,23 @@ fn print_indexed<O: Opener, I: FileInput, W: Write>(
 
 /// Opens the files of the records, and prints the stacks.
 fn print_mapped<O: Opener, I: FileInput, W: Write>(
-    alloc: Global,
     listing: Listing,
-    choice: &Choice<'_>,
     opener: &O,
-    machine: SampleMachine,
-    index: &ProfileIndex<'_>,
+    chosen: &ChosenSamples<'_, '_>,
     input: &mut I,
     output: &mut W,
 ) -> io::Result<u8>
-    requires { IsIndex (I.bytes input.old) index.now }
-    ensures { PrintsSome (λ line. HoldsOf (I.bytes input.old) index.now (λ sorted.
-        IsProfileOfSorted listing (choice_view choice.now) (O.may_open opener.now) O.File.remaining
-        machine sorted index.now.error line)
+    requires { IsIndex (I.bytes input.old) chosen.now.index.now }
+    ensures { PrintsSome (λ line. HoldsOf (I.bytes input.old) chosen.now.index.now (λ sorted.
+        IsProfileOfSorted listing (choice_view chosen.now.choice.now) (O.may_open opener.now)
+        O.File.remaining chosen.now.machine sorted chosen.now.index.now.error line)
         ⊎ IsInputRefused (listing_format listing) line)
         (W.contents output.old) (W.contents output.new) result }
 {
-    match index.wanted_files(alloc) {
+    match chosen.index.wanted_files(chosen.alloc) {
         Ok(wanted) => {
             let wanted = wanted.as_slice();
-            print_wanted(
-                alloc, listing, choice, opener, machine, wanted, index, input, output,
-            )
+            print_wanted(listing, opener, chosen, wanted, input, output)
         }
         Err(error) => write_input_refusal(output, listing.format(), error),
     }
@@ -314,29 +304,25 @@ fn print_mapped<O: Opener, I: FileInput, W: Write>(
 
 /// Opens these files, and prints the stacks of the records.
 fn print_wanted<O: Opener, I: FileInput, W: Write>(
-    alloc: Global,
     listing: Listing,
-    choice: &Choice<'_>,
     opener: &O,
-    machine: SampleMachine,
+    chosen: &ChosenSamples<'_, '_>,
     wanted: &[WantedFile<'_>],
-    index: &ProfileIndex<'_>,
     input: &mut I,
     output: &mut W,
 ) -> io::Result<u8>
-    requires { IsIndex (I.bytes input.old) index.now }
-    ensures { PrintsSome (λ line. HoldsOf (I.bytes input.old) index.now (λ sorted.
-        IsProfileOfWanted listing (choice_view choice.now) (O.may_open opener.now) O.File.remaining
-        machine (map wanted_view wanted.now) sorted index.now.error line)
+    requires { IsIndex (I.bytes input.old) chosen.now.index.now }
+    ensures { PrintsSome (λ line. HoldsOf (I.bytes input.old) chosen.now.index.now (λ sorted.
+        IsProfileOfWanted listing (choice_view chosen.now.choice.now) (O.may_open opener.now)
+        O.File.remaining chosen.now.machine (map wanted_view wanted.now) sorted
+        chosen.now.index.now.error line)
         ⊎ IsInputRefused (listing_format listing) line)
         (W.contents output.old) (W.contents output.new) result }
 {
-    match read_files(alloc, false, opener, wanted) {
+    match read_files(chosen.alloc, false, opener, wanted) {
         Ok(opened) => {
             let opened = opened.as_slice();
-            print_opened(
-                alloc, listing, choice, machine, opened, index, input, output,
-            )
+            print_opened(listing, chosen, opened, input, output)
         }
         Err(_) => write_refusal_in(output, listing.format(), Error::OutOfMemory),
     }
@@ -344,26 +330,24 @@ fn print_wanted<O: Opener, I: FileInput, W: Write>(
 
 /// Prints the stacks of the records, by files that were opened.
 fn print_opened<I: FileInput, W: Write>(
-    alloc: Global,
     listing: Listing,
-    choice: &Choice<'_>,
-    machine: SampleMachine,
+    chosen: &ChosenSamples<'_, '_>,
     opened: &[OpenedFile<'_>],
-    index: &ProfileIndex<'_>,
     input: &mut I,
     output: &mut W,
 ) -> io::Result<u8>
-    requires { IsIndex (I.bytes input.old) index.now }
+    requires { IsIndex (I.bytes input.old) chosen.now.index.now }
     ensures { (all : List Opened) → AreOpenedAs opened.now all
-        → PrintsSome (λ line. HoldsOf (I.bytes input.old) index.now (λ sorted.
-        IsProfileOfOpened listing (choice_view choice.now) machine all sorted index.now.error line)
+        → PrintsSome (λ line. HoldsOf (I.bytes input.old) chosen.now.index.now (λ sorted.
+        IsProfileOfOpened listing (choice_view chosen.now.choice.now) chosen.now.machine all
+        sorted chosen.now.index.now.error line)
         ⊎ IsInputRefused (listing_format listing) line)
         (W.contents output.old) (W.contents output.new) result }
 {
-    match profile_files(alloc, listing.names_functions(), opened) {
+    match profile_files(chosen.alloc, listing.names_functions(), opened) {
         Ok(files) => {
             let files = files.as_slice();
-            print_listing(alloc, listing, choice, machine, files, index, input, output)
+            print_listing(listing, chosen, files, input, output)
         }
         Err(_) => write_refusal_in(output, listing.format(), Error::OutOfMemory),
     }
@@ -371,31 +355,24 @@ fn print_opened<I: FileInput, W: Write>(
 
 /// Prints the stacks of the records, by the files, as they are to be listed.
 fn print_listing<I: FileInput, W: Write>(
-    alloc: Global,
     listing: Listing,
-    choice: &Choice<'_>,
-    machine: SampleMachine,
+    chosen: &ChosenSamples<'_, '_>,
     files: &[ProfileFile<'_>],
-    index: &ProfileIndex<'_>,
     input: &mut I,
     output: &mut W,
 ) -> io::Result<u8>
-    requires { IsIndex (I.bytes input.old) index.now }
-    ensures { PrintsSome (λ line. HoldsOf (I.bytes input.old) index.now (λ sorted.
-        IsListingPrinted listing (choice_view choice.now) machine
-        (map known_view files.now) sorted index.now.error line))
+    requires { IsIndex (I.bytes input.old) chosen.now.index.now }
+    ensures { PrintsSome (λ line. HoldsOf (I.bytes input.old) chosen.now.index.now (λ sorted.
+        IsListingPrinted listing (choice_view chosen.now.choice.now) chosen.now.machine
+        (map known_view files.now) sorted chosen.now.index.now.error line))
         (W.contents output.old) (W.contents output.new) result }
 {
     let format = listing.format();
     match listing {
         Listing::Frames(raw) | Listing::Json(raw) => {
             let style = StackStyle { raw, format };
-            print_stacks(alloc, style, choice, machine, files, index, input, output)
+            print_stacks(chosen, style, files, input, output)
         }
-        Listing::Folded(by_period) => {
-            print_folded(
-                alloc, by_period, choice, machine, files, index, input, output,
-            )
-        }
+        Listing::Folded(by_period) => print_folded(chosen, by_period, files, input, output),
     }
 }

@@ -4,23 +4,23 @@ ghost use Rattle.std.specs.Prelude.{option_map};
 ghost use Rattle.cfi_perf.specs.CallChains.{addresses_left};
 ghost use Rattle.cfi_perf.specs.Samples.{kernel_frames, sample_view};
 ghost use Rattle.cfi_processes.specs.KnownFiles.{known_view};
-ghost use Rattle.cfi_processes.specs.KernelSites.{chain_site, kernel_site};
+ghost use Rattle.cfi_processes.specs.KernelSites.{chain_site};
 ghost use Rattle.cfi_processes.specs.Mappings.{AreMappedInOrder};
-ghost use Rattle.cfi_processes.specs.ThreadNames.{name_bytes};
 ghost use Rattle.cfi_programs.specs.JsonLines.{separated};
 ghost use Rattle.cfi_programs.specs.WriterOutput.{Writes};
 ghost use Rattle.cfi_stacks.specs.SampleOutputs.{all_objects, chain_objects, reason_for};
 ghost use Rattle.cfi_stacks.specs.SampleOutputs.{sample_object, sample_reason, user_objects};
 ghost use Rattle.cfi_stacks.specs.Reasons.{reason_view};
 ghost use Rattle.cfi_stacks.specs.FrameObjects.{closing, comma_before, is_nil};
+ghost use Rattle.cfi_stacks.specs.TakenSamples.{of_taken, taken_view};
 
 use crate::frame_objects::{write_frame_object, write_object_end};
 use crate::listing::FrameStyle;
 use crate::reasons::{Reason, reason_of, reason_without};
 use crate::sample_members::write_sample_head;
+use crate::taken_sample::TakenSample;
 use crate::walk_objects::write_walk;
 use cfi_perf::{Addresses, Sample};
-use cfi_processes::Name;
 use cfi_processes::process_code::ProcessCode;
 use cfi_processes::sample_stack::NoFrames;
 use cfi_step::{StackFrame, Walk};
@@ -33,50 +33,41 @@ use std::io::Write;
 pub(crate) fn write_sample_object<W: Write>(
     output: &mut W,
     raw: bool,
-    kernel: &ProcessCode<'_, '_, '_>,
-    code: &ProcessCode<'_, '_, '_>,
-    name: Option<Name<'_>>,
-    time: u64,
-    sample: &Sample<'_>,
+    taken: &TakenSample<'_, '_, '_>,
     found: Result<Walk, NoFrames>,
     frames: &[StackFrame],
 ) -> io::Result<()>
-    requires kernel { AreMappedInOrder 0 kernel.now.mappings.now }
-    requires order { AreMappedInOrder 0 code.now.mappings.now }
+    requires kernel { AreMappedInOrder 0 taken.now.kernel.mappings.now }
+    requires order { AreMappedInOrder 0 taken.now.code.mappings.now }
     requires count { IfOk found (λ walk. walk.count ≤ length frames.now) }
     ensures { Writes (W.contents output.old) (W.contents output.new) result
-        (sample_object raw
-        (kernel_site (map known_view kernel.now.files.now) kernel.now.mappings.now)
-        (map known_view code.now.files.now) code.now.mappings.now
-        (name_bytes name.entry) time (sample_view sample.now) found frames.now) }
+        (of_taken (sample_object raw) (taken_view taken.now) found frames.now) }
 {
-    write_sample_head(output, name, time, sample)?;
-    write_all_frames(output, raw, kernel, code, sample, found, frames)?;
-    write_object_end(output, sample_reason(sample, found))
+    write_sample_head(output, taken.name, taken.time, &taken.sample)?;
+    write_all_frames(output, raw, taken, found, frames)?;
+    write_object_end(output, sample_reason(&taken.sample, found))
 }
 
 /// Writes the frames of the kernel, and those of user space.
 fn write_all_frames<W: Write>(
     output: &mut W,
     raw: bool,
-    kernel: &ProcessCode<'_, '_, '_>,
-    code: &ProcessCode<'_, '_, '_>,
-    sample: &Sample<'_>,
+    taken: &TakenSample<'_, '_, '_>,
     found: Result<Walk, NoFrames>,
     frames: &[StackFrame],
 ) -> io::Result<()>
-    requires kernel { AreMappedInOrder 0 kernel.now.mappings.now }
-    requires order { AreMappedInOrder 0 code.now.mappings.now }
+    requires kernel { AreMappedInOrder 0 taken.now.kernel.mappings.now }
+    requires order { AreMappedInOrder 0 taken.now.code.mappings.now }
     requires count { IfOk found (λ walk. walk.count ≤ length frames.now) }
     ensures { Writes (W.contents output.old) (W.contents output.new) result
-        (separated true (all_objects raw
-        (kernel_site (map known_view kernel.now.files.now) kernel.now.mappings.now)
-        (map known_view code.now.files.now) code.now.mappings.now
-        (sample_view sample.now) found frames.now)) }
+        (separated true (all_objects raw (taken_view taken.now).in_kernel
+        (taken_view taken.now).files (taken_view taken.now).mapped
+        (taken_view taken.now).sample found frames.now)) }
 {
-    write_chain(output, true, raw, true, kernel, sample.kernel_frames())?;
-    let is_first = !has_kernel_frames(sample);
-    write_user_frames(output, is_first, raw, code, sample, found, frames)
+    let kernel_frames = taken.sample.kernel_frames();
+    write_chain(output, true, raw, true, &taken.kernel, kernel_frames)?;
+    let is_first = !has_kernel_frames(&taken.sample);
+    write_user_frames(output, is_first, raw, taken, found, frames)
 }
 
 /// Whether a sample has frames of the kernel.
@@ -92,23 +83,23 @@ fn write_user_frames<W: Write>(
     output: &mut W,
     is_first: bool,
     raw: bool,
-    code: &ProcessCode<'_, '_, '_>,
-    sample: &Sample<'_>,
+    taken: &TakenSample<'_, '_, '_>,
     found: Result<Walk, NoFrames>,
     frames: &[StackFrame],
 ) -> io::Result<()>
-    requires order { AreMappedInOrder 0 code.now.mappings.now }
+    requires order { AreMappedInOrder 0 taken.now.code.mappings.now }
     requires count { IfOk found (λ walk. walk.count ≤ length frames.now) }
     ensures { Writes (W.contents output.old) (W.contents output.new) result
-        (separated is_first (user_objects raw (map known_view code.now.files.now)
-        code.now.mappings.now (sample_view sample.now) found frames.now)) }
+        (separated is_first (user_objects raw (taken_view taken.now).files
+        (taken_view taken.now).mapped (taken_view taken.now).sample found frames.now)) }
 {
-    if sample.copies_stack {
+    if taken.sample.copies_stack {
         let with_address = false;
         let style = FrameStyle { raw, with_address };
-        write_walk(output, is_first, style, code, found, frames)
+        write_walk(output, is_first, style, &taken.code, found, frames)
     } else {
-        write_chain(output, is_first, raw, false, code, sample.user_frames())
+        let user_frames = taken.sample.user_frames();
+        write_chain(output, is_first, raw, false, &taken.code, user_frames)
     }
 }
 

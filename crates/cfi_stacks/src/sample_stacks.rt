@@ -14,13 +14,12 @@ ghost use Rattle.cfi_stacks.specs.ProfileOutputs.{AreStacksPrinted};
 ghost use Rattle.cfi_stacks.specs.KnownSamples.{known_in};
 ghost use Rattle.cfi_stacks.specs.Rooms.{IsRoomFor, KeepsNoRows};
 
-use crate::choice::Choice;
 use crate::listing::StackStyle;
 use crate::profile_errors::write_end;
-use crate::profile_index::ProfileIndex;
 use crate::room::Room;
 use crate::sample_text::print_sample;
-use crate::turns::{follow_other, is_left_out, left_after, load_for};
+use crate::taken_sample::TakenSample;
+use crate::turns::{ChosenSamples, Walker, follow_other, is_left_out, left_after, load_for};
 use cfi_inputs::write_input_refusal;
 use cfi_object::input::{FileInput, InputError};
 use cfi_perf::{Event, PlaceKind, Record, RecordPlace};
@@ -30,73 +29,60 @@ use cfi_processes::registers::SampleMachine;
 use cfi_processes::replay::Replay;
 use cfi_programs::refusals::write_refusal_in;
 use gimli_cfi::Error;
-use std::alloc::Global;
 use std::io;
 use std::io::Write;
 
-/// Prints the stacks of the records, by the files, and then the error that ended the records.
+/// Prints the stacks of the samples, by the files, and then the error that ended the records.
 pub(crate) fn print_stacks<I: FileInput, W: Write>(
-    alloc: Global,
+    chosen: &ChosenSamples<'_, '_>,
     style: StackStyle,
-    choice: &Choice<'_>,
-    machine: SampleMachine,
     files: &[ProfileFile<'_>],
-    index: &ProfileIndex<'_>,
     input: &mut I,
     output: &mut W,
 ) -> io::Result<u8>
-    requires { IsIndex (I.bytes input.old) index.now }
-    ensures { PrintsSome (λ line. HoldsOf (I.bytes input.old) index.now (λ sorted.
-        AreStacksPrinted style machine (map known_view files.now)
-        (choice_view choice.now) sorted index.now.error line))
+    requires { IsIndex (I.bytes input.old) chosen.now.index.now }
+    ensures { PrintsSome (λ line. HoldsOf (I.bytes input.old) chosen.now.index.now (λ sorted.
+        AreStacksPrinted style chosen.now.machine (map known_view files.now)
+        (choice_view chosen.now.choice.now) sorted chosen.now.index.now.error line))
         (W.contents output.old) (W.contents output.new) result }
 {
-    match Room::new(alloc) {
-        Ok(room) => print_in(
-            alloc, style, choice, room, machine, files, index, input, output,
-        ),
+    match Room::new(chosen.alloc) {
+        Ok(room) => print_in(chosen, style, room, files, input, output),
         Err(_) => write_refusal_in(output, style.format, Error::OutOfMemory),
     }
 }
 
-/// Prints the stacks of the records in this room, and then the error that ended the records.
+/// Prints the stacks of the samples in this room, and then the error that ended the records.
 /// Neither a sample that isn't chosen nor one after the limit is unwound.
 fn print_in<I: FileInput, W: Write>(
-    alloc: Global,
+    chosen: &ChosenSamples<'_, '_>,
     style: StackStyle,
-    choice: &Choice<'_>,
     room: Room,
-    machine: SampleMachine,
     files: &[ProfileFile<'_>],
-    index: &ProfileIndex<'_>,
     input: &mut I,
     output: &mut W,
 ) -> io::Result<u8>
     requires rows { KeepsNoRows room }
     requires frames { HasRoom room.frames.items }
-    requires index { IsIndex (I.bytes input.old) index.now }
-    ensures { PrintsSome (λ line. HoldsOf (I.bytes input.old) index.now (λ sorted.
-        AreStacksPrinted style machine (map known_view files.now)
-        (choice_view choice.now) sorted index.now.error line))
+    requires index { IsIndex (I.bytes input.old) chosen.now.index.now }
+    ensures { PrintsSome (λ line. HoldsOf (I.bytes input.old) chosen.now.index.now (λ sorted.
+        AreStacksPrinted style chosen.now.machine (map known_view files.now)
+        (choice_view chosen.now.choice.now) sorted chosen.now.index.now.error line))
         (W.contents output.old) (W.contents output.new) result }
 {
-    let mut room = room;
-    let mut replay = Replay::new(alloc, files);
-    let mut left = choice.limit;
-    for place in index.records.places() {
+    let replay = Replay::new(chosen.alloc, files);
+    let mut walker = Walker { replay, room };
+    let mut left = chosen.choice.limit;
+    for place in chosen.index.records.places() {
         if left == Some(0) {
-            return write_end(output, style.format, index.error);
+            return write_end(output, style.format, chosen.index.error);
         }
-        let room = &mut room;
-        let replay = &mut replay;
-        match print_place(
-            alloc, style, choice, machine, index, place, left, input, replay, room, output,
-        )? {
+        match print_place(chosen, style, place, left, input, &mut walker, output)? {
             Ok(more) => left = more,
             Err(error) => return write_input_refusal(output, style.format, error),
         }
     }
-    write_end(output, style.format, index.error)
+    write_end(output, style.format, chosen.index.error)
 }
 
 /// Follows the record at a place, and prints its stack if it is a sample that is chosen. Returns
@@ -104,100 +90,100 @@ fn print_in<I: FileInput, W: Write>(
 ///
 /// `Unreadable` where it can't be read, `OutOfMemory` where memory is refused.
 fn print_place<'k, I: FileInput, W: Write>(
-    alloc: Global,
+    chosen: &ChosenSamples<'k, '_>,
     style: StackStyle,
-    choice: &Choice<'_>,
-    machine: SampleMachine,
-    index: &'k ProfileIndex<'_>,
     place: &RecordPlace,
     left: Option<u64>,
     input: &mut I,
-    replay: &mut Replay<'_, '_, 'k>,
-    room: &mut Room,
+    walker: &mut Walker<'_, '_, 'k>,
     output: &mut W,
 ) -> io::Result<Result<Option<u64>, InputError>>
-    requires own { HasOwnModules replay.old }
-    requires cached { IsRoomFor (replay_files replay.old) room.old }
-    ensures printed { PrintsTurn style machine (replay_known replay.old) (choice_view choice.now)
-        (I.bytes input.old) index.now place.now (known_in replay.old) left (known_in replay.new)
+    requires own { HasOwnModules walker.old.replay }
+    requires cached { IsRoomFor (replay_files walker.old.replay) walker.old.room }
+    ensures printed { PrintsTurn style chosen.now.machine (replay_known walker.old.replay)
+        (choice_view chosen.now.choice.now) (I.bytes input.old) chosen.now.index.now place.now
+        (known_in walker.old.replay) left (known_in walker.new.replay)
         (W.contents output.old) (W.contents output.new) result }
     ensures same { I.bytes input.new ≡ I.bytes input.old }
-    ensures own { HasOwnModules replay.new }
-    ensures cached { IsRoomFor (replay_files replay.new) room.new }
-    ensures files { replay_files replay.new ≡ replay_files replay.old }
+    ensures own { HasOwnModules walker.new.replay }
+    ensures cached { IsRoomFor (replay_files walker.new.replay) walker.new.room }
+    ensures files { replay_files walker.new.replay ≡ replay_files walker.old.replay }
 {
     match place.kind {
-        PlaceKind::InFile => match index.sample_bytes(alloc, place, input) {
+        PlaceKind::InFile => match chosen.index.sample_bytes(chosen.alloc, place, input) {
             Ok(bytes) => {
                 let bytes = bytes.as_slice();
-                print_bytes_of(
-                    style, choice, machine, index, place, bytes, left, replay, room, output,
-                )
+                print_bytes_of(chosen, style, place, bytes, left, walker, output)
             }
             Err(error) => Ok(Err(error)),
         },
-        _ => Ok(follow_other(index, place, left, replay)),
+        _ => Ok(follow_other(chosen.index, place, left, &mut walker.replay)),
     }
 }
 
 /// Prints the stack of the sample at a place, which has these bytes, if it is chosen.
 fn print_bytes_of<W: Write>(
+    chosen: &ChosenSamples<'_, '_>,
     style: StackStyle,
-    choice: &Choice<'_>,
-    machine: SampleMachine,
-    index: &ProfileIndex<'_>,
     place: &RecordPlace,
     bytes: &[u8],
     left: Option<u64>,
-    replay: &mut Replay<'_, '_, '_>,
-    room: &mut Room,
+    walker: &mut Walker<'_, '_, '_>,
     output: &mut W,
 ) -> io::Result<Result<Option<u64>, InputError>>
     requires kind { place.now.kind ≡ PlaceKind.InFile }
-    requires own { HasOwnModules replay.old }
-    requires cached { IsRoomFor (replay_files replay.old) room.old }
+    requires own { HasOwnModules walker.old.replay }
+    requires cached { IsRoomFor (replay_files walker.old.replay) walker.old.room }
     ensures printed { (known : Option (List ℕ))
-        → IsRecordsPart known index.now.walk place.now.offset place.now.size bytes.now
-        → PrintsTurn style machine (replay_known replay.old) (choice_view choice.now)
-        known index.now place.now (known_in replay.old) left (known_in replay.new)
+        → IsRecordsPart known chosen.now.index.now.walk place.now.offset place.now.size bytes.now
+        → PrintsTurn style chosen.now.machine (replay_known walker.old.replay)
+        (choice_view chosen.now.choice.now) known chosen.now.index.now place.now
+        (known_in walker.old.replay) left (known_in walker.new.replay)
         (W.contents output.old) (W.contents output.new) result }
-    ensures own { HasOwnModules replay.new }
-    ensures cached { IsRoomFor (replay_files replay.new) room.new }
-    ensures files { replay_files replay.new ≡ replay_files replay.old }
+    ensures own { HasOwnModules walker.new.replay }
+    ensures cached { IsRoomFor (replay_files walker.new.replay) walker.new.room }
+    ensures files { replay_files walker.new.replay ≡ replay_files walker.old.replay }
 {
-    match index.sample_at(place, bytes) {
-        Some(item) => print_chosen(style, choice, machine, &item, left, replay, room, output),
+    match chosen.index.sample_at(place, bytes) {
+        Some(item) => print_chosen(chosen, style, &item, left, walker, output),
         None => Ok(Err(InputError::Unreadable)),
     }
 }
 
 /// Prints the stack of a sample, if it is chosen.
 fn print_chosen<W: Write>(
+    chosen: &ChosenSamples<'_, '_>,
     style: StackStyle,
-    choice: &Choice<'_>,
-    machine: SampleMachine,
     item: &Record<'_>,
     left: Option<u64>,
-    replay: &mut Replay<'_, '_, '_>,
-    room: &mut Room,
+    walker: &mut Walker<'_, '_, '_>,
     output: &mut W,
 ) -> io::Result<Result<Option<u64>, InputError>>
     requires sample { is_sample (record_view item.now).event ≡ true }
-    requires own { HasOwnModules replay.old }
-    requires cached { IsRoomFor (replay_files replay.old) room.old }
-    ensures printed { PrintsRecord style machine (replay_known replay.old) (choice_view choice.now)
-        (record_view item.now) (known_in replay.old) left (known_in replay.new)
+    requires own { HasOwnModules walker.old.replay }
+    requires cached { IsRoomFor (replay_files walker.old.replay) walker.old.room }
+    ensures printed { PrintsRecord style chosen.now.machine (replay_known walker.old.replay)
+        (choice_view chosen.now.choice.now) (record_view item.now)
+        (known_in walker.old.replay) left (known_in walker.new.replay)
         (W.contents output.old) (W.contents output.new) result }
-    ensures own { HasOwnModules replay.new }
-    ensures cached { IsRoomFor (replay_files replay.new) room.new }
-    ensures files { replay_files replay.new ≡ replay_files replay.old }
+    ensures own { HasOwnModules walker.new.replay }
+    ensures cached { IsRoomFor (replay_files walker.new.replay) walker.new.room }
+    ensures files { replay_files walker.new.replay ≡ replay_files walker.old.replay }
 {
-    if is_left_out(choice, replay, item) {
+    if is_left_out(chosen.choice, &walker.replay, item) {
         return Ok(Ok(left));
     }
-    match load_for(replay, item) {
+    match load_for(&mut walker.replay, item) {
         Ok(()) => {
-            print_followed(style, machine, replay, item, room, output)?;
+            let machine = chosen.machine;
+            print_followed(
+                style,
+                machine,
+                &walker.replay,
+                item,
+                &mut walker.room,
+                output,
+            )?;
             Ok(Ok(left_after(left, item)))
         }
         Err(_) => Ok(Err(InputError::OutOfMemory)),
@@ -224,20 +210,14 @@ fn print_followed<W: Write>(
 {
     match item.event {
         Event::Sample(sample) => {
-            let kernel = replay.code(KERNEL);
-            let code = replay.code(sample.pid);
-            print_sample(
-                style,
-                machine,
-                &kernel,
-                &code,
-                replay.modules(),
-                replay.name(sample.tid),
-                item.time,
-                &sample,
-                room,
-                output,
-            )
+            let taken = TakenSample {
+                kernel: replay.code(KERNEL),
+                code: replay.code(sample.pid),
+                name: replay.name(sample.tid),
+                time: item.time,
+                sample,
+            };
+            print_sample(style, machine, replay.modules(), &taken, room, output)
         }
         _ => Ok(()),
     }

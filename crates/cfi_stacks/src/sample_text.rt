@@ -1,28 +1,27 @@
 //! The text of a sample's stack.
 ghost use Rattle.std.specs.Prelude.{◌≡◌, ◌≤◌, ℕ, IfOk, List, length, map};
-ghost use Rattle.cfi_perf.specs.Samples.{sample_view};
 ghost use Rattle.cfi_programs.specs.WriterOutput.{Writes};
 ghost use Rattle.cfi_processes.specs.FileModules.{AreModulesOfFiles};
 ghost use Rattle.cfi_perf.specs.CallChains.{addresses_left};
 ghost use Rattle.cfi_processes.specs.KnownFiles.{known_view};
-ghost use Rattle.cfi_processes.specs.KernelSites.{chain_site, kernel_site};
+ghost use Rattle.cfi_processes.specs.KernelSites.{chain_site};
 ghost use Rattle.cfi_processes.specs.ProcessModules.{modules_in};
 ghost use Rattle.cfi_processes.specs.Mappings.{AreMappedInOrder};
 ghost use Rattle.cfi_processes.specs.Modules.{loaded_module_view};
-ghost use Rattle.cfi_processes.specs.ThreadNames.{name_bytes};
-ghost use Rattle.cfi_stacks.specs.ChosenStacks.{IsStackText};
+ghost use Rattle.cfi_stacks.specs.ChosenStacks.{IsStackOf};
 ghost use Rattle.cfi_stacks.specs.SampleOutputs.{chain_text, frames_text, sample_in_format};
 ghost use Rattle.cfi_stacks.specs.SampleOutputs.{sample_text, user_text};
 ghost use Rattle.cfi_stacks.specs.Rooms.{IsRoomFor};
+ghost use Rattle.cfi_stacks.specs.TakenSamples.{of_taken, taken_view};
 
 use crate::frame_lines::{LineRoom, write_site_line};
 use crate::listing::{FrameStyle, StackStyle};
 use crate::room::Room;
 use crate::sample_head::write_head;
 use crate::sample_object::write_sample_object;
+use crate::taken_sample::TakenSample;
 use crate::walk_lines::print_walk;
-use cfi_perf::{Addresses, Sample};
-use cfi_processes::Name;
+use cfi_perf::Addresses;
 use cfi_processes::process_code::ProcessCode;
 use cfi_processes::process_modules::FileModule;
 use cfi_processes::registers::SampleMachine;
@@ -38,153 +37,116 @@ use std::io::Write;
 /// outermost, and an empty line.
 ///
 /// By the style it is an object of JSON in a line instead (`sample_object`), and has no functions.
-/// `kernel` is what is mapped as code of the kernel (`KERNEL`). The frames of user space are those
-/// of the call chain where the sample's event copies no stacks. The modules are those of what is
-/// mapped. The rows that the room keeps are those of the files, in whichever process they were
-/// found. There is room for 4096 frames. Does not allocate.
+/// The frames of user space are those of the call chain where the sample's event copies no stacks.
+/// The modules are those of what is mapped. The rows that the room keeps are those of the files, in
+/// whichever process they were found. There is room for 4096 frames. Does not allocate.
 pub fn print_sample<W: Write>(
     style: StackStyle,
     machine: SampleMachine,
-    kernel: &ProcessCode<'_, '_, '_>,
-    code: &ProcessCode<'_, '_, '_>,
     modules: &[FileModule<'_, '_>],
-    name: Option<Name<'_>>,
-    time: u64,
-    sample: &Sample<'_>,
+    taken: &TakenSample<'_, '_, '_>,
     room: &mut Room,
     output: &mut W,
 ) -> io::Result<()>
-    requires kernel { AreMappedInOrder 0 kernel.now.mappings.now }
-    requires order { AreMappedInOrder 0 code.now.mappings.now }
+    requires kernel { AreMappedInOrder 0 taken.now.kernel.mappings.now }
+    requires order { AreMappedInOrder 0 taken.now.code.mappings.now }
     requires modules { map loaded_module_view modules.now
-        ≡ modules_in (map known_view code.now.files.now) code.now.mappings.now }
-    requires files { AreModulesOfFiles code.now.files.now modules.now }
-    requires cached { IsRoomFor code.now.files.now room.old }
+        ≡ modules_in (taken_view taken.now).files taken.now.code.mappings.now }
+    requires files { AreModulesOfFiles taken.now.code.files.now modules.now }
+    requires cached { IsRoomFor taken.now.code.files.now room.old }
     ensures printed { (text : List ℕ)
         × Writes (W.contents output.old) (W.contents output.new) result text
-        × IsStackText style machine (map known_view code.now.files.now)
-        (kernel_site (map known_view kernel.now.files.now) kernel.now.mappings.now)
-        code.now.mappings.now (name_bytes name.entry) time (sample_view sample.now) text }
-    ensures cached { IsRoomFor code.now.files.now room.new }
+        × IsStackOf style machine (taken_view taken.now) text }
+    ensures cached { IsRoomFor taken.now.code.files.now room.new }
 {
-    let found = room.walk_sample(machine, code, modules, &sample.user);
-    print_found(
-        style,
-        kernel,
-        code,
-        name,
-        time,
-        sample,
-        found,
-        room.frames.as_slice(),
-        output,
-    )
+    let found = room.walk_sample(machine, &taken.code, modules, &taken.sample.user);
+    print_found(style, taken, found, room.frames.as_slice(), output)
 }
 
 /// Prints what was found of a sample's stack.
 fn print_found<W: Write>(
     style: StackStyle,
-    kernel: &ProcessCode<'_, '_, '_>,
-    code: &ProcessCode<'_, '_, '_>,
-    name: Option<Name<'_>>,
-    time: u64,
-    sample: &Sample<'_>,
+    taken: &TakenSample<'_, '_, '_>,
     found: Result<Walk, NoFrames>,
     frames: &[StackFrame],
     output: &mut W,
 ) -> io::Result<()>
-    requires kernel { AreMappedInOrder 0 kernel.now.mappings.now }
-    requires order { AreMappedInOrder 0 code.now.mappings.now }
+    requires kernel { AreMappedInOrder 0 taken.now.kernel.mappings.now }
+    requires order { AreMappedInOrder 0 taken.now.code.mappings.now }
     requires count { IfOk found (λ walk. walk.count ≤ length frames.now) }
     ensures { Writes (W.contents output.old) (W.contents output.new) result
-        (sample_in_format style
-        (kernel_site (map known_view kernel.now.files.now) kernel.now.mappings.now)
-        (map known_view code.now.files.now) code.now.mappings.now
-        (name_bytes name.entry) time (sample_view sample.now) found frames.now) }
+        (of_taken (sample_in_format style) (taken_view taken.now) found frames.now) }
 {
-    let raw = style.raw;
     match style.format {
-        Format::Text => print_lines(raw, kernel, code, name, time, sample, found, frames, output),
-        Format::Json => write_sample_object(
-            output, raw, kernel, code, name, time, sample, found, frames,
-        ),
+        Format::Text => print_lines(style.raw, taken, found, frames, output),
+        Format::Json => write_sample_object(output, style.raw, taken, found, frames),
     }
 }
 
 /// Prints what was found of a sample's stack as lines.
 fn print_lines<W: Write>(
     raw: bool,
-    kernel: &ProcessCode<'_, '_, '_>,
-    code: &ProcessCode<'_, '_, '_>,
-    name: Option<Name<'_>>,
-    time: u64,
-    sample: &Sample<'_>,
+    taken: &TakenSample<'_, '_, '_>,
     found: Result<Walk, NoFrames>,
     frames: &[StackFrame],
     output: &mut W,
 ) -> io::Result<()>
-    requires kernel { AreMappedInOrder 0 kernel.now.mappings.now }
-    requires order { AreMappedInOrder 0 code.now.mappings.now }
+    requires kernel { AreMappedInOrder 0 taken.now.kernel.mappings.now }
+    requires order { AreMappedInOrder 0 taken.now.code.mappings.now }
     requires count { IfOk found (λ walk. walk.count ≤ length frames.now) }
     ensures { Writes (W.contents output.old) (W.contents output.new) result
-        (sample_text raw
-        (kernel_site (map known_view kernel.now.files.now) kernel.now.mappings.now)
-        (map known_view code.now.files.now) code.now.mappings.now
-        (name_bytes name.entry) time (sample_view sample.now) found frames.now) }
+        (of_taken (sample_text raw) (taken_view taken.now) found frames.now) }
 {
     let mut room = LineRoom::new();
-    write_head(output, name, time, sample)?;
-    print_all_frames(raw, kernel, code, sample, found, frames, &mut room, output)?;
+    write_head(output, taken.name, taken.time, &taken.sample)?;
+    print_all_frames(raw, taken, found, frames, &mut room, output)?;
     write_text(output, b"\n")
 }
 
 /// Prints the frames of the kernel, and those of user space.
 fn print_all_frames<W: Write>(
     raw: bool,
-    kernel: &ProcessCode<'_, '_, '_>,
-    code: &ProcessCode<'_, '_, '_>,
-    sample: &Sample<'_>,
+    taken: &TakenSample<'_, '_, '_>,
     found: Result<Walk, NoFrames>,
     frames: &[StackFrame],
     room: &mut LineRoom,
     output: &mut W,
 ) -> io::Result<()>
-    requires kernel { AreMappedInOrder 0 kernel.now.mappings.now }
-    requires order { AreMappedInOrder 0 code.now.mappings.now }
+    requires kernel { AreMappedInOrder 0 taken.now.kernel.mappings.now }
+    requires order { AreMappedInOrder 0 taken.now.code.mappings.now }
     requires count { IfOk found (λ walk. walk.count ≤ length frames.now) }
     ensures { Writes (W.contents output.old) (W.contents output.new) result
-        (frames_text raw
-        (kernel_site (map known_view kernel.now.files.now) kernel.now.mappings.now)
-        (map known_view code.now.files.now) code.now.mappings.now
-        (sample_view sample.now) found frames.now) }
+        (frames_text raw (taken_view taken.now).in_kernel (taken_view taken.now).files
+        (taken_view taken.now).mapped (taken_view taken.now).sample found frames.now) }
 {
-    print_chain(raw, true, kernel, sample.kernel_frames(), room, output)?;
-    print_user_frames(raw, code, sample, found, frames, room, output)
+    let kernel_frames = taken.sample.kernel_frames();
+    print_chain(raw, true, &taken.kernel, kernel_frames, room, output)?;
+    print_user_frames(raw, taken, found, frames, room, output)
 }
 
 /// Prints the frames of user space: those that were found in the copy of the stack, or those of the
 /// call chain where the sample's event copies no stacks.
 fn print_user_frames<W: Write>(
     raw: bool,
-    code: &ProcessCode<'_, '_, '_>,
-    sample: &Sample<'_>,
+    taken: &TakenSample<'_, '_, '_>,
     found: Result<Walk, NoFrames>,
     frames: &[StackFrame],
     room: &mut LineRoom,
     output: &mut W,
 ) -> io::Result<()>
-    requires order { AreMappedInOrder 0 code.now.mappings.now }
+    requires order { AreMappedInOrder 0 taken.now.code.mappings.now }
     requires count { IfOk found (λ walk. walk.count ≤ length frames.now) }
     ensures { Writes (W.contents output.old) (W.contents output.new) result
-        (user_text raw (map known_view code.now.files.now) code.now.mappings.now
-        (sample_view sample.now) found frames.now) }
+        (user_text raw (taken_view taken.now).files (taken_view taken.now).mapped
+        (taken_view taken.now).sample found frames.now) }
 {
-    if sample.copies_stack {
+    if taken.sample.copies_stack {
         let with_address = false;
         let style = FrameStyle { raw, with_address };
-        print_walk(style, code, found, frames, room, output)
+        print_walk(style, &taken.code, found, frames, room, output)
     } else {
-        print_chain(raw, false, code, sample.user_frames(), room, output)
+        let user_frames = taken.sample.user_frames();
+        print_chain(raw, false, &taken.code, user_frames, room, output)
     }
 }
 

@@ -12,10 +12,30 @@ ghost use Rattle.cfi_stacks.specs.KnownSamples.{known_in};
 
 use crate::choice::Choice;
 use crate::profile_index::ProfileIndex;
+use crate::room::Room;
 use cfi_object::input::InputError;
 use cfi_perf::{Event, PlaceKind, Record, RecordPlace};
+use cfi_processes::registers::SampleMachine;
 use cfi_processes::replay::Replay;
-use std::alloc::AllocError;
+use std::alloc::{AllocError, Global};
+
+/// The samples of a profile that are printed or counted, which are the same for all of its records.
+#[derive(Drop)]
+pub(crate) struct ChosenSamples<'r, 'p> {
+    pub(crate) alloc: Global,
+    pub(crate) choice: &'r Choice<'r>,
+    /// That the profile was recorded on.
+    pub(crate) machine: SampleMachine,
+    /// Where the records are.
+    pub(crate) index: &'r ProfileIndex<'p>,
+}
+
+/// What the records said that were followed, and the room in which samples are walked.
+#[derive(Drop)]
+pub(crate) struct Walker<'f, 'run, 'names> {
+    pub(crate) replay: Replay<'f, 'run, 'names>,
+    pub(crate) room: Room,
+}
 
 /// Follows the record at a place that is no sample.
 pub(crate) fn follow_other<'k>(

@@ -2,7 +2,7 @@ use Rattle.std.proofs.Common.{◌≡◌, List, map, subst, sym}
 use Rattle.cfi_cores.specs.declared.mapped_files.CoreMapping.{CoreMapping}
 use Rattle.cfi_cores.specs.declared.segments.CoreSegment.{CoreSegment}
 use Rattle.cfi_cores.specs.CoreFiles.{core_view}
-use Rattle.cfi_cores.specs.CoreSegments.{AreInOrder, segment_view}
+use Rattle.cfi_cores.specs.CoreSegments.{AreByAddress, segment_view}
 use Rattle.cfi_cores.specs.MappedFiles.{mapping_view}
 use Rattle.cfi_stacks.specs.CoreWindows.{AreWindows}
 use Rattle.cfi_stacks.proofs.QuickLemmas.{each_ok}
@@ -19,5 +19,5 @@ returns-clause-windows c = λ all hold.
 pub returns-clause-in_order : goal.returns-clause-in_order
 returns-clause-in_order c =
     let windows = c.in_ok-windows.windows.items in
-    each_ok c.core_code.result (λ code. code.windows.items ≡ windows) (λ code. AreInOrder code.windows.items)
-    (λ code is. subst AreInOrder (sym is) c.in_ok-windows.ensures.in_order) c.core_code.ensures.windows
+    each_ok c.core_code.result (λ code. code.windows.items ≡ windows) (λ code. AreByAddress code.windows.items)
+    (λ code is. subst AreByAddress (sym is) c.in_ok-windows.ensures.in_order) c.core_code.ensures.windows

@@ -9,12 +9,12 @@ use Rattle.cfi_stacks.proofs.QuickLemmas.{places_in_order, quick_owed, refused_o
 use Rattle.cfi_stacks.proofs.core_quick.print_by_parts.Goals as goal
 
 pub quick_opened-requires : goal.quick_opened-requires
-quick_opened-requires g c = places_in_order (g.I.FileInput.bytes c.args.input.now) (image_of c.args.parts.now) c.args.partial.now c.requires.parts c.requires.partial
+quick_opened-requires g c = places_in_order (g.I.FileInput.bytes c.args.input.now) (image_of c.args.read.now.parts.now) c.args.read.now.partial c.requires.parts c.requires.partial
 
 pub returns-in-Ok-Some : goal.returns-in-Ok-Some
 returns-in-Ok-Some g c =
-    let partial = c.args.partial.now in
-    quick_owed c.args.listing (g.O.Opener.may_open c.args.opener.now) g.O.File.Read.remaining partial (image_of c.args.parts.now) c.requires.partial (g.I.FileInput.bytes c.args.input.now) c.args.opened.now (line_of c.in-Ok-Some.quick) _ _ c.write_quick.result
+    let partial = c.args.read.now.partial in
+    quick_owed c.args.listing (g.O.Opener.may_open c.args.opener.now) g.O.File.Read.remaining partial (image_of c.args.read.now.parts.now) c.requires.partial (g.I.FileInput.bytes c.args.input.now) c.args.opened.now (line_of c.in-Ok-Some.quick) _ _ c.write_quick.result
     c.requires.parts c.requires.opened c.requires.threads
     (λ bytes of is all hold. some_is c.in-Ok-Some.field-0 c.in-Ok-Some.quick (λ quick. IsCoreOfOpened c.args.listing (with_all bytes (core_view partial.core) partial.places.items) all (line_of quick)) c.in-Ok-Some.field-0-is
     (c.in-Ok-Some.ensures bytes (subst (λ (image : Image). IsImageOf image bytes) (sym c.image.ensures) of) is all hold))
@@ -22,4 +22,4 @@ returns-in-Ok-Some g c =
 
 pub returns-in-Err : goal.returns-in-Err
 returns-in-Err g c =
-    refused_of_parts c.args.listing (g.O.Opener.may_open c.args.opener.now) g.O.File.Read.remaining (image_of c.args.parts.now) (g.I.FileInput.bytes c.args.input.now) _ _ c.write_refusal_in.result c.requires.parts c.write_refusal_in.ensures
+    refused_of_parts c.args.listing (g.O.Opener.may_open c.args.opener.now) g.O.File.Read.remaining (image_of c.args.read.now.parts.now) (g.I.FileInput.bytes c.args.input.now) _ _ c.write_refusal_in.result c.requires.parts c.write_refusal_in.ensures

@@ -7,7 +7,7 @@ use Rattle.cfi_stacks.proofs.core_quick.print_partial.Goals as goal
 
 pub returns-then-lacks_thread : goal.returns-then-lacks_thread
 returns-then-lacks_thread g c =
-    printed_lacking c.args.listing (g.O.Opener.may_open c.args.opener.now) g.O.File.Read.remaining c.args.partial (image_of c.args.parts.now) c.requires.partial (g.I.FileInput.bytes c.args.input.now) _ _ c.write_reason.result c.requires.parts
+    printed_lacking c.args.listing (g.O.Opener.may_open c.args.opener.now) g.O.File.Read.remaining c.args.read.now.partial (image_of c.args.read.now.parts.now) c.requires.partial (g.I.FileInput.bytes c.args.input.now) _ _ c.write_reason.result c.requires.parts
     (sym c.lacks_thread.ensures ∙ c.if-lacks_thread.true) c.write_reason.ensures
 
 pub print_by_parts-requires-clause-opened : goal.print_by_parts-requires-clause-opened

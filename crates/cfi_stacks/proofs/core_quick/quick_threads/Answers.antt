@@ -56,8 +56,8 @@ loop-thread-preserved c = (
       let t = get_or threads i no_thread in
       let (text, written, shows) = c.in_ok-whole.ensures.printed bytes of windows c.if-not-whole.false in
       let mapped = c.as_slice.ensures.all ∙ (c.requires.mappings ∙ same_mappings bytes core partial.places.items is.heads files) in
-      let places = c.as_slice-in-loop-thread-2.result.now in
-      let lent = memory_same bytes windows places partial.places.items c.as_slice-in-loop-thread-2.ensures.value in
+      let places = c.as_slice-places.result.now in
+      let lent = memory_same bytes windows places partial.places.items c.as_slice-places.ensures.value in
       one_printed c.args.listing files (core_memory whole windows) whole (take i (map thread_view threads)) (take (i + 1) (map thread_view threads)) (thread_view t) (Some []) (Some c.loop-thread.text.items) (Some c.quick_thread.new.output.items) text
       (next_thread thread_view threads i no_thread c.loop-thread-test.true) (sym c.is_asked_for.ensures ∙ c.if-not-is_asked_for.false) (c.loop-thread.invariant.0 bytes of is windows)
       (text_there c.args.listing core.machine files c.as_slice.result.now (core_mappings files whole.segments whole.mapped) (record { dumped = map (segment_at bytes) places; mapped = windows }) (record { dumped = whole.segments; mapped = windows }) (name_bytes c.shown_name-name.result) core.name (thread_view t) text mapped lent c.shown_name-name.ensures shows) written,
@@ -74,7 +74,7 @@ returns c = λ bytes of is windows.
     (all_threads thread_view threads i c.loop-thread-test.false ∙ ap (map thread_view) c.as_slice-threads.ensures.value) (c.loop-thread.invariant.0 bytes of is windows) c.in_ok-status.ensures
 
 pub quick_thread-requires-clause-files : goal.quick_thread-requires-clause-files
-quick_thread-requires-clause-files c = subst (AreModulesOfFiles c.args.files.now) (sym c.as_slice-in-loop-thread.ensures.value) c.requires.files
+quick_thread-requires-clause-files c = subst (AreModulesOfFiles c.args.files.now) (sym c.as_slice-modules.ensures.value) c.requires.files
 
 pub quick_thread-requires-clause-places : goal.quick_thread-requires-clause-places
-quick_thread-requires-clause-places c = subst (IsNonDecreasingBy (λ (h : ProgramHeader). h.p_vaddr)) (sym c.as_slice-in-loop-thread-2.ensures.value) c.requires.places
+quick_thread-requires-clause-places c = subst (IsNonDecreasingBy (λ (h : ProgramHeader). h.p_vaddr)) (sym c.as_slice-places.ensures.value) c.requires.places

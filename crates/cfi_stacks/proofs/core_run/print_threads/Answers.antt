@@ -86,4 +86,4 @@ loop-thread-preserved-then-not-is_asked_for g c =
     )
 
 pub print_thread-requires-clause-files : goal.print_thread-requires-clause-files
-print_thread-requires-clause-files g c = subst (AreModulesOfFiles c.args.files.now) (sym c.as_slice-in-loop-thread.ensures.value) c.requires.files
+print_thread-requires-clause-files g c = subst (AreModulesOfFiles c.args.files.now) (sym c.as_slice-modules.ensures.value) c.requires.files

@@ -1,6 +1,6 @@
 use Rattle.std.proofs.Common.{◌∙◌, length, sym}
 use Rattle.std.proofs.lemmas.List.{take_rest}
-use Rattle.cfi_names.specs.Names.{part_view}
+use Rattle.cfi_names.specs.Names.{name_part_view}
 use Rattle.cfi_names.proofs.NameLemmas.{all_shown, some_left}
 use Rattle.cfi_stacks.specs.FoldedTexts.{harmless}
 use Rattle.cfi_stacks.proofs.FoldLemmas.{one_named_part}
@@ -12,5 +12,5 @@ returns-then-is_plain c = rw (all_shown c.args.name.now (sym c.is_plain.ensures 
 pub loop-left-preserved : goal.loop-left-preserved
 loop-left-preserved c =
     let left = c.loop-left.left.now in
-    let part = part_view c.first_part-part.result in
+    let part = name_part_view c.first_part-part.result in
     one_named_part (harmless c.args.space) left c.loop-left.line.items part _ _ _ (some_left left (sym c.is_empty.ensures ∙ c.loop-left-test.true)) c.first_part-part.ensures (take_rest left (length part.bytes)) c.in_ok-push_part.ensures c.loop-left.invariant

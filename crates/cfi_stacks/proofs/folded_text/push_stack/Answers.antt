@@ -9,9 +9,9 @@ use Rattle.cfi_stacks.proofs.folded_text.push_stack.Goals as goal
 
 pub returns : goal.returns
 returns c =
-    let s = sample_view c.args.sample.now in
-    let user = user_names (map known_view c.args.code.now.files.now) c.args.code.now.mappings.now s c.args.found c.args.frames.now in
-    let in_kernel = kernel_site (map known_view c.args.kernel.now.files.now) c.args.kernel.now.mappings.now in
+    let s = sample_view c.args.taken.now.sample in
+    let user = user_names (map known_view c.args.taken.now.code.files.now) c.args.taken.now.code.mappings.now s c.args.found c.args.frames.now in
+    let in_kernel = kernel_site (map known_view c.args.taken.now.kernel.files.now) c.args.taken.now.kernel.mappings.now in
     let kernel = chain_names in_kernel (kernel_frames s) in
-    then_more c.push_chain.result c.push_chain.new.line.items c.args.line.now.items c.push_thread.new.line.items (thread_name s.tid (name_bytes c.args.name)) (user ++ kernel) c.in_ok-push_thread.ensures
+    then_more c.push_chain.result c.push_chain.new.line.items c.args.line.now.items c.push_thread.new.line.items (thread_name s.tid (name_bytes c.args.taken.now.name)) (user ++ kernel) c.in_ok-push_thread.ensures
     (then_more c.push_chain.result c.push_chain.new.line.items c.push_thread.new.line.items c.push_user_names.new.line.items user kernel c.in_ok-push_user_names.ensures (rw c.kernel_frames.ensures at c.push_chain.ensures))

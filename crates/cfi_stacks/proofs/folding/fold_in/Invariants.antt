@@ -11,9 +11,9 @@ use Rattle.cfi_stacks.proofs.folding.fold_in.Given as goal
 
 abbrev pub invariant-loop-place : goal.invariant-loop-place
 invariant-loop-place g l =
-    (l.replay.files.now ≡ l.files)
-    × (l.place-items ≡ places_of l.index.records)
-    × Counted l.by_period l.machine (map known_view l.files) (choice_view l.choice) (g.I.FileInput.bytes l.initial.input) l.index l.place-index l.left (known_in l.replay) (counted_in l.counts)
-    × IsRoomFor l.files l.room
-    × HasOwnModules l.replay
+    (l.walker.replay.files.now ≡ l.files)
+    × (l.place-items ≡ places_of l.chosen.index.now.records)
+    × Counted l.by_period l.chosen.machine (map known_view l.files) (choice_view l.chosen.choice.now) (g.I.FileInput.bytes l.initial.input) l.chosen.index.now l.place-index l.left (known_in l.walker.replay) (counted_in l.counts)
+    × IsRoomFor l.files l.walker.room
+    × HasOwnModules l.walker.replay
     × (g.I.FileInput.bytes l.input ≡ g.I.FileInput.bytes l.initial.input)

@@ -9,14 +9,14 @@ use Rattle.cfi_stacks.proofs.folding.fold_place.Goals as goal
 
 pub returns-in-Ok-follow_other-clause-counted : goal.returns-in-Ok-follow_other-clause-counted
 returns-in-Ok-follow_other-clause-counted g c =
-    counts_other c.args.by_period c.args.machine (replay_known c.args.replay.now) (choice_view c.args.choice.now) (known_in c.args.replay.now) c.args.left (known_in c.follow_other.new.replay) (g.I.FileInput.bytes c.args.input.now) c.args.index.now c.args.place.now
+    counts_other c.args.by_period c.args.chosen.now.machine (replay_known c.args.walker.now.replay) (choice_view c.args.chosen.now.choice.now) (known_in c.args.walker.now.replay) c.args.left (known_in c.follow_other.new.replay) (g.I.FileInput.bytes c.args.input.now) c.args.chosen.now.index.now c.args.place.now
     (counted_in c.args.counts.now) c.in-Ok-follow_other.left c.in-Ok-follow_other.ensures.followed
 
 pub returns-in-Ok-follow_other-clause-own : goal.returns-in-Ok-follow_other-clause-own
 returns-in-Ok-follow_other-clause-own g c = c.in-Ok-follow_other.ensures.own c.requires.own
 
 pub returns-in-Ok-follow_other-clause-cached : goal.returns-in-Ok-follow_other-clause-cached
-returns-in-Ok-follow_other-clause-cached g c = still_room_for c.args.replay.now.files.now c.follow_other.new.replay.files.now c.args.room.now c.in-Ok-follow_other.ensures.files c.requires.cached
+returns-in-Ok-follow_other-clause-cached g c = still_room_for c.args.walker.now.replay.files.now c.follow_other.new.replay.files.now c.args.walker.now.room c.in-Ok-follow_other.ensures.files c.requires.cached
 
 pub returns-in-Err-follow_other-clause-counted : goal.returns-in-Err-follow_other-clause-counted
 returns-in-Err-follow_other-clause-counted g c = inl (c.in-Err-follow_other.error, refl)
@@ -25,4 +25,4 @@ pub returns-in-Err-follow_other-clause-own : goal.returns-in-Err-follow_other-cl
 returns-in-Err-follow_other-clause-own g c = c.in-Err-follow_other.ensures.own c.requires.own
 
 pub returns-in-Err-follow_other-clause-cached : goal.returns-in-Err-follow_other-clause-cached
-returns-in-Err-follow_other-clause-cached g c = still_room_for c.args.replay.now.files.now c.follow_other.new.replay.files.now c.args.room.now c.in-Err-follow_other.ensures.files c.requires.cached
+returns-in-Err-follow_other-clause-cached g c = still_room_for c.args.walker.now.replay.files.now c.follow_other.new.replay.files.now c.args.walker.now.room c.in-Err-follow_other.ensures.files c.requires.cached

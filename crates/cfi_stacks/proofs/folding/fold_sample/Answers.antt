@@ -9,8 +9,8 @@ use Rattle.cfi_stacks.proofs.folding.fold_sample.Goals as goal
 
 pub returns-clause-folded : goal.returns-clause-folded
 returns-clause-folded c =
-    let in_kernel = kernel_site (map known_view c.args.kernel.now.files.now) c.args.kernel.now.mappings.now in
-    let text = folded_text in_kernel (map known_view c.args.code.now.files.now) c.args.code.now.mappings.now (name_bytes c.args.name) (sample_view c.args.sample.now) c.walk_sample-found.result in
+    let in_kernel = kernel_site (map known_view c.args.taken.now.kernel.files.now) c.args.taken.now.kernel.mappings.now in
+    let text = folded_text in_kernel (map known_view c.args.taken.now.code.files.now) c.args.taken.now.code.mappings.now (name_bytes c.args.taken.now.name) (sample_view c.args.taken.now.sample) c.walk_sample-found.result in
     on_ok_weaker c.push_stack.result (λ pushed. (
       c.walk_sample-found.result,
       _,

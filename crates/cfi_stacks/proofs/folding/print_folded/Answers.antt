@@ -10,7 +10,7 @@ use Rattle.cfi_stacks.proofs.folding.print_folded.Goals as goal
 pub returns-in-Ok : goal.returns-in-Ok
 returns-in-Ok g c =
     let (pieces, is, are) = c.in-Ok.ensures.folded in
-    let (line, prints, folded) = counts_printed c.args.by_period c.args.machine (map known_view c.args.files.now) (choice_view c.args.choice.now) (map record_of pieces) (counted_in c.in-Ok.counts) c.args.index.now.error _ _ c.write_counts.result are c.write_counts.ensures in
+    let (line, prints, folded) = counts_printed c.args.by_period c.args.chosen.now.machine (map known_view c.args.files.now) (choice_view c.args.chosen.now.choice.now) (map record_of pieces) (counted_in c.in-Ok.counts) c.args.chosen.now.index.now.error _ _ c.write_counts.result are c.write_counts.ensures in
     (line, prints, (pieces, is, folded))
 
 pub returns-in-Err : goal.returns-in-Err

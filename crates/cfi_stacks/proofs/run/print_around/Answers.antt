@@ -13,11 +13,11 @@ print_profile-requires g c =
 pub returns-in-Ok-Some : goal.returns-in-Ok-Some
 returns-in-Ok-Some g c =
     let read = rw (c.as_slice-before.ensures.value, c.as_slice.ensures.value) at (rw c.in-Ok-Some.field-0-is at c.in-Ok-Some.ensures.head) in
-    of_around c.args.listing (choice_view c.args.choice.now) (g.O.Opener.may_open c.args.opener.now) g.O.File.Read.remaining (g.I.FileInput.bytes c.args.input.now) c.args.around.now.before.items c.args.around.now.behind.items c.args.around.now.length
+    of_around c.args.printing.now.listing (choice_view c.args.printing.now.choice.now) (g.O.Opener.may_open c.args.printing.now.opener.now) g.O.File.Read.remaining (g.I.FileInput.bytes c.args.input.now) c.args.around.now.before.items c.args.around.now.behind.items c.args.around.now.length
     (head_view c.in-Ok-Some.head) (g.W.Write.contents c.args.output.now) _ c.print_profile.result c.requires (sym read) c.print_profile.ensures
 
 pub returns-in-Err : goal.returns-in-Err
 returns-in-Err g c =
     let read = rw (c.as_slice-before.ensures.value, c.as_slice.ensures.value) at c.in-Err.ensures.head in
-    error_around c.args.listing (choice_view c.args.choice.now) (g.O.Opener.may_open c.args.opener.now) g.O.File.Read.remaining (g.I.FileInput.bytes c.args.input.now) c.args.around.now.before.items c.args.around.now.behind.items c.args.around.now.length
+    error_around c.args.printing.now.listing (choice_view c.args.printing.now.choice.now) (g.O.Opener.may_open c.args.printing.now.opener.now) g.O.File.Read.remaining (g.I.FileInput.bytes c.args.input.now) c.args.around.now.before.items c.args.around.now.behind.items c.args.around.now.length
     c.in-Err.error (g.W.Write.contents c.args.output.now) _ c.write_perf_refusal.result c.requires (sym read) (rw c.format.ensures at c.write_perf_refusal.ensures)

@@ -15,4 +15,4 @@ print_profile-requires g c =
 pub returns-in-Ok : goal.returns-in-Ok
 returns-in-Ok g c =
     shows_more _ _ (g.W.Write.contents c.args.output.now) _ c.print_profile.result
-    (of_parsed c.args.listing (choice_view c.args.choice.now) (g.O.Opener.may_open c.args.opener.now) g.O.File.Read.remaining c.args.bytes.now (profile_view c.in-Ok.profile) (head_view c.head-head.result) (sym c.in-Ok.ensures) c.head-head.ensures) c.print_profile.ensures
+    (of_parsed c.args.printing.now.listing (choice_view c.args.printing.now.choice.now) (g.O.Opener.may_open c.args.printing.now.opener.now) g.O.File.Read.remaining c.args.bytes.now (profile_view c.in-Ok.profile) (head_view c.head-head.result) (sym c.in-Ok.ensures) c.head-head.ensures) c.print_profile.ensures

@@ -9,7 +9,7 @@ use Rattle.cfi_stacks.proofs.run.print_mapped.Goals as goal
 pub returns-in-Ok : goal.returns-in-Ok
 returns-in-Ok g c =
     shows_more _ _ (g.W.Write.contents c.args.output.now) _ c.print_wanted.result
-    (of_wanted c.args.listing (choice_view c.args.choice.now) (g.O.Opener.may_open c.args.opener.now) g.O.File.Read.remaining (g.I.FileInput.bytes c.args.input.now) c.args.index.now c.args.machine (map wanted_view c.as_slice-wanted.result.now)
+    (of_wanted c.args.listing (choice_view c.args.chosen.now.choice.now) (g.O.Opener.may_open c.args.opener.now) g.O.File.Read.remaining (g.I.FileInput.bytes c.args.input.now) c.args.chosen.now.index.now c.args.chosen.now.machine (map wanted_view c.as_slice-wanted.result.now)
     (λ pieces is. ap (map wanted_view) c.as_slice-wanted.ensures.value ∙ c.in-Ok.ensures (g.I.FileInput.bytes c.args.input.now) pieces is)) c.print_wanted.ensures
 
 pub returns-in-Err : goal.returns-in-Err

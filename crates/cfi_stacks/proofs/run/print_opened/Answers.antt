@@ -11,4 +11,4 @@ returns-in-Ok g c = λ all hold.
     let named = subst (λ (files : List KnownFile). AreProfileFilesOf c.names_functions.result all files) (sym (ap (map known_view) c.as_slice-files.ensures.value)) (c.in-Ok.ensures all hold) in
     let are = subst (λ (b : Bool). AreProfileFilesOf b all files) c.names_functions.ensures named in
     shows_more _ _ (g.W.Write.contents c.args.output.now) _ c.print_listing.result
-    (by_files (g.I.FileInput.bytes c.args.input.now) c.args.index.now c.args.listing (choice_view c.args.choice.now) c.args.machine all files are) c.print_listing.ensures
+    (by_files (g.I.FileInput.bytes c.args.input.now) c.args.chosen.now.index.now c.args.listing (choice_view c.args.chosen.now.choice.now) c.args.chosen.now.machine all files are) c.print_listing.ensures

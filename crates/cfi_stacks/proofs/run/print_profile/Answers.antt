@@ -15,46 +15,46 @@ print_records-requires g c =
 
 pub returns-in-Some : goal.returns-in-Some
 returns-in-Some g c =
-    let choice = choice_view c.args.choice.now in
-    let may_open = g.O.Opener.may_open c.args.opener.now in
+    let choice = choice_view c.args.printing.now.choice.now in
+    let may_open = g.O.Opener.may_open c.args.printing.now.opener.now in
     let head = head_view c.args.head.now in
     let named = rw c.in-Ok-Some.field-0-is at c.in-Ok-Some.ensures in
     shows_more _ _ (g.W.Write.contents c.args.output.now) _ c.print_records.result
-    (of_walk c.args.listing choice may_open g.O.File.Read.remaining (g.I.FileInput.bytes c.args.input.now) head c.walk.result c.in-Some.machine
-    (by_machine c.args.listing choice may_open g.O.File.Read.remaining head.architecture c.in-Ok-Some.name.now c.in-Some.machine (sym named) (sym c.in-Some.ensures)) c.walk.ensures.records c.walk.ensures.left c.walk.ensures.place)
+    (of_walk c.args.printing.now.listing choice may_open g.O.File.Read.remaining (g.I.FileInput.bytes c.args.input.now) head c.walk.result c.in-Some.machine
+    (by_machine c.args.printing.now.listing choice may_open g.O.File.Read.remaining head.architecture c.in-Ok-Some.name.now c.in-Some.machine (sym named) (sym c.in-Some.ensures)) c.walk.ensures.records c.walk.ensures.left c.walk.ensures.place)
     c.print_records.ensures
 
 pub returns-in-None : goal.returns-in-None
 returns-in-None g c =
-    let choice = choice_view c.args.choice.now in
-    let may_open = g.O.Opener.may_open c.args.opener.now in
+    let choice = choice_view c.args.printing.now.choice.now in
+    let may_open = g.O.Opener.may_open c.args.printing.now.opener.now in
     let head = head_view c.args.head.now in
     let named = rw c.in-Ok-Some.field-0-is at c.in-Ok-Some.ensures in (
-      unknown_machine (listing_format c.args.listing),
+      unknown_machine (listing_format c.args.printing.now.listing),
       rw c.format.ensures at c.write_unknown_machine.ensures,
-      refused_head c.args.listing choice may_open g.O.File.Read.remaining (g.I.FileInput.bytes c.args.input.now) head (unknown_machine (listing_format c.args.listing)) c.requires
-          (no_machine c.args.listing choice may_open g.O.File.Read.remaining head.architecture c.in-Ok-Some.name.now (sym named) (sym c.in-None.ensures)),
+      refused_head c.args.printing.now.listing choice may_open g.O.File.Read.remaining (g.I.FileInput.bytes c.args.input.now) head (unknown_machine (listing_format c.args.printing.now.listing)) c.requires
+          (no_machine c.args.printing.now.listing choice may_open g.O.File.Read.remaining head.architecture c.in-Ok-Some.name.now (sym named) (sym c.in-None.ensures)),
     )
 
 pub returns-in-Ok-None : goal.returns-in-Ok-None
 returns-in-Ok-None g c =
-    let choice = choice_view c.args.choice.now in
-    let may_open = g.O.Opener.may_open c.args.opener.now in
+    let choice = choice_view c.args.printing.now.choice.now in
+    let may_open = g.O.Opener.may_open c.args.printing.now.opener.now in
     let head = head_view c.args.head.now in
     let named = rw c.in-Ok-None.field-0-is at c.in-Ok-None.ensures in (
-      unknown_machine (listing_format c.args.listing),
+      unknown_machine (listing_format c.args.printing.now.listing),
       rw c.format-in-Ok-None.ensures at c.write_unknown_machine-in-Ok-None.ensures,
-      refused_head c.args.listing choice may_open g.O.File.Read.remaining (g.I.FileInput.bytes c.args.input.now) head (unknown_machine (listing_format c.args.listing)) c.requires
-          (no_name c.args.listing choice may_open g.O.File.Read.remaining head.architecture (sym named)),
+      refused_head c.args.printing.now.listing choice may_open g.O.File.Read.remaining (g.I.FileInput.bytes c.args.input.now) head (unknown_machine (listing_format c.args.printing.now.listing)) c.requires
+          (no_name c.args.printing.now.listing choice may_open g.O.File.Read.remaining head.architecture (sym named)),
     )
 
 pub returns-in-Err : goal.returns-in-Err
 returns-in-Err g c =
-    let choice = choice_view c.args.choice.now in
-    let may_open = g.O.Opener.may_open c.args.opener.now in
+    let choice = choice_view c.args.printing.now.choice.now in
+    let may_open = g.O.Opener.may_open c.args.printing.now.opener.now in
     let head = head_view c.args.head.now in (
-      perf_refusal (listing_format c.args.listing) c.in-Err.error,
+      perf_refusal (listing_format c.args.printing.now.listing) c.in-Err.error,
       rw c.format-in-Err.ensures at c.write_perf_refusal.ensures,
-      refused_head c.args.listing choice may_open g.O.File.Read.remaining (g.I.FileInput.bytes c.args.input.now) head (perf_refusal (listing_format c.args.listing) c.in-Err.error) c.requires
-          (name_refused c.args.listing choice may_open g.O.File.Read.remaining head.architecture c.in-Err.error (sym c.in-Err.ensures)),
+      refused_head c.args.printing.now.listing choice may_open g.O.File.Read.remaining (g.I.FileInput.bytes c.args.input.now) head (perf_refusal (listing_format c.args.printing.now.listing) c.in-Err.error) c.requires
+          (name_refused c.args.printing.now.listing choice may_open g.O.File.Read.remaining head.architecture c.in-Err.error (sym c.in-Err.ensures)),
     )

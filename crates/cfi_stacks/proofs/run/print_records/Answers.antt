@@ -12,18 +12,18 @@ print_indexed-requires g c = subst (λ (known : Option (List ℕ)). IsIndex know
 
 pub returns-in-Ok : goal.returns-in-Ok
 returns-in-Ok g c =
-    let choice = choice_view c.args.choice.now in
-    let may_open = g.O.Opener.may_open c.args.opener.now in
+    let choice = choice_view c.args.printing.now.choice.now in
+    let may_open = g.O.Opener.may_open c.args.printing.now.opener.now in
     let known : Option (List ℕ) = g.I.FileInput.bytes c.index_records.new.input in
     let has = subst (λ (k : Option (List ℕ)). HasRecords k c.args.walk) (sym c.in-Ok.ensures.same) c.requires in
-    subst (λ (k : Option (List ℕ)). PrintsSome (IsOfBytes c.args.listing choice may_open g.O.File.Read.remaining k c.args.walk c.args.machine) (g.W.Write.contents c.args.output.now) (g.W.Write.contents c.print_indexed.new.output) c.print_indexed.result)
+    subst (λ (k : Option (List ℕ)). PrintsSome (IsOfBytes c.args.printing.now.listing choice may_open g.O.File.Read.remaining k c.args.walk c.args.machine) (g.W.Write.contents c.args.output.now) (g.W.Write.contents c.print_indexed.new.output) c.print_indexed.result)
     c.in-Ok.ensures.same
-    (shows_more _ _ (g.W.Write.contents c.args.output.now) _ c.print_indexed.result (of_index c.args.listing choice may_open g.O.File.Read.remaining known c.in-Ok.index c.args.walk c.args.machine has c.in-Ok.ensures.walk) c.print_indexed.ensures)
+    (shows_more _ _ (g.W.Write.contents c.args.output.now) _ c.print_indexed.result (of_index c.args.printing.now.listing choice may_open g.O.File.Read.remaining known c.in-Ok.index c.args.walk c.args.machine has c.in-Ok.ensures.walk) c.print_indexed.ensures.printed)
 
 pub returns-in-Err : goal.returns-in-Err
 returns-in-Err g c = (
-  input_refusal (listing_format c.args.listing) c.in-Err.error,
+  input_refusal (listing_format c.args.printing.now.listing) c.in-Err.error,
   rw c.format.ensures at c.write_input_refusal.ensures,
-  refused_bytes c.args.listing (choice_view c.args.choice.now) (g.O.Opener.may_open c.args.opener.now) g.O.File.Read.remaining (g.I.FileInput.bytes c.args.input.now) c.args.walk c.args.machine
-      (input_refusal (listing_format c.args.listing) c.in-Err.error) c.requires (c.in-Err.error, refl),
+  refused_bytes c.args.printing.now.listing (choice_view c.args.printing.now.choice.now) (g.O.Opener.may_open c.args.printing.now.opener.now) g.O.File.Read.remaining (g.I.FileInput.bytes c.args.input.now) c.args.walk c.args.machine
+      (input_refusal (listing_format c.args.printing.now.listing) c.in-Err.error) c.requires (c.in-Err.error, refl),
 )

@@ -13,5 +13,5 @@ returns-in-Ok g c =
     let (all, are, hold) = c.in-Ok.ensures.opened in
     let same = subst (λ (opened : List OpenedFile). AreOpenedAs opened all) (sym c.as_slice-opened.ensures.value) hold in
     shows_more _ _ (g.W.Write.contents c.args.output.now) _ c.print_opened.result
-    (of_opened c.args.listing (choice_view c.args.choice.now) may_open g.O.File.Read.remaining (g.I.FileInput.bytes c.args.input.now) c.args.index.now c.args.machine wanted all are)
+    (of_opened c.args.listing (choice_view c.args.chosen.now.choice.now) may_open g.O.File.Read.remaining (g.I.FileInput.bytes c.args.input.now) c.args.chosen.now.index.now c.args.chosen.now.machine wanted all are)
     (c.print_opened.ensures all same)

@@ -6,4 +6,4 @@ use Rattle.cfi_stacks.proofs.run.print_whole.Goals as goal
 
 pub returns-in-Err : goal.returns-in-Err
 returns-in-Err g c =
-    for_input (g.I.FileInput.bytes c.args.input.now) _ (λ bytes. (input_refusal (listing_format c.args.listing) c.in-Err.error, rw c.format.ensures at c.write_input_refusal.ensures, inr (c.in-Err.error, refl)))
+    for_input (g.I.FileInput.bytes c.args.input.now) _ (λ bytes. (input_refusal (listing_format c.args.printing.now.listing) c.in-Err.error, rw c.format.ensures at c.write_input_refusal.ensures, inr (c.in-Err.error, refl)))

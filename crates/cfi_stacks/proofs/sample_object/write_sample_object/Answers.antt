@@ -12,26 +12,26 @@ use Rattle.cfi_stacks.proofs.sample_object.write_sample_object.Goals as goal
 
 pub returns-in_err-write_sample_head : goal.returns-in_err-write_sample_head
 returns-in_err-write_sample_head g c =
-    let s = sample_view c.args.sample.now in
-    let head = sample_head (name_bytes c.args.name) c.args.time s in
-    let frames = separated true (all_objects c.args.raw (kernel_site (map known_view c.args.kernel.now.files.now) c.args.kernel.now.mappings.now) (map known_view c.args.code.now.files.now) c.args.code.now.mappings.now s c.args.found c.args.frames.now) in
+    let s = sample_view c.args.taken.now.sample in
+    let head = sample_head (name_bytes c.args.taken.now.name) c.args.taken.now.time s in
+    let frames = separated true (all_objects c.args.raw (kernel_site (map known_view c.args.taken.now.kernel.files.now) c.args.taken.now.kernel.mappings.now) (map known_view c.args.taken.now.code.files.now) c.args.taken.now.code.mappings.now s c.args.found c.args.frames.now) in
     let end = object_end (sample_reason s c.args.found) in
     first_refused _ _ _ head (frames ++ (end)) c.from_residual.ensures.0 c.in_err-write_sample_head.ensures
 
 pub returns-in_err-write_all_frames : goal.returns-in_err-write_all_frames
 returns-in_err-write_all_frames g c =
-    let s = sample_view c.args.sample.now in
-    let head = sample_head (name_bytes c.args.name) c.args.time s in
-    let frames = separated true (all_objects c.args.raw (kernel_site (map known_view c.args.kernel.now.files.now) c.args.kernel.now.mappings.now) (map known_view c.args.code.now.files.now) c.args.code.now.mappings.now s c.args.found c.args.frames.now) in
+    let s = sample_view c.args.taken.now.sample in
+    let head = sample_head (name_bytes c.args.taken.now.name) c.args.taken.now.time s in
+    let frames = separated true (all_objects c.args.raw (kernel_site (map known_view c.args.taken.now.kernel.files.now) c.args.taken.now.kernel.mappings.now) (map known_view c.args.taken.now.code.files.now) c.args.taken.now.code.mappings.now s c.args.found c.args.frames.now) in
     let end = object_end (sample_reason s c.args.found) in
     last_written _ _ _ _ head (frames ++ (end)) c.in_ok-write_sample_head.ensures
     (first_refused _ _ _ frames (end) c.from_residual-in_err-write_all_frames.ensures.0 c.in_err-write_all_frames.ensures)
 
 pub returns : goal.returns
 returns g c =
-    let s = sample_view c.args.sample.now in
-    let head = sample_head (name_bytes c.args.name) c.args.time s in
-    let frames = separated true (all_objects c.args.raw (kernel_site (map known_view c.args.kernel.now.files.now) c.args.kernel.now.mappings.now) (map known_view c.args.code.now.files.now) c.args.code.now.mappings.now s c.args.found c.args.frames.now) in
+    let s = sample_view c.args.taken.now.sample in
+    let head = sample_head (name_bytes c.args.taken.now.name) c.args.taken.now.time s in
+    let frames = separated true (all_objects c.args.raw (kernel_site (map known_view c.args.taken.now.kernel.files.now) c.args.taken.now.kernel.mappings.now) (map known_view c.args.taken.now.code.files.now) c.args.taken.now.code.mappings.now s c.args.found c.args.frames.now) in
     let end = object_end (sample_reason s c.args.found) in
     last_written _ _ _ _ head (frames ++ (end)) c.in_ok-write_sample_head.ensures
     (last_written _ _ _ _ frames (end) c.in_ok-write_all_frames.ensures (rw c.sample_reason.ensures at c.write_object_end.ensures))

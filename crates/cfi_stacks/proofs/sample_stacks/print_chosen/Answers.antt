@@ -18,21 +18,21 @@ returns-then-is_left_out-clause-printed g c =
 pub returns-in_ok-print_followed-in-Ok-clause-printed : goal.returns-in_ok-print_followed-in-Ok-clause-printed
 returns-in_ok-print_followed-in-Ok-clause-printed g c =
     let (text, given, are) = c.in_ok-print_followed-in-Ok.ensures.printed in
-    let of = subst (λ (files : List ProfileFile). AreTexts c.args.style c.args.machine (map known_view files) (known_in c.load_for.new.replay) c.args.item.now.time (record_view c.args.item.now).event text) c.in-Ok.ensures.files are in
+    let of = subst (λ (files : List ProfileFile). AreTexts c.args.style c.args.chosen.now.machine (map known_view files) (known_in c.load_for.new.replay) c.args.item.now.time (record_view c.args.item.now).event text) c.in-Ok.ensures.files are in
     (text, inr (sym c.is_left_out.ensures ∙ c.if-is_left_out.false, c.in-Ok.ensures.known, c.left_after.ensures, of), given)
 
 pub returns-in_err-print_followed-in-Ok-clause-printed : goal.returns-in_err-print_followed-in-Ok-clause-printed
 returns-in_err-print_followed-in-Ok-clause-printed g c =
     let (text, begun, are) = c.in_err-print_followed-in-Ok.ensures.printed in
-    let of = subst (λ (files : List ProfileFile). AreTexts c.args.style c.args.machine (map known_view files) (known_in c.load_for.new.replay) c.args.item.now.time (record_view c.args.item.now).event text) c.in-Ok.ensures.files are in
-    broken_record c.args.style c.args.machine (replay_known c.args.replay.now) (choice_view c.args.choice.now) (known_in c.args.replay.now) c.args.left (known_in c.load_for.new.replay) (record_view c.args.item.now) _ _ c.from_residual.result
+    let of = subst (λ (files : List ProfileFile). AreTexts c.args.style c.args.chosen.now.machine (map known_view files) (known_in c.load_for.new.replay) c.args.item.now.time (record_view c.args.item.now).event text) c.in-Ok.ensures.files are in
+    broken_record c.args.style c.args.chosen.now.machine (replay_known c.args.walker.now.replay) (choice_view c.args.chosen.now.choice.now) (known_in c.args.walker.now.replay) c.args.left (known_in c.load_for.new.replay) (record_view c.args.item.now) _ _ c.from_residual.result
     (left_after c.args.left (record_view c.args.item.now).event) text c.from_residual.ensures.0 (inr (sym c.is_left_out.ensures ∙ c.if-is_left_out.false, c.in-Ok.ensures.known, refl, of)) begun
 
 pub print_followed-requires-clause-own : goal.print_followed-requires-clause-own
 print_followed-requires-clause-own g c = c.in-Ok.ensures.own c.requires.own
 
 pub print_followed-requires-clause-cached : goal.print_followed-requires-clause-cached
-print_followed-requires-clause-cached g c = still_room_for c.args.replay.now.files.now c.load_for.new.replay.files.now c.args.room.now c.in-Ok.ensures.files c.requires.cached
+print_followed-requires-clause-cached g c = still_room_for c.args.walker.now.replay.files.now c.load_for.new.replay.files.now c.args.walker.now.room c.in-Ok.ensures.files c.requires.cached
 
 pub returns-in_ok-print_followed-in-Ok-clause-own : goal.returns-in_ok-print_followed-in-Ok-clause-own
 returns-in_ok-print_followed-in-Ok-clause-own g c = c.in-Ok.ensures.own c.requires.own
@@ -44,4 +44,4 @@ pub returns-in-Err-clause-own : goal.returns-in-Err-clause-own
 returns-in-Err-clause-own g c = c.in-Err.ensures.own c.requires.own
 
 pub returns-in-Err-clause-cached : goal.returns-in-Err-clause-cached
-returns-in-Err-clause-cached g c = still_room_for c.args.replay.now.files.now c.load_for.new.replay.files.now c.args.room.now c.in-Err.ensures.files c.requires.cached
+returns-in-Err-clause-cached g c = still_room_for c.args.walker.now.replay.files.now c.load_for.new.replay.files.now c.args.walker.now.room c.in-Err.ensures.files c.requires.cached

@@ -10,9 +10,9 @@ use Rattle.cfi_stacks.proofs.sample_stacks.print_in.Given as goal
 
 abbrev pub invariant-loop-place : goal.invariant-loop-place
 invariant-loop-place g l =
-    (l.replay.files.now ≡ l.files)
-    × (l.place-items ≡ places_of l.index.records)
-    × SoFar l.style l.machine (map known_view l.files) (choice_view l.choice) (g.I.FileInput.bytes l.initial.input) l.index l.place-index l.left (known_in l.replay) (g.W.Write.contents l.initial.output) (g.W.Write.contents l.output)
-    × IsRoomFor l.files l.room
-    × HasOwnModules l.replay
+    (l.walker.replay.files.now ≡ l.files)
+    × (l.place-items ≡ places_of l.chosen.index.now.records)
+    × SoFar l.style l.chosen.machine (map known_view l.files) (choice_view l.chosen.choice.now) (g.I.FileInput.bytes l.initial.input) l.chosen.index.now l.place-index l.left (known_in l.walker.replay) (g.W.Write.contents l.initial.output) (g.W.Write.contents l.output)
+    × IsRoomFor l.files l.walker.room
+    × HasOwnModules l.walker.replay
     × (g.I.FileInput.bytes l.input ≡ g.I.FileInput.bytes l.initial.input)

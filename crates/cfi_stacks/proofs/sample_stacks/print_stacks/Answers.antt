@@ -11,5 +11,5 @@ pub returns-in-Err : goal.returns-in-Err
 returns-in-Err g c = (
   no_memory c.args.style.format,
   c.write_refusal_in.ensures,
-  (c.requires.0, c.requires.1, before_all c.args.style c.args.machine (map known_view c.args.files.now) (choice_view c.args.choice.now) (map record_of c.requires.0) c.args.index.now.error OutOfMemory),
+  (c.requires.0, c.requires.1, before_all c.args.style c.args.chosen.now.machine (map known_view c.args.files.now) (choice_view c.args.chosen.now.choice.now) (map record_of c.requires.0) c.args.chosen.now.index.now.error OutOfMemory),
 )

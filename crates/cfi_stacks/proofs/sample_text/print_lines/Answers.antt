@@ -10,17 +10,17 @@ use Rattle.cfi_stacks.proofs.sample_text.print_lines.Goals as goal
 
 pub returns-in_err-write_head : goal.returns-in_err-write_head
 returns-in_err-write_head g c =
-    let all = frames_text c.args.raw (kernel_site (map known_view c.args.kernel.now.files.now) c.args.kernel.now.mappings.now) (map known_view c.args.code.now.files.now) c.args.code.now.mappings.now (sample_view c.args.sample.now) c.args.found c.args.frames.now in
-    first_refused _ _ _ (head_line (name_bytes c.args.name) c.args.time (sample_view c.args.sample.now)) (all ++ 10 ∷ []) c.from_residual.ensures.0 c.in_err-write_head.ensures
+    let all = frames_text c.args.raw (kernel_site (map known_view c.args.taken.now.kernel.files.now) c.args.taken.now.kernel.mappings.now) (map known_view c.args.taken.now.code.files.now) c.args.taken.now.code.mappings.now (sample_view c.args.taken.now.sample) c.args.found c.args.frames.now in
+    first_refused _ _ _ (head_line (name_bytes c.args.taken.now.name) c.args.taken.now.time (sample_view c.args.taken.now.sample)) (all ++ 10 ∷ []) c.from_residual.ensures.0 c.in_err-write_head.ensures
 
 pub returns-in_err-print_all_frames : goal.returns-in_err-print_all_frames
 returns-in_err-print_all_frames g c =
-    let all = frames_text c.args.raw (kernel_site (map known_view c.args.kernel.now.files.now) c.args.kernel.now.mappings.now) (map known_view c.args.code.now.files.now) c.args.code.now.mappings.now (sample_view c.args.sample.now) c.args.found c.args.frames.now in
-    last_written _ _ _ _ (head_line (name_bytes c.args.name) c.args.time (sample_view c.args.sample.now)) (all ++ 10 ∷ []) c.in_ok-write_head.ensures
+    let all = frames_text c.args.raw (kernel_site (map known_view c.args.taken.now.kernel.files.now) c.args.taken.now.kernel.mappings.now) (map known_view c.args.taken.now.code.files.now) c.args.taken.now.code.mappings.now (sample_view c.args.taken.now.sample) c.args.found c.args.frames.now in
+    last_written _ _ _ _ (head_line (name_bytes c.args.taken.now.name) c.args.taken.now.time (sample_view c.args.taken.now.sample)) (all ++ 10 ∷ []) c.in_ok-write_head.ensures
     (first_refused _ _ _ all (10 ∷ []) c.from_residual-in_err-print_all_frames.ensures.0 c.in_err-print_all_frames.ensures)
 
 pub returns : goal.returns
 returns g c =
-    let all = frames_text c.args.raw (kernel_site (map known_view c.args.kernel.now.files.now) c.args.kernel.now.mappings.now) (map known_view c.args.code.now.files.now) c.args.code.now.mappings.now (sample_view c.args.sample.now) c.args.found c.args.frames.now in
-    last_written _ _ _ _ (head_line (name_bytes c.args.name) c.args.time (sample_view c.args.sample.now)) (all ++ 10 ∷ []) c.in_ok-write_head.ensures
+    let all = frames_text c.args.raw (kernel_site (map known_view c.args.taken.now.kernel.files.now) c.args.taken.now.kernel.mappings.now) (map known_view c.args.taken.now.code.files.now) c.args.taken.now.code.mappings.now (sample_view c.args.taken.now.sample) c.args.found c.args.frames.now in
+    last_written _ _ _ _ (head_line (name_bytes c.args.taken.now.name) c.args.taken.now.time (sample_view c.args.taken.now.sample)) (all ++ 10 ∷ []) c.in_ok-write_head.ensures
     (last_written _ _ _ _ all (10 ∷ []) c.in_ok-print_all_frames.ensures c.write_text.ensures)

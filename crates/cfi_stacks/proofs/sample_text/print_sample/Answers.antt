@@ -8,7 +8,7 @@ use Rattle.cfi_stacks.proofs.sample_text.print_sample.Goals as goal
 
 pub returns-clause-printed : goal.returns-clause-printed
 returns-clause-printed g c =
-    let text = sample_in_format c.args.style (kernel_site (map known_view c.args.kernel.now.files.now) c.args.kernel.now.mappings.now) (map known_view c.args.code.now.files.now) c.args.code.now.mappings.now (name_bytes c.args.name) c.args.time (sample_view c.args.sample.now) c.walk_sample-found.result in (
+    let text = sample_in_format c.args.style (kernel_site (map known_view c.args.taken.now.kernel.files.now) c.args.taken.now.kernel.mappings.now) (map known_view c.args.taken.now.code.files.now) c.args.taken.now.code.mappings.now (name_bytes c.args.taken.now.name) c.args.taken.now.time (sample_view c.args.taken.now.sample) c.walk_sample-found.result in (
       text c.as_slice.result.now,
       c.print_found.ensures,
       (c.walk_sample-found.result, _, c.walk_sample-found.ensures.walked, ap text c.as_slice.ensures.value),

@@ -1,0 +1,36 @@
+-- A sample as it was taken is what the records before it say.
+use Rattle.std.proofs.Common.{◌≡◌, ◌∙◌, ℕ, List, Option, ap, map}
+use Rattle.cfi_perf.specs.declared.sample.Sample.{Sample}
+use Rattle.cfi_perf.specs.Samples.{sample_view}
+use Rattle.cfi_processes.specs.declared.mappings.MappedCode.{MappedCode}
+use Rattle.cfi_processes.specs.declared.names.Name.{Name}
+use Rattle.cfi_processes.specs.declared.process_code.ProcessCode.{ProcessCode}
+use Rattle.cfi_processes.specs.declared.profile_files.ProfileFile.{ProfileFile}
+use Rattle.cfi_processes.specs.declared.replay.Replay.{Replay}
+use Rattle.cfi_processes.specs.KernelSites.{kernel_site}
+use Rattle.cfi_processes.specs.KnownFiles.{known_view}
+use Rattle.cfi_processes.specs.Replays.{named_thread, replay_files, replay_known, replayed}
+use Rattle.cfi_processes.specs.ThreadNames.{name_bytes}
+use Rattle.cfi_stacks.specs.KnownSamples.{known_in}
+use Rattle.cfi_stacks.specs.TakenSamples.{Taken, taken_of, taken_view}
+
+module _ (replay : Replay) (kernel code : ProcessCode) (name : Option Name) (time : ℕ) (sample : Sample) where
+  -- by what is mapped, of which files, and the name
+  abbrev said : List ProfileFile → List MappedCode → List ProfileFile → List MappedCode → Option (List ℕ) → Taken
+  said kernel_files kernel_mapped files mapped named = record {
+    in_kernel = kernel_site (map known_view kernel_files) kernel_mapped;
+    files = map known_view files;
+    mapped = mapped;
+    name = named;
+    time = time;
+    sample = sample_view sample;
+  }
+
+  pub taken_as : kernel.files.now ≡ replay_files replay → kernel.mappings.now ≡ replayed replay 0xffffffff → code.files.now ≡ replay_files replay → code.mappings.now ≡ replayed replay sample.pid → name_bytes name ≡ named_thread replay sample.tid
+      → taken_view (record { kernel = kernel; code = code; name = name; time = time; sample = sample }) ≡ taken_of (replay_known replay) (record { known = known_in replay; time = time; sample = sample_view sample })
+  taken_as same_kernel same_kernel_mapped same same_mapped same_name =
+      ap (λ (files : List ProfileFile). said files kernel.mappings.now code.files.now code.mappings.now (name_bytes name)) same_kernel
+      ∙ (ap (λ (mapped : List MappedCode). said (replay_files replay) mapped code.files.now code.mappings.now (name_bytes name)) same_kernel_mapped
+      ∙ (ap (λ (files : List ProfileFile). said (replay_files replay) (replayed replay 0xffffffff) files code.mappings.now (name_bytes name)) same
+      ∙ (ap (λ (mapped : List MappedCode). said (replay_files replay) (replayed replay 0xffffffff) (replay_files replay) mapped (name_bytes name)) same_mapped
+      ∙ ap (λ (named : Option (List ℕ)). said (replay_files replay) (replayed replay 0xffffffff) (replay_files replay) (replayed replay sample.pid) named) same_name)))
