@@ -226,7 +226,7 @@ typedef struct {
 /* The caller of a frame. */
 typedef struct {
     uint64_t cfa;        /* the frame's own */
-    uint64_t pc;         /* 0 if the frame is the outermost one */
+    uint64_t pc;         /* the return address; where 0 was saved the frame is the outermost one */
     uint64_t args_size;  /* of the frame itself: how many bytes of arguments it has pushed, by DW_CFA_GNU_args_size */
     bool is_interrupted; /* a signal interrupted the caller: its pc is looked up as it is */
 } CfiCaller;
@@ -242,7 +242,7 @@ typedef struct {
 /* Why there are no more frames. Behind each kind is what CfiEnd.refused holds, else it is 0. From 4 on the last frame has no
  * caller that can be found. */
 typedef enum {
-    CFI_END_OUTERMOST = 0,   /* the last frame is the outermost one: its return address is undefined, or 0 */
+    CFI_END_OUTERMOST = 0,   /* the last frame is the outermost one: its return address is undefined or, in a walk, 0 */
     CFI_END_NO_MODULE = 1,   /* its pc is in the code of no module */
     CFI_END_NOT_RISING = 2,  /* its CFA isn't above that of the frame it called: a corrupt stack */
     CFI_END_NO_ROOM = 3,     /* there is no room for another frame */

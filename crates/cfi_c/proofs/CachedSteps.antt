@@ -22,9 +22,9 @@ use Rattle.cfi_step.specs.declared.row_cache.RowCache.{RowCache}
 use Rattle.cfi_step.specs.declared.step.Caller.{Caller}
 use Rattle.cfi_step.specs.Callers.{AreRecovered}
 use Rattle.cfi_step.specs.Functions.{function_of}
-use Rattle.cfi_step.specs.PackedRows.{AreEmpty, IsKept, KeepsFound, IsPackedFor, function_packed, parts_packed, rows_in}
+use Rattle.cfi_step.specs.PackedRows.{AreVacant, IsKept, KeepsFound, IsPackedFor, function_packed, parts_packed, rows_in}
 use Rattle.cfi_step.specs.Marks.{is_trampoline as marked}
-use Rattle.cfi_step.specs.PackedRules.{numbered}
+use Rattle.cfi_step.specs.PackedRules.{register_numbered}
 use Rattle.cfi_step.specs.Steps.{caller_by}
 use Rattle.cfi_step.proofs.KeptRows.{same_caller}
 use Rattle.cfi_c.specs.declared.section.CfiBases.{CfiBases}
@@ -75,7 +75,7 @@ module _ (memory : CfiMemory) (loaded : CfiModule) (a : ℕ) (registers new : Li
             Ok of_row,
             is_row,
             (
-              same_caller (λ (n : ℕ). n) frame bytes abi (parts_packed row) step (numbered row.numbers.return_address) fde.cie.return_address_register (marked row.numbers.marks) (is_trampoline fde.cie.augmentation)
+              same_caller (λ (n : ℕ). n) frame bytes abi (parts_packed row) step (register_numbered row.numbers.return_address) fde.cie.return_address_register (marked row.numbers.marks) (is_trampoline fde.cie.augmentation)
                   (is bytes) (ap (λ f. f.return_address) same) (ap (λ f. f.is_signal_trampoline) same)
                   ∙ ap (caller_by frame bytes abi (λ (n : ℕ). n) fde.cie.return_address_register (is_trampoline fde.cie.augmentation)) parts,
               if_ok_then step (λ c. AreOfCaller memory (take 256 registers) row c.cfa new) (λ c. AreRecovered frame bytes abi (λ (n : ℕ). n) of_row.parts c.cfa (length (values_of new)) (values_of new))
@@ -159,10 +159,10 @@ module _ (size file a : ℕ) (passed : CfiModule) (old new : List PackedRow) whe
 
 -- ---- the cache that C holds
 
-pub made : (sets : ℕ) (old : List PackedRow) (held : Option RowCache) (cache : RowCache) → held ≡ Some cache → AreEmpty (rows_in cache) → length (rows_in cache) ≡ sets * 4
+pub made : (sets : ℕ) (old : List PackedRow) (held : Option RowCache) (cache : RowCache) → held ≡ Some cache → AreVacant (rows_in cache) → length (rows_in cache) ≡ sets * 4
     → IsCacheMade sets old (pos 0) (held_rows held)
 made sets old held cache is empty room =
-    inl (refl, subst (λ (o : Option RowCache). AreEmpty (held_rows o)) (sym is) empty, ap (λ (o : Option RowCache). length (held_rows o)) is ∙ room)
+    inl (refl, subst (λ (o : Option RowCache). AreVacant (held_rows o)) (sym is) empty, ap (λ (o : Option RowCache). length (held_rows o)) is ∙ room)
 
 -- what was kept, by other names of the rows
 pub kept_as : (size file : ℕ) (loaded : CfiModule) (before old after new : List PackedRow) → before ≡ old → after ≡ new → StaysCachedFor size file loaded before after → StaysCachedFor size file loaded old new

@@ -13,7 +13,7 @@ use Rattle.cfi_expression.specs.Windows.{at_distance, number_in}
 use Rattle.cfi_c.specs.declared.first_window.FirstWindow.{FirstWindow}
 use Rattle.cfi_c.specs.declared.memory.CfiMemory.{CfiMemory}
 use Rattle.cfi_c.specs.declared.memory.CfiWindow.{CfiWindow}
-use Rattle.cfi_c.specs.FirstWindows.{HasAt, IsFirst}
+use Rattle.cfi_c.specs.FirstWindows.{HasAt, IsFirstWindow}
 use Rattle.std.specs.Option.{option_or}
 use Rattle.cfi_c.specs.PassedMemories.{number_in_memory, number_in_windows}
 
@@ -65,7 +65,7 @@ some_then : {X : Type 0} (o : Option X) (P Q : X → Type 0) → ((x : X) → P 
 some_then None P Q then is = tt
 some_then (Some x) P Q then is = then x is
 
-pub read_at : (memory : CfiMemory) (first : FirstWindow) (cfa at : ℕ) (distance : ℤ) (read : Option ℕ) → at ≡ displaced 8 cfa distance → IsFirst memory first → IfSome read (HasAt first at)
+pub read_at : (memory : CfiMemory) (first : FirstWindow) (cfa at : ℕ) (distance : ℤ) (read : Option ℕ) → at ≡ displaced 8 cfa distance → IsFirstWindow memory first → IfSome read (HasAt first at)
     → IfSome read (λ n. number_in_memory memory (displaced memory.address_size cfa distance) memory.address_size ≡ Some n)
 read_at memory first cfa at distance read is all =
     some_then read (HasAt first at) (λ n. number_in_memory memory (displaced memory.address_size cfa distance) memory.address_size ≡ Some n)

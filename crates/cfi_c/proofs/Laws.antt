@@ -6,7 +6,7 @@ use Rattle.cfi_expression.specs.Frames.{Frame}
 use Rattle.cfi_step.specs.declared.abi.Abi.{Abi}
 use Rattle.cfi_step.specs.declared.function_steps.FunctionStep.{FunctionStep}
 use Rattle.cfi_step.specs.declared.packed_rows.PackedRow.{PackedRow}
-use Rattle.cfi_step.specs.PackedRows.{AreEmpty}
+use Rattle.cfi_step.specs.PackedRows.{AreVacant}
 use Rattle.cfi_step.specs.Walks.{State, address_of}
 use Rattle.cfi_c.specs.declared.memory.CfiMemory.{CfiMemory}
 use Rattle.cfi_c.specs.declared.memory.CfiWindow.{CfiWindow}
@@ -15,7 +15,7 @@ use Rattle.cfi_c.specs.declared.stack.CfiStack.{CfiStack}
 use Rattle.cfi_c.specs.CachedSteps.{HaveSameSections, IsCachedFor, StaysCachedFor}
 use Rattle.std.specs.Option.{option_or}
 use Rattle.cfi_c.specs.PassedMemories.{abi_in, number_in_memory, number_in_window, number_in_windows}
-use Rattle.cfi_c.specs.PassedStacks.{stack_abi, stack_memory}
+use Rattle.cfi_c.specs.PassedStacks.{stack_abi, passed_stack_memory}
 use Rattle.cfi_c.specs.ModuleSteps.{IsStepInModule}
 use Rattle.cfi_c.specs.ModuleSteps.{stack_frame}
 use Rattle.cfi_c.specs.ModuleSteps.{IsStepByPassedFde}
@@ -34,7 +34,7 @@ first_alone None = refl
 first_alone (Some n) = refl
 
 module _ (memory : CfiMemory) (stack : CfiStack) (is : IsOfStack memory stack) where
-  same_number : (a size : ℕ) → number_in_memory memory a size ≡ stack_memory stack a size
+  same_number : (a size : ℕ) → number_in_memory memory a size ≡ passed_stack_memory stack a size
   same_number a size =
       ap (λ (b : Bool). number_in_windows b memory.windows.now a size) is.1
       ∙ (ap (λ (ws : List CfiWindow). number_in_windows stack.big_endian ws a size) is.0 ∙ first_alone (number_in_window stack.big_endian (window_of stack) a size))
@@ -52,7 +52,7 @@ module _ (memory : CfiMemory) (stack : CfiStack) (is : IsOfStack memory stack) w
 
 -- ---- a cache of rows
 
-pub empty_for_all : (size file : ℕ) (loaded : CfiModule) (rows : List PackedRow) → AreEmpty rows → IsCachedFor size file loaded rows
+pub empty_for_all : (size file : ℕ) (loaded : CfiModule) (rows : List PackedRow) → AreVacant rows → IsCachedFor size file loaded rows
 empty_for_all size file loaded rows empty k d inside a holds = absurd (true≢false (sym holds.0 ∙ empty k d inside))
 
 pub right_after_two : (size : ℕ) (one two other : ℕ) (first second another : CfiModule) (old next new : List PackedRow)

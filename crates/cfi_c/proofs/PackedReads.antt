@@ -18,10 +18,10 @@ use Rattle.cfi_step.specs.declared.packed_rules.PackedRule.{PackedRule}
 use Rattle.cfi_step.specs.declared.packed_rules.SmallRule.{SmallRule}
 use Rattle.cfi_step.specs.declared.packed_rules.SmallRule.TheVariants as small
 use Rattle.cfi_step.specs.declared.step.Caller.{Caller}
-use Rattle.cfi_step.specs.Callers.{by_rule, cfa_of, given, is_signed, on_ok, pc_of, return_address, return_by, saved_at, unsigned, without_rule}
+use Rattle.cfi_step.specs.Callers.{by_rule, cfa_of, found_value, is_signed, on_ok, pc_of, return_address, return_by, saved_at, unsigned, without_rule}
 use Rattle.cfi_step.specs.Marks.{is_trampoline}
-use Rattle.cfi_step.specs.PackedRows.{listed, parts_packed}
-use Rattle.cfi_step.specs.PackedRules.{eightfold, numbered, pair_of, rule_by}
+use Rattle.cfi_step.specs.PackedRows.{counted_rules, parts_packed}
+use Rattle.cfi_step.specs.PackedRules.{eightfold, register_numbered, pair_of, rule_by}
 use Rattle.cfi_step.proofs.Signatures.{no_bits}
 use Rattle.cfi_c.specs.declared.memory.CfiMemory.{CfiMemory}
 use Rattle.cfi_c.specs.declared.register.CfiValue.{CfiValue}
@@ -71,7 +71,7 @@ pub clears_mask : (mask : ℕ) (signed : Bool) → signed ≡ true → Clears ma
 clears_mask mask true is = λ a fits. refl
 clears_mask mask false is = absurd (cc)
 
-pub sign_of : (row : PackedRow) (rules : List PackedRule) (found : Option SmallRule) (signed : Bool) → rules ≡ listed row.numbers → option_map rule_by found ≡ get (rules_of (map pair_of rules)) 34
+pub sign_of : (row : PackedRow) (rules : List PackedRule) (found : Option SmallRule) (signed : Bool) → rules ≡ counted_rules row.numbers → option_map rule_by found ≡ get (rules_of (map pair_of rules)) 34
     → signed ≡ is_signed (option_map rule_by found) → is_signed (get (parts_packed row).rules 34) ≡ signed
 sign_of row rules found signed same of is =
     sym (is ∙ ap (λ (o : Option (RegisterRule ℕ)). is_signed o) (of ∙ ap (λ (l : List PackedRule). get (rules_of (map pair_of l)) 34) same))
@@ -90,8 +90,8 @@ module _ (memory : CfiMemory) (a bits : ℕ) (is_size : IsAddressSize memory.add
 -- ---- the pc
 
 module _ (memory : CfiMemory) (registers : List CfiValue) (cfa ra bits : ℕ) where
-  known_pc : (bytes : Position) (signed : Bool) (value : Option ℕ) (pc : Result (Option ℕ) FrameError) → IsPcOf memory.signature_mask signed value (numbered ra) pc
-      → pc ≡ pc_of (passed_frame memory registers) bytes (abi_in memory) (λ (n : ℕ). n) signed (numbered ra) value
+  known_pc : (bytes : Position) (signed : Bool) (value : Option ℕ) (pc : Result (Option ℕ) FrameError) → IsPcOf memory.signature_mask signed value (register_numbered ra) pc
+      → pc ≡ pc_of (passed_frame memory registers) bytes (abi_in memory) (λ (n : ℕ). n) signed (register_numbered ra) value
   known_pc bytes signed (Some a) pc is = is
   known_pc bytes signed None pc is = is
 
@@ -110,19 +110,19 @@ module _ (memory : CfiMemory) (registers : List CfiValue) (cfa ra bits : ℕ) wh
 
     pub by_unruled : given ≡ None → (value : Option ℕ)
         → ((bytes : Position) → Ok value ≡ without_rule (passed_frame memory registers) bytes (abi_in memory) (λ (n : ℕ). n) cfa ra)
-        → (pc : Result (Option ℕ) FrameError) → ((mask : ℕ) (signed : Bool) → Clears mask signed bits → IsPcOf mask signed value (numbered ra) pc) → IsPcByRule given pc
+        → (pc : Result (Option ℕ) FrameError) → ((mask : ℕ) (signed : Bool) → Clears mask signed bits → IsPcOf mask signed value (register_numbered ra) pc) → IsPcByRule given pc
     by_unruled is value of pc there =
         ruled_as given None pc is
         (λ bytes parts clears.
-        known_pc bytes (is_signed (get parts.rules 34)) value pc (there memory.signature_mask (is_signed (get parts.rules 34)) clears) ∙ ap (on_ok (pc_of (passed_frame memory registers) bytes (abi_in memory) (λ (n : ℕ). n) (is_signed (get parts.rules 34)) (numbered ra))) (of bytes))
+        known_pc bytes (is_signed (get parts.rules 34)) value pc (there memory.signature_mask (is_signed (get parts.rules 34)) clears) ∙ ap (on_ok (pc_of (passed_frame memory registers) bytes (abi_in memory) (λ (n : ℕ). n) (is_signed (get parts.rules 34)) (register_numbered ra))) (of bytes))
 
   module _ (given : Option SmallRule) (words : ℤ) (is : given ≡ Some (small.Offset words)) where
     pub by_saved : (a : ℕ) → a ≡ displaced memory.address_size cfa (eightfold words) → (pc : Result (Option ℕ) FrameError) → IsSavedPc memory a bits pc → IsPcByRule given pc
     by_saved a of pc there =
         ruled_as given (Some (small.Offset words)) pc is
         (λ bytes parts clears.
-        there registers bytes (is_signed (get parts.rules 34)) (numbered ra) clears
-        ∙ ap (λ (x : ℕ). on_ok (pc_of (passed_frame memory registers) bytes (abi_in memory) (λ (n : ℕ). n) (is_signed (get parts.rules 34)) (numbered ra)) (saved_at (passed_frame memory registers) x)) of)
+        there registers bytes (is_signed (get parts.rules 34)) (register_numbered ra) clears
+        ∙ ap (λ (x : ℕ). on_ok (pc_of (passed_frame memory registers) bytes (abi_in memory) (λ (n : ℕ). n) (is_signed (get parts.rules 34)) (register_numbered ra)) (saved_at (passed_frame memory registers) x)) of)
 
     pub by_first : IsAddressSize memory.address_size → (n : ℕ) → n < 2 ^ 64 → number_in_memory memory (displaced memory.address_size cfa (eightfold words)) memory.address_size ≡ Some n
         → IsPcByRule given (Ok (Some (bit_and n (bit_not w64 bits))))
@@ -132,12 +132,12 @@ module _ (memory : CfiMemory) (registers : List CfiValue) (cfa ra bits : ℕ) wh
 -- the rule of the register is that of the row
 module _ (memory : CfiMemory) (registers : List CfiValue) (row : PackedRow) (cfa : ℕ) where
   abbrev returned : Position → ℕ → Option (RegisterRule ℕ) → Result (Option ℕ) FrameError
-  returned bytes k given = return_by (passed_frame memory registers) bytes (abi_in memory) (λ (n : ℕ). n) (parts_packed row) cfa (numbered k) given
+  returned bytes k given = return_by (passed_frame memory registers) bytes (abi_in memory) (λ (n : ℕ). n) (parts_packed row) cfa (register_numbered k) given
 
   pub by_row : (ra bits : ℕ) (rules : List PackedRule) (given : Option SmallRule) (pc : Result (Option ℕ) FrameError)
-      → ra ≡ row.numbers.return_address → rules ≡ listed row.numbers → option_map rule_by given ≡ get (rules_of (map pair_of rules)) ra
+      → ra ≡ row.numbers.return_address → rules ≡ counted_rules row.numbers → option_map rule_by given ≡ get (rules_of (map pair_of rules)) ra
       → Clears memory.signature_mask (is_signed (get (parts_packed row).rules 34)) bits → IsPcByRule memory registers cfa ra bits given pc
-      → (bytes : Position) → pc ≡ return_address (passed_frame memory registers) bytes (abi_in memory) (λ (n : ℕ). n) (parts_packed row) cfa (numbered row.numbers.return_address)
+      → (bytes : Position) → pc ≡ return_address (passed_frame memory registers) bytes (abi_in memory) (λ (n : ℕ). n) (parts_packed row) cfa (register_numbered row.numbers.return_address)
   by_row ra bits rules given pc same_ra same_rules of clears is bytes =
       is bytes (parts_packed row) clears
       ∙ (ap (returned bytes ra) (of ∙ ap (λ (l : List PackedRule). get (rules_of (map pair_of l)) ra) same_rules)
@@ -145,7 +145,7 @@ module _ (memory : CfiMemory) (registers : List CfiValue) (row : PackedRow) (cfa
 
 -- ---- a value
 
-given_of : (o : Option ℕ) (a : ℕ) → given (map_ok Some (ok_or o (UnreadableMemory a))) ≡ o
+given_of : (o : Option ℕ) (a : ℕ) → found_value (map_ok Some (ok_or o (UnreadableMemory a))) ≡ o
 given_of None a = refl
 given_of (Some n) a = refl
 
@@ -153,15 +153,15 @@ module _ (memory : CfiMemory) (cfa : ℕ) (rule : SmallRule) (words : ℤ) (is :
   pub given_saved : (o : Option ℕ) → number_in_memory memory (displaced memory.address_size cfa (eightfold words)) memory.address_size ≡ o → IsValueBy memory cfa rule o
   given_saved o there registers bytes k =
       let a = displaced memory.address_size cfa (eightfold words) in
-      let P : SmallRule → Type 0 = λ r. o ≡ given (by_rule (passed_frame memory registers) bytes (abi_in memory) (λ (n : ℕ). n) cfa k (rule_by r)) in
-      let here : P (small.Offset words) = sym (given_of o a) ∙ ap given (saved memory a o is_size there registers) in
+      let P : SmallRule → Type 0 = λ r. o ≡ found_value (by_rule (passed_frame memory registers) bytes (abi_in memory) (λ (n : ℕ). n) cfa k (rule_by r)) in
+      let here : P (small.Offset words) = sym (given_of o a) ∙ ap found_value (saved memory a o is_size there registers) in
       subst P (sym is) here
 
 -- ---- the caller
 
 module _ (memory : CfiMemory) (registers : List CfiValue) (row : PackedRow) where
   abbrev pub found_pc : Position → ℕ → Result (Option ℕ) FrameError
-  found_pc bytes cfa = return_address (passed_frame memory registers) bytes (abi_in memory) (λ (n : ℕ). n) (parts_packed row) cfa (numbered row.numbers.return_address)
+  found_pc bytes cfa = return_address (passed_frame memory registers) bytes (abi_in memory) (λ (n : ℕ). n) (parts_packed row) cfa (register_numbered row.numbers.return_address)
 
   abbrev of_pc : ℕ → Option ℕ → Caller
   of_pc cfa pc = record { cfa = cfa; pc = pc; is_interrupted = is_trampoline row.numbers.marks; args_size = (parts_packed row).args_size }
@@ -201,7 +201,7 @@ module _ (memory : CfiMemory) (registers : List CfiValue) (row : PackedRow) wher
   quick_cfa value k offset cfa size is same_k same_offset at bytes =
       let there : known (values_of registers) row.numbers.cfa_register ≡ Some value = subst (λ (j : ℕ). known (values_of registers) j ≡ Some value) same_k is in
       ap ok_at (at ∙ (ap (λ (z : ℤ). displaced 8 value z) same_offset ∙ ap (λ (s : ℕ). displaced s value (eightfold row.numbers.cfa_words)) (sym size)))
-      ∙ ap (λ (o : Option ℕ). cfa_from (ok_or o (UnknownRegister (numbered row.numbers.cfa_register)))) (sym there)
+      ∙ ap (λ (o : Option ℕ). cfa_from (ok_or o (UnknownRegister (register_numbered row.numbers.cfa_register)))) (sym there)
 
   pub quick_with_cfa : (cfa : ℕ) (caller : Option Caller)
       → ((bytes : Position) → Ok cfa ≡ cfa_of (passed_frame memory registers) bytes (abi_in memory) (λ (n : ℕ). n) (parts_packed row).cfa)

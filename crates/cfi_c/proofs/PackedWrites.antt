@@ -7,8 +7,8 @@ use Rattle.cfi_read_core.specs.SliceReaders.{slice_over}
 use Rattle.cfi_state.specs.Machine.{Parts}
 use Rattle.cfi_step.specs.declared.packed_rules.PackedRule.{PackedRule}
 use Rattle.cfi_step.specs.declared.packed_rows.PackedRow.{PackedRow}
-use Rattle.cfi_step.specs.Callers.{AreRecovered, by_rule, given}
-use Rattle.cfi_step.specs.PackedRows.{listed, parts_packed}
+use Rattle.cfi_step.specs.Callers.{AreRecovered, by_rule, found_value}
+use Rattle.cfi_step.specs.PackedRows.{counted_rules, parts_packed}
 use Rattle.cfi_step.specs.PackedRules.{pair_of}
 use Rattle.cfi_step.proofs.Recovering.{none_yet, one_more, with_rules}
 use Rattle.cfi_c.specs.declared.memory.CfiMemory.{CfiMemory}
@@ -42,7 +42,7 @@ module _ (memory : CfiMemory) (registers : List CfiValue) (parts : Parts ℕ) (c
 
   module _ (rules later : List PackedRule) (rule : PackedRule) (whole : rules ≡ rule ∷ later) (caller new : List CfiValue) where
     abbrev pub value_by : Position → Option ℕ
-    value_by bytes = given (by_rule (passed_frame memory registers) bytes (abi_in memory) (λ (n : ℕ). n) cfa (pair_of rule).0.0 (pair_of rule).1)
+    value_by bytes = found_value (by_rule (passed_frame memory registers) bytes (abi_in memory) (λ (n : ℕ). n) cfa (pair_of rule).0.0 (pair_of rule).1)
 
     pub one_further : AreWrittenBy later caller → ((bytes : Position) → new ≡ slice_set caller (pair_of rule).0.0 (written_value (value_by bytes))) → AreWrittenBy rules new
     one_further before is = (
@@ -55,8 +55,8 @@ module _ (memory : CfiMemory) (registers : List CfiValue) (parts : Parts ℕ) (c
     )
 
 -- all rules are those of the row
-pub by_all : (memory : CfiMemory) (registers : List CfiValue) (row : PackedRow) (cfa index : ℕ) (rules : List PackedRule) (new : List CfiValue) → index ≡ 0 → rules ≡ listed row.numbers
+pub by_all : (memory : CfiMemory) (registers : List CfiValue) (row : PackedRow) (cfa index : ℕ) (rules : List PackedRule) (new : List CfiValue) → index ≡ 0 → rules ≡ counted_rules row.numbers
     → AreWrittenBy memory registers (parts_packed row) cfa (drop index rules) new → AreOfCaller memory registers row cfa new
 by_all memory registers row cfa index rules new none same written =
-    let all : drop index rules ≡ listed row.numbers = ap (λ (n : ℕ). drop n rules) none ∙ same in
+    let all : drop index rules ≡ counted_rules row.numbers = ap (λ (n : ℕ). drop n rules) none ∙ same in
     subst (λ (l : List PackedRule). AreWrittenBy memory registers (parts_packed row) cfa l new) all written

@@ -9,14 +9,14 @@ use Rattle.cfi_step.specs.Walks.{State, resumed}
 use Rattle.cfi_step.proofs.Walking.{left}
 use Rattle.cfi_c.specs.declared.frame.CfiFrame.{CfiFrame}
 use Rattle.cfi_c.specs.declared.register.CfiValue.{CfiValue}
-use Rattle.cfi_c.specs.RegisterFrames.{AreFirst, Framed, IsWalkWith, framed, frames_of, registers_written}
+use Rattle.cfi_c.specs.RegisterFrames.{AreFirst, FrameWithRegisters, IsWalkWith, framed, frames_of, registers_written}
 
 -- ---- what is written
 
-pub frames_after : (done : List Framed) (f : Framed) → frames_of (done ++ (f ∷ [])) ≡ frames_of done ++ (f.frame ∷ [])
-frames_after done f = map-append (λ (g : Framed). g.frame) done (f ∷ [])
+pub frames_after : (done : List FrameWithRegisters) (f : FrameWithRegisters) → frames_of (done ++ (f ∷ [])) ≡ frames_of done ++ (f.frame ∷ [])
+frames_after done f = map-append (λ (g : FrameWithRegisters). g.frame) done (f ∷ [])
 
-pub registers_after : (done : List Framed) (f : Framed) → registers_written (done ++ (f ∷ [])) ≡ registers_written done ++ f.registers
+pub registers_after : (done : List FrameWithRegisters) (f : FrameWithRegisters) → registers_written (done ++ (f ∷ [])) ≡ registers_written done ++ f.registers
 registers_after [] f = append-nil f.registers
 registers_after (g ∷ done) f = ap (λ (rest : List CfiValue). g.registers ++ rest) (registers_after done f) ∙ sym (append_assoc g.registers (registers_written done) f.registers)
 
@@ -50,14 +50,14 @@ one_row done row old new next first n is many (firsts, rest, room) written behin
 
 module _ (Steps : State → Result Caller End → List (Option ℕ) → Type 0) where
   -- whatever is a walk from s is one from the first frame after those that are written
-  abbrev pub Follows : State → State → List Framed → Type 0
-  Follows first s done = (rest : List Framed) (end : End) → IsWalkWith Steps s rest end → IsWalkWith Steps first (done ++ rest) end
+  abbrev pub Follows : State → State → List FrameWithRegisters → Type 0
+  Follows first s done = (rest : List FrameWithRegisters) (end : End) → IsWalkWith Steps s rest end → IsWalkWith Steps first (done ++ rest) end
 
-  module _ (first s : State) (done : List Framed) (before : Follows first s done) (step : Result Caller End) (caller : List (Option ℕ)) (steps : Steps s step caller) where
+  module _ (first s : State) (done : List FrameWithRegisters) (before : Follows first s done) (step : Result Caller End) (caller : List (Option ℕ)) (steps : Steps s step caller) where
     pub one_more : (next : Start) (registers : List (Option ℕ)) → Ok next ≡ resumed step → registers ≡ caller
         → Follows first (record { at = next; registers = registers; caller = caller }) (done ++ (framed s step ∷ []))
     one_more next registers is same rest end walks =
-        subst (λ (fs : List Framed). IsWalkWith Steps first fs end) (sym (append_assoc done (framed s step ∷ []) rest))
+        subst (λ (fs : List FrameWithRegisters). IsWalkWith Steps first fs end) (sym (append_assoc done (framed s step ∷ []) rest))
         (before (framed s step ∷ rest) end (
           step,
           caller,

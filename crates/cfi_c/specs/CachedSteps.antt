@@ -14,7 +14,7 @@ use Rattle.cfi_read_core.specs.declared.error.Error.TheVariants.{OutOfMemory}
 use Rattle.cfi_entry.specs.Fdes.{Covers, Fde}
 use Rattle.cfi_step.specs.declared.packed_rows.PackedRow.{PackedRow}
 use Rattle.cfi_step.specs.declared.row_cache.RowCache.{RowCache}
-use Rattle.cfi_step.specs.PackedRows.{AreEmpty, HoldsRow, IsPackedFor, rows_in}
+use Rattle.cfi_step.specs.PackedRows.{AreVacant, HoldsRow, IsPackedFor, rows_in}
 use Rattle.cfi_c.specs.declared.cache.CfiCache.{CfiCache}
 use Rattle.cfi_c.specs.declared.module.CfiModule.{CfiModule}
 use Rattle.cfi_c.specs.PassedModules.{passed_section_in, sized}
@@ -58,7 +58,7 @@ cache_rows cache = held_rows cache.held.cache
 
 -- four rows for each set, and none is one as yet
 abbrev pub IsCacheNew : ℕ → ℤ → List PackedRow → Type 0
-IsCacheNew sets status new = (status ≡ pos 0) × AreEmpty new × (length new ≡ sets * 4)
+IsCacheNew sets status new = (status ≡ pos 0) × AreVacant new × (length new ≡ sets * 4)
 
 abbrev pub IsCacheMade : ℕ → List PackedRow → ℤ → List PackedRow → Type 0
 IsCacheMade sets old status new =

@@ -127,7 +127,7 @@ placed_section windows bias headers a =
 
 -- ---- the module
 
-pub record Module : Type 0 where
+pub record ImageModule : Type 0 where
   pub start : ℕ
   pub end : ℕ
   pub section : List ℕ
@@ -135,7 +135,7 @@ pub record Module : Type 0 where
   pub bases : CfiBases
 
 -- what a module of the code is
-abbrev pub image_module_view : CfiModule → Module
+abbrev pub image_module_view : CfiModule → ImageModule
 image_module_view loaded = record {
   start = loaded.start;
   end = loaded.end;
@@ -144,7 +144,7 @@ image_module_view loaded = record {
   bases = loaded.bases;
 }
 
-abbrev pub module_with : CfiBases → CfiRange → Placed → Placed → Module
+abbrev pub module_with : CfiBases → CfiRange → Placed → Placed → ImageModule
 module_with given range header section = record {
   start = range.start;
   end = range.end;
@@ -155,7 +155,7 @@ module_with given range header section = record {
 
 -- with the bases that are given, whose address size is one
 unfoldable pub sized_module :
-    CfiBases → List CfiWindow → ℕ → List CfiProgramHeader → Result Module ImageError
+    CfiBases → List CfiWindow → ℕ → List CfiProgramHeader → Result ImageModule ImageError
 sized_module given windows bias headers =
     and_then (or_missing images.NoSegments (range_of bias headers)) (λ range.
     and_then (placed_header windows bias headers) (λ header.
@@ -164,7 +164,7 @@ sized_module given windows bias headers =
     Ok (module_with given range header section)))))
 
 abbrev pub image_module :
-    CfiBases → List CfiWindow → ℕ → List CfiProgramHeader → Result Module ImageError
+    CfiBases → List CfiWindow → ℕ → List CfiProgramHeader → Result ImageModule ImageError
 image_module given windows bias headers =
     if is_sized given.address_size
     then sized_module given windows bias headers
@@ -184,6 +184,6 @@ abbrev pub IsRangeMade : Option CfiRange → CfiRange → CfiRange → ℤ → T
 IsRangeMade (Some range) old new status = (status ≡ pos 0) × (new ≡ range)
 IsRangeMade None old new status = (status ≡ pos 34) × (new ≡ old)
 
-abbrev pub IsModuleMade : Result Module ImageError → Module → Module → ℤ → Type 0
+abbrev pub IsModuleMade : Result ImageModule ImageError → ImageModule → ImageModule → ℤ → Type 0
 IsModuleMade (Ok made) old new status = (status ≡ pos 0) × (new ≡ made)
 IsModuleMade (Err e) old new status = (status ≡ image_status e) × (new ≡ old)

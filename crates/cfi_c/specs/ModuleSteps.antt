@@ -26,7 +26,7 @@ use Rattle.cfi_c.specs.declared.module.CfiModule.{CfiModule}
 use Rattle.cfi_c.specs.declared.stack.CfiStack.{CfiStack}
 use Rattle.cfi_c.specs.PassedModules.{passed_module_at, passed_section_in, sized}
 use Rattle.cfi_c.specs.PassedSections.{eh_frame_of, header_in, passed_header, passed_section}
-use Rattle.cfi_c.specs.PassedStacks.{stack_abi, stack_memory}
+use Rattle.cfi_c.specs.PassedStacks.{stack_abi, passed_stack_memory}
 
 -- the FDE by the header's table, without a header by a scan of the section
 abbrev pub IsPassedFdeBy : CfiBases → List ℕ → Option (List ℕ) → ℕ → Result Fde Error → Type 0
@@ -59,7 +59,11 @@ IsFunctionStep frame abi loaded a step caller =
 module _ (stack : CfiStack) where
   abbrev pub stack_frame : State → Frame
   stack_frame s =
-      record { registers = s.registers; memory = stack_memory stack; size = stack.address_size }
+      record {
+        registers = s.registers;
+        memory = passed_stack_memory stack;
+        size = stack.address_size;
+      }
 
   abbrev pub IsStepInModule :
       CfiModule → State → Result Caller FrameError → List (Option ℕ) → Type 0

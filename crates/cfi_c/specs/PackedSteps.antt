@@ -23,11 +23,11 @@ use Rattle.cfi_read_core.specs.ReaderCalls.{map_ok}
 use Rattle.cfi_step.specs.declared.packed_rows.PackedRow.{PackedRow}
 use Rattle.cfi_step.specs.declared.step.Caller.{Caller}
 use Rattle.cfi_step.specs.declared.packed_rules.SmallRule.{SmallRule}
-use Rattle.cfi_step.specs.Callers.{AreRecovered, by_rule, given, is_signed, on_ok, pc_of}
+use Rattle.cfi_step.specs.Callers.{AreRecovered, by_rule, found_value, is_signed, on_ok, pc_of}
 use Rattle.cfi_step.specs.Callers.{return_address, return_by, saved_at, unsigned}
 use Rattle.cfi_step.specs.Marks.{is_trampoline}
 use Rattle.cfi_step.specs.PackedRows.{HoldsRow, function_packed, parts_packed}
-use Rattle.cfi_step.specs.PackedRules.{numbered, rule_by}
+use Rattle.cfi_step.specs.PackedRules.{register_numbered, rule_by}
 use Rattle.cfi_step.specs.Steps.{caller_by}
 use Rattle.cfi_c.specs.declared.function.CfiFunction.{CfiFunction}
 use Rattle.cfi_c.specs.declared.memory.CfiMemory.{CfiMemory}
@@ -62,14 +62,15 @@ module _ (memory : CfiMemory) (registers : List CfiValue) where
   IsPcBy cfa ra bits given pc =
       (bytes : Position) (parts : Parts ℕ) →
       Clears memory.signature_mask (is_signed (map.get parts.rules 34)) bits → pc
-      ≡ return_by passed_frame bytes (abi_in memory) (λ (n : ℕ). n) parts cfa (numbered ra) given
+      ≡ return_by passed_frame bytes (abi_in memory) (λ (n : ℕ). n) parts cfa
+      (register_numbered ra) given
 
   module _ (row : PackedRow) where
     abbrev pub IsCallerBy : Result Caller FrameError → Type 0
     IsCallerBy caller =
         (bytes : Position) → caller
         ≡ caller_by passed_frame bytes (abi_in memory) (λ (n : ℕ). n)
-        (numbered row.numbers.return_address) (is_trampoline row.numbers.marks)
+        (register_numbered row.numbers.return_address) (is_trampoline row.numbers.marks)
         (parts_packed row)
 
     -- the same from the CFA on
@@ -84,7 +85,7 @@ module _ (memory : CfiMemory) (registers : List CfiValue) where
           args_size = (parts_packed row).args_size;
         })
         (return_address passed_frame bytes (abi_in memory) (λ (n : ℕ). n) (parts_packed row) cfa
-        (numbered row.numbers.return_address))
+        (register_numbered row.numbers.return_address))
 
     abbrev pub AreOfCaller : ℕ → List CfiValue → Type 0
     AreOfCaller cfa new =
@@ -128,8 +129,8 @@ module _ (memory : CfiMemory) where
   abbrev pub IsValueBy : ℕ → SmallRule → Option ℕ → Type 0
   IsValueBy cfa rule value =
       (registers : List CfiValue) (bytes : Position) (k : ℕ) → value
-      ≡ given (by_rule (passed_frame memory registers) bytes (abi_in memory) (λ (n : ℕ). n) cfa k
-      (rule_by rule))
+      ≡ found_value (by_rule (passed_frame memory registers) bytes (abi_in memory) (λ (n : ℕ). n)
+      cfa k (rule_by rule))
 
 -- ---- by a row that a cache holds
 

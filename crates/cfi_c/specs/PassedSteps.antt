@@ -8,13 +8,13 @@ use Rattle.cfi_read_core.specs.SliceReaders.{slice_position}
 use Rattle.cfi_expression.specs.Windows.{number_in}
 use Rattle.cfi_step.specs.CodeRanges.{are_sorted}
 use Rattle.cfi_c.specs.declared.passed_steps.PassedSteps.{PassedSteps}
-use Rattle.cfi_c.specs.PassedStacks.{stack_abi, stack_memory}
+use Rattle.cfi_c.specs.PassedStacks.{stack_abi, passed_stack_memory}
 use Rattle.cfi_c.specs.PassedModules.{code_end, code_start}
 
 abbrev pub AreOfStack : PassedSteps → Type 0
 AreOfStack steps =
     IsAddressSize steps.stack.now.address_size
     × (number_in (slice_position is_big steps.memory.bytes) steps.memory.base
-    ≡ stack_memory steps.stack.now)
+    ≡ passed_stack_memory steps.stack.now)
     × (steps.abi ≡ stack_abi steps.stack.now)
     × (steps.are_in_order ≡ true → are_sorted code_start code_end 0 steps.modules.now ≡ true)

@@ -1,5 +1,5 @@
 -- The frames of a stack with the registers of each, as C gets them: the walk of `cfi_unwind`.
---     Framed      a frame, and its registers
+--     FrameWithRegisters      a frame, and its registers
 --     IsWalkWith IsStep s frames end      the frames from s on with their registers, and why there
 --         are no more
 --     frames_of all, registers_written all      what is written of them, one after the other
@@ -26,18 +26,18 @@ use Rattle.cfi_c.specs.Ends.{no_context, refused_end, written_end}
 
 -- ---- a walk
 
-pub record Framed : Type 0 where
+pub record FrameWithRegisters : Type 0 where
   pub frame : CfiFrame
   pub registers : List CfiValue
 
 -- a frame as it is written by its step, with the registers that it has
-abbrev pub framed : State → Result Caller End → Framed
+abbrev pub framed : State → Result Caller End → FrameWithRegisters
 framed s step =
     record { frame = frame_by s.at step; registers = map written_value s.registers }
 
 -- the frames of `IsWalkBy`, each with its registers
 module _ (IsStep : State → Result Caller End → List (Option ℕ) → Type 0) where
-  abbrev pub IsWalkWith : State → List Framed → End → Type 0
+  abbrev pub IsWalkWith : State → List FrameWithRegisters → End → Type 0
   IsWalkWith s [] end = end ≡ NoRoom
   IsWalkWith s (f ∷ fs) end =
       (step : Result Caller End) × (found : List (Option ℕ)) × IsStep s step found
@@ -48,11 +48,11 @@ module _ (IsStep : State → Result Caller End → List (Option ℕ) → Type 0)
 
 -- ---- where they are written
 
-abbrev pub frames_of : List Framed → List CfiFrame
+abbrev pub frames_of : List FrameWithRegisters → List CfiFrame
 frames_of all = map (λ f. f.frame) all
 
 -- one after the other
-abbrev pub registers_written : List Framed → List CfiValue
+abbrev pub registers_written : List FrameWithRegisters → List CfiValue
 registers_written [] = []
 registers_written (f ∷ fs) = f.registers ++ registers_written fs
 
@@ -81,7 +81,7 @@ module _ (IsStep : State → Result Caller End → List (Option ℕ) → Type 0)
       End → ℕ → List (Option ℕ) → List CfiFrame → List CfiFrame → List CfiValue →
       List CfiValue → ℕ → Type 0
   IsWalkedTo end pc registers frames new values new_values count =
-      (all : List Framed) × IsWalkWith IsStep (innermost pc registers) all end
+      (all : List FrameWithRegisters) × IsWalkWith IsStep (innermost pc registers) all end
       × (count ≡ length all) × AreFirst (frames_of all) frames new
       × AreFirst (registers_written all) values new_values
       × (end ≡ NoRoom → IsFull (length registers) count (length frames) (length values))

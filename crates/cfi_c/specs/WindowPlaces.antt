@@ -2,5 +2,5 @@
 -- places has an address that is too large.
 use Rattle.std.specs.Prelude.{ℕ, ◌+◌, ◌-◌, ◌^◌, ◌≤◌}
 
-abbrev pub AreIn : ℕ → ℕ → ℕ → Type 0
-AreIn count base places = (places ≤ count - 7) × (base + places ≤ 2 ^ 64)
+abbrev pub ArePlacesIn : ℕ → ℕ → ℕ → Type 0
+ArePlacesIn count base places = (places ≤ count - 7) × (base + places ≤ 2 ^ 64)

@@ -1,7 +1,7 @@
 //! Caches of rows are made, emptied and freed.
 ghost use Rattle.std.specs.Prelude.{◌≡◌, []};
 ghost use Rattle.std.specs.Option.{option_map};
-ghost use Rattle.cfi_step.specs.PackedRows.{AreEmpty};
+ghost use Rattle.cfi_step.specs.PackedRows.{AreVacant};
 ghost use Rattle.cfi_c.specs.CachedSteps.{IsCacheMade, cache_rows, held_rows};
 
 use crate::cache::CfiCache;
@@ -39,7 +39,7 @@ pub extern "C" fn cfi_cache_free(alloc: Global, cache: &mut CfiCache)
 /// Forgets all rows of the cache. Does not allocate.
 #[unsafe(no_mangle)]
 pub extern "C" fn cfi_cache_clear(alloc: Global, cache: &mut CfiCache)
-    ensures { AreEmpty (cache_rows cache.new) }
+    ensures { AreVacant (cache_rows cache.new) }
 {
     let mut held = mem::replace(cache, CfiCache::of(alloc, None)).into_box();
     clear_held(&mut held);
@@ -48,7 +48,7 @@ pub extern "C" fn cfi_cache_clear(alloc: Global, cache: &mut CfiCache)
 
 /// Forgets all rows of the cache that is held.
 fn clear_held(held: &mut Option<Box<RowCache>>)
-    ensures { AreEmpty (held_rows (option_map (λ cache. cache.value) held.new)) }
+    ensures { AreVacant (held_rows (option_map (λ cache. cache.value) held.new)) }
 {
     match held {
         Some(rows) => rows.as_mut().clear(),

@@ -1,4 +1,4 @@
-//! Rows of compiled tables.
+//! Compiled tables are made, asked for rows, and freed.
 ghost use Rattle.std.specs.Prelude.{◌≡◌, None, IfOk, length};
 ghost use Rattle.std.specs.Option.{option_map};
 ghost use Rattle.cfi_read_core.specs.Addresses.{IsAddressSize};

@@ -3,7 +3,7 @@ ghost use Rattle.std.specs.Prelude.{◌≡◌, ◌⊎◌, false, pos, true};
 ghost use Rattle.cfi_c.specs.AddressRows.{is_live};
 ghost use Rattle.cfi_c.specs.Refusals.{error_status};
 
-use crate::held::HeldContext;
+use crate::held_context::HeldContext;
 use crate::refusal::number_of;
 use crate::unboxed::Unboxed;
 use gimli_cfi::{Error, StoreOnHeap, UnwindContext};

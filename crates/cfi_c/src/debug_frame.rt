@@ -15,7 +15,9 @@ ghost use Rattle.cfi_c.specs.ModuleSteps.{IsFunctionStep};
 use crate::context::Context;
 use crate::module::{CfiModule, is_debug_frame};
 use crate::section::{bases_of, endian_of, vendor_of};
-use cfi_step::{Abi, Frame, FunctionStep, Memory, RowCache, function_step, keep_found};
+use cfi_step::{
+    Abi, Frame, FunctionStep, Memory, PlacedSection, RowCache, function_step, keep_found,
+};
 use gimli_cfi::{BaseAddresses, DebugFrame, EndianSlice, RunTimeEndian, scan_for_fde};
 
 /// `.debug_frame` of a module, with the bases of its pointers.
@@ -64,10 +66,12 @@ pub fn step_in_debug_frame<M: Memory>(
     ensures unwritten { OnErr result.caller (caller.new ≡ caller.old) }
 {
     let scanned = scanned_of(module, frame.address_size.bytes());
-    let section = &scanned.frame;
-    let bases = &scanned.bases;
-    let found = scan_for_fde(section, bases, address);
-    function_step(found, section, bases, context, address, abi, frame, caller)
+    let placed = PlacedSection {
+        section: &scanned.frame,
+        bases: &scanned.bases,
+    };
+    let found = scan_for_fde(placed.section, placed.bases, address);
+    function_step(found, &placed, context, address, abi, frame, caller)
 }
 
 /// Keeps the row that the module has for the address, as `keep_row`. Apart, as the step.
@@ -85,7 +89,10 @@ pub fn keep_in_debug_frame(
     ensures { StaysCachedFor size file module.now (rows_in rows.old) (rows_in rows.new) }
 {
     let scanned = scanned_of(module, size);
-    let bases = &scanned.bases;
-    let found = scan_for_fde(&scanned.frame, bases, address);
-    keep_found(found, &scanned.frame, bases, rows, file, context, address);
+    let placed = PlacedSection {
+        section: &scanned.frame,
+        bases: &scanned.bases,
+    };
+    let found = scan_for_fde(placed.section, placed.bases, address);
+    keep_found(found, &placed, rows, file, context, address);
 }

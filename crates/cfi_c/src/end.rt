@@ -1,10 +1,11 @@
 //! Why there are no more frames, or no caller, as C sees it.
 ghost use Rattle.std.specs.Prelude.{◌≡◌};
 ghost use Rattle.cfi_read_core.specs.declared.error.Error.TheVariants.{UnsupportedAddressSize};
-ghost use Rattle.cfi_c.specs.Ends.{failed_end, no_context, plain_end, refused_end, written_end};
+ghost use Rattle.cfi_c.specs.Ends.{end_by, failed_end, no_context, plain_end, refused_end};
+ghost use Rattle.cfi_c.specs.Ends.{written_end};
 
 use crate::refusal::{NO_CONTEXT, number_of};
-use cfi_step::{End, FrameError};
+use cfi_step::{Caller, End, FrameError};
 use gimli_cfi::Error;
 
 /// The kind of an end where nothing is walked.
@@ -97,4 +98,17 @@ pub fn unsized_end(size: u8) -> CfiEnd
     ensures { result ≡ refused_end 16 (UnsupportedAddressSize size) }
 {
     refused_end(NOT_WALKED, Error::UnsupportedAddressSize(size))
+}
+
+/// Why there is no caller, or that there is one.
+pub fn end_by(caller: Result<Caller, FrameError>) -> CfiEnd
+    ensures { result ≡ end_by caller }
+{
+    match caller {
+        Ok(caller) => match caller.pc {
+            Some(_pc) => plain_end(NONE, 0),
+            None => plain_end(0, 0),
+        },
+        Err(error) => failed_end(error),
+    }
 }

@@ -4,7 +4,7 @@ ghost use Rattle.std.specs.Int.{w64};
 ghost use Rattle.cfi_read_core.specs.Numbers.{number_of};
 ghost use Rattle.cfi_expression.specs.Arithmetic.{displaced};
 ghost use Rattle.cfi_step.specs.PackedRules.{eightfold};
-ghost use Rattle.cfi_c.specs.WindowPlaces.{AreIn};
+ghost use Rattle.cfi_c.specs.WindowPlaces.{ArePlacesIn};
 
 use crate::memory::CfiMemory;
 use cfi_step::packed_rules::eightfold;
@@ -18,7 +18,7 @@ pub struct FirstWindow<'a> {
     base: u64,
     /// At how many places, from the first on, there are eight bytes.
     places: u64,
-    ghost inside: { AreIn (length bytes.now) base places },
+    ghost inside: { ArePlacesIn (length bytes.now) base places },
 }
 
 impl<'a> FirstWindow<'a> {
@@ -26,13 +26,13 @@ impl<'a> FirstWindow<'a> {
     ghost use Rattle.cfi_expression.specs.Arithmetic.{displaced};
     ghost use Rattle.cfi_step.specs.PackedRules.{eightfold};
     ghost use Rattle.cfi_c.specs.declared.memory.CfiMemory.{CfiMemory};
-    ghost use Rattle.cfi_c.specs.FirstWindows.{HasAt, IsFirst};
+    ghost use Rattle.cfi_c.specs.FirstWindows.{HasAt, IsFirstWindow};
     ghost use Rattle.cfi_c.specs.PassedMemories.{number_in_memory};
 
     /// The first window of the memory.
     #[inline(always)]
     pub fn of(memory: &CfiMemory<'a>) -> FirstWindow<'a>
-        ensures { IsFirst memory.now result }
+        ensures { IsFirstWindow memory.now result }
     {
         if memory.address_size != 8 || memory.big_endian || memory.windows.is_empty() {
             return FirstWindow {
@@ -52,7 +52,7 @@ impl<'a> FirstWindow<'a> {
     /// The number that is saved at the CFA plus so many words, if the window has it.
     #[inline(always)]
     pub fn number_at(&self, cfa: u64, words: i8) -> Option<u64>
-        ensures { (memory : CfiMemory) → IsFirst memory self.now → IfSome result (λ n.
+        ensures { (memory : CfiMemory) → IsFirstWindow memory self.now → IfSome result (λ n.
             number_in_memory memory (displaced memory.address_size cfa (eightfold words))
             memory.address_size ≡ Some n) }
     {
@@ -85,7 +85,7 @@ fn displaced_by(address: u64, words: i8) -> u64
 /// At how many places of the bytes there are eight, none of which has an address that is too large.
 #[inline(always)]
 fn places_in(bytes: &[u8], base: u64) -> u64
-    ensures { AreIn (length bytes.now) base result }
+    ensures { ArePlacesIn (length bytes.now) base result }
 {
     let count = bytes.len();
     if count < 8 {

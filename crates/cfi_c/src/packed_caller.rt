@@ -7,9 +7,9 @@ ghost use Rattle.cfi_read_core.specs.ReadFunctions.{Position};
 ghost use Rattle.cfi_expression.specs.Frames.{known};
 ghost use Rattle.cfi_expression.specs.declared.error.FrameError.TheVariants.{UnknownRegister};
 ghost use Rattle.cfi_step.specs.Callers.{cfa_of, is_signed, return_address, without_rule};
-ghost use Rattle.cfi_step.specs.PackedRows.{listed, parts_packed};
-ghost use Rattle.cfi_step.specs.PackedRules.{numbered, rule_by};
-ghost use Rattle.cfi_c.specs.FirstWindows.{IsFirst};
+ghost use Rattle.cfi_step.specs.PackedRows.{counted_rules, parts_packed};
+ghost use Rattle.cfi_step.specs.PackedRules.{register_numbered, rule_by};
+ghost use Rattle.cfi_c.specs.FirstWindows.{IsFirstWindow};
 ghost use Rattle.cfi_c.specs.PackedSteps.{Clears, IsCallerBy, IsCallerFrom, IsPcBy, IsPcOf};
 ghost use Rattle.cfi_c.specs.PackedSteps.{IsSavedPc, passed_frame};
 ghost use Rattle.cfi_c.specs.PassedRegisters.{values_of};
@@ -35,8 +35,8 @@ pub fn quick_caller(
     registers: &[CfiValue],
 ) -> Option<Caller>
     requires size { memory.now.address_size ≡ 8 }
-    requires first { IsFirst memory.now first.now }
-    requires rules { rules.now ≡ listed row.now.numbers }
+    requires first { IsFirstWindow memory.now first.now }
+    requires rules { rules.now ≡ counted_rules row.now.numbers }
     ensures { IfSome result (λ caller. IsCallerBy memory.now registers.now row.now (Ok caller)) }
 {
     match quick_frame_address(row, memory, registers) {
@@ -75,8 +75,8 @@ fn quick_caller_from(
     cfa: u64,
 ) -> Option<Caller>
     requires size { memory.now.address_size ≡ 8 }
-    requires first { IsFirst memory.now first.now }
-    requires rules { rules.now ≡ listed row.now.numbers }
+    requires first { IsFirstWindow memory.now first.now }
+    requires rules { rules.now ≡ counted_rules row.now.numbers }
     ensures { IfSome result (λ caller.
         IsCallerFrom memory.now registers.now row.now cfa (Ok caller)) }
 {
@@ -106,11 +106,12 @@ fn quick_pc(
     cfa: u64,
 ) -> Option<u64>
     requires size { memory.now.address_size ≡ 8 }
-    requires first { IsFirst memory.now first.now }
-    requires rules { rules.now ≡ listed row.now.numbers }
+    requires first { IsFirstWindow memory.now first.now }
+    requires rules { rules.now ≡ counted_rules row.now.numbers }
     ensures { IfSome result (λ pc. (bytes : Position) → Ok (Some pc)
         ≡ return_address (passed_frame memory.now registers.now) bytes (abi_in memory.now)
-        (λ (n : ℕ). n) (parts_packed row.now) cfa (numbered row.now.numbers.return_address)) }
+        (λ (n : ℕ). n) (parts_packed row.now) cfa
+        (register_numbered row.now.numbers.return_address)) }
 {
     let signature = signature_of(row, memory);
     let register = row.return_address();
@@ -132,7 +133,7 @@ pub fn caller_by(
     registers: &[CfiValue],
 ) -> Result<Caller, FrameError>
     requires size { IsAddressSize memory.now.address_size }
-    requires first { IsFirst memory.now first.now }
+    requires first { IsFirstWindow memory.now first.now }
     requires room { length registers.now ≤ 256 }
     ensures { IsCallerBy memory.now registers.now row.now result }
 {
@@ -152,7 +153,7 @@ fn caller_from(
     cfa: u64,
 ) -> Result<Caller, FrameError>
     requires size { IsAddressSize memory.now.address_size }
-    requires first { IsFirst memory.now first.now }
+    requires first { IsFirstWindow memory.now first.now }
     ensures { IsCallerFrom memory.now registers.now row.now cfa result }
 {
     match caller_pc(row, memory, first, registers, cfa) {
@@ -193,10 +194,10 @@ fn caller_pc(
     cfa: u64,
 ) -> Result<Option<u64>, FrameError>
     requires size { IsAddressSize memory.now.address_size }
-    requires first { IsFirst memory.now first.now }
+    requires first { IsFirstWindow memory.now first.now }
     ensures { (bytes : Position) → result ≡ return_address (passed_frame memory.now registers.now)
         bytes (abi_in memory.now) (λ (n : ℕ). n) (parts_packed row.now) cfa
-        (numbered row.now.numbers.return_address) }
+        (register_numbered row.now.numbers.return_address) }
 {
     let register = row.return_address();
     let rule = rule_of(row.rules(), register);
@@ -273,7 +274,7 @@ fn pc_by_rule(
 /// The pc of the caller, if the register that holds it is known, without these bits.
 fn pc_of(value: Option<u64>, register: u8, signature: u64) -> Result<Option<u64>, FrameError>
     ensures { (mask : ℕ) (signed : Bool) → Clears mask signed signature →
-        IsPcOf mask signed value (numbered register) result }
+        IsPcOf mask signed value (register_numbered register) result }
 {
     match value {
         Some(pc) => Ok(Some(pc & !signature)),
@@ -324,7 +325,7 @@ fn known(registers: &[CfiValue], register: u8) -> Option<u64>
 
 /// The error for a register whose value isn't known.
 fn unknown(register: u8) -> FrameError
-    ensures { result ≡ UnknownRegister (numbered register) }
+    ensures { result ≡ UnknownRegister (register_numbered register) }
 {
     FrameError::UnknownRegister(Register(u16::from(register)))
 }

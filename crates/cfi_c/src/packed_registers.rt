@@ -3,10 +3,10 @@ ghost use Rattle.std.specs.Prelude.{◌≡◌, ◌≤◌, ℕ, List, length, sli
 ghost use Rattle.cfi_read_core.specs.Addresses.{IsAddressSize};
 ghost use Rattle.cfi_read_core.specs.ReadFunctions.{Position};
 ghost use Rattle.cfi_expression.specs.Arithmetic.{displaced};
-ghost use Rattle.cfi_step.specs.Callers.{by_rule, given};
-ghost use Rattle.cfi_step.specs.PackedRows.{listed};
+ghost use Rattle.cfi_step.specs.Callers.{by_rule, found_value};
+ghost use Rattle.cfi_step.specs.PackedRows.{counted_rules};
 ghost use Rattle.cfi_step.specs.PackedRules.{eightfold, pair_of};
-ghost use Rattle.cfi_c.specs.FirstWindows.{IsFirst};
+ghost use Rattle.cfi_c.specs.FirstWindows.{IsFirstWindow};
 ghost use Rattle.cfi_c.specs.PackedSteps.{AreOfCaller, IsValueBy, passed_frame};
 ghost use Rattle.cfi_c.specs.PassedRegisters.{AreValues, known_value, plain_of, values_of};
 ghost use Rattle.cfi_c.specs.PassedRegisters.{written_value};
@@ -30,7 +30,7 @@ pub fn write_registers(
     caller: &mut [CfiValue],
 )
     requires size { IsAddressSize memory.now.address_size }
-    requires first { IsFirst memory.now first.now }
+    requires first { IsFirstWindow memory.now first.now }
     requires caller_room { length caller.old ≤ 256 }
     ensures { AreOfCaller memory.now registers.now row.now cfa caller.new }
 {
@@ -49,8 +49,8 @@ pub fn write_ruled(
     caller: &mut [CfiValue],
 )
     requires size { IsAddressSize memory.now.address_size }
-    requires first { IsFirst memory.now first.now }
-    requires rules { rules.now ≡ listed row.now.numbers }
+    requires first { IsFirstWindow memory.now first.now }
+    requires rules { rules.now ≡ counted_rules row.now.numbers }
     ensures copied { (registers : List CfiValue) → AreValues (values_of registers) caller.old →
         AreOfCaller memory.now registers row.now cfa caller.new }
     ensures in_place { AreOfCaller memory.now caller.old row.now cfa (plain_of caller.new) }
@@ -72,10 +72,10 @@ fn write_by_rule(
     caller: &mut [CfiValue],
 )
     requires size { IsAddressSize memory.now.address_size }
-    requires first { IsFirst memory.now first.now }
+    requires first { IsFirstWindow memory.now first.now }
     ensures { (registers : List CfiValue) (bytes : Position) → caller.new
         ≡ slice_set caller.old packed.register
-        (written_value (given (by_rule (passed_frame memory.now registers) bytes
+        (written_value (found_value (by_rule (passed_frame memory.now registers) bytes
         (abi_in memory.now) (λ (n : ℕ). n) cfa packed.register (pair_of packed).1))) }
 {
     let register = packed.register();
@@ -95,7 +95,7 @@ fn value_of(
     cfa: u64,
 ) -> Option<u64>
     requires size { IsAddressSize memory.now.address_size }
-    requires first { IsFirst memory.now first.now }
+    requires first { IsFirstWindow memory.now first.now }
     ensures { IsValueBy memory.now cfa rule.now result }
 {
     // most rules

@@ -16,6 +16,17 @@ use gimli_cfi::{Error, StoreOnHeap, UnwindContextStorage, UnwindTableRow};
 use std::alloc::Global;
 use std::mem;
 
+/// A section in which rows are asked for.
+#[derive(Clone, Copy)]
+struct AskedSection<'a> {
+    /// Its bytes.
+    section: &'a [u8],
+    /// Those of its header, where rows are found by that.
+    header: Option<&'a [u8]>,
+    /// The bases of their pointers.
+    bases: &'a CfiBases,
+}
+
 type FoundRow = UnwindTableRow<usize, <StoreOnHeap as UnwindContextStorage<usize>>::Rules>;
 
 /// Writes the row of the address, found by a scan of the section, and the rules of the registers
@@ -25,11 +36,11 @@ type FoundRow = UnwindTableRow<usize, <StoreOnHeap as UnwindContextStorage<usize
 /// in `row.refused`; that of `UnsupportedAddressSize` where the size is not 1, 2, 4 or 8; and
 /// `NO_CONTEXT` where there is no context. Does not allocate.
 #[unsafe(no_mangle)]
-pub extern "C" fn cfi_row_by_scan(
+pub extern "C" fn cfi_row_by_scan<'a>(
     alloc: Global,
     context: &mut CfiContext,
-    section: &[u8],
-    bases: &CfiBases,
+    section: &'a [u8],
+    bases: &'a CfiBases,
     address: u64,
     row: &mut CfiRow,
     rules: &mut [CfiRule],
@@ -39,24 +50,23 @@ pub extern "C" fn cfi_row_by_scan(
     ensures status { result ≡ row.new.status }
     ensures kept { context.new.live ≡ context.old.live }
 {
-    let mut held = mem::replace(context, CfiContext::of(alloc, None)).into_box();
-    let count = rules.len();
-    answer(
-        &mut held, section, None, bases, address, row, rules, 0, count,
-    );
-    *context = CfiContext::of(alloc, held);
-    row.status
+    let asked = AskedSection {
+        section,
+        header: None,
+        bases,
+    };
+    answer_one(alloc, context, &asked, address, row, rules)
 }
 
 /// Does the same for `.eh_frame` with a header, by the header's table; by a scan of the section
 /// where the header has no rows.
 #[unsafe(no_mangle)]
-pub extern "C" fn cfi_row_by_table(
+pub extern "C" fn cfi_row_by_table<'a>(
     alloc: Global,
     context: &mut CfiContext,
-    section: &[u8],
-    header: &[u8],
-    bases: &CfiBases,
+    section: &'a [u8],
+    header: &'a [u8],
+    bases: &'a CfiBases,
     address: u64,
     row: &mut CfiRow,
     rules: &mut [CfiRule],
@@ -69,21 +79,12 @@ pub extern "C" fn cfi_row_by_table(
     ensures status { result ≡ row.new.status }
     ensures kept { context.new.live ≡ context.old.live }
 {
-    let mut held = mem::replace(context, CfiContext::of(alloc, None)).into_box();
-    let count = rules.len();
-    answer(
-        &mut held,
+    let asked = AskedSection {
         section,
-        Some(header),
+        header: Some(header),
         bases,
-        address,
-        row,
-        rules,
-        0,
-        count,
-    );
-    *context = CfiContext::of(alloc, held);
-    row.status
+    };
+    answer_one(alloc, context, &asked, address, row, rules)
 }
 
 /// Writes the rows of many addresses, each as `cfi_row_by_table` does, or as `cfi_row_by_scan` does
@@ -93,12 +94,12 @@ pub extern "C" fn cfi_row_by_table(
 /// Returns how many rows it has written: as many as there are addresses, rows, and rules for each
 /// row. Writes nothing after them. Does not allocate.
 #[unsafe(no_mangle)]
-pub extern "C" fn cfi_rows(
+pub extern "C" fn cfi_rows<'a>(
     alloc: Global,
     context: &mut CfiContext,
-    section: &[u8],
-    header: &[u8],
-    bases: &CfiBases,
+    section: &'a [u8],
+    header: &'a [u8],
+    bases: &'a CfiBases,
     addresses: &[u64],
     rows: &mut [CfiRow],
     rules: &mut [CfiRule],
@@ -112,20 +113,41 @@ pub extern "C" fn cfi_rows(
     ensures kept { context.new.live ≡ context.old.live }
 {
     let mut held = mem::replace(context, CfiContext::of(alloc, None)).into_box();
-    let header = header_in(header);
-    let count = answer_each(
-        &mut held, section, header, bases, addresses, rows, rules, per_row,
-    );
+    let asked = AskedSection {
+        section,
+        header: header_in(header),
+        bases,
+    };
+    let count = answer_each(&mut held, &asked, addresses, rows, rules, per_row);
     *context = CfiContext::of(alloc, held);
     count
+}
+
+/// Writes the row of one address, and as many rules as fit. Returns its status.
+fn answer_one(
+    alloc: Global,
+    context: &mut CfiContext,
+    asked: &AskedSection<'_>,
+    address: u64,
+    row: &mut CfiRow,
+    rules: &mut [CfiRule],
+) -> i32
+    ensures answered { IsAnswerForC context.old.live asked.now.bases.now asked.now.section.now
+        (lent asked.now.header) address row.new rules.new 0 (length rules.new) }
+    ensures status { result ≡ row.new.status }
+    ensures kept { context.new.live ≡ context.old.live }
+{
+    let mut held = mem::replace(context, CfiContext::of(alloc, None)).into_box();
+    let count = rules.len();
+    answer(&mut held, asked, address, row, rules, 0, count);
+    *context = CfiContext::of(alloc, held);
+    row.status
 }
 
 /// Writes the rows of as many addresses as there is room for, and returns how many.
 fn answer_each(
     held: &mut Option<Box<Context>>,
-    section: &[u8],
-    header: Option<&[u8]>,
-    bases: &CfiBases,
+    asked: &AskedSection<'_>,
     addresses: &[u64],
     rows: &mut [CfiRow],
     rules: &mut [CfiRule],
@@ -133,8 +155,8 @@ fn answer_each(
 ) -> usize
     ensures count { IsCount (length addresses.now) (length rows.old) (length rules.old) per_row
         result }
-    ensures answered { AreAnswered (is_live held.old) bases.now section.now
-        (lent header.entry) addresses.now per_row result
+    ensures answered { AreAnswered (is_live held.old) asked.now.bases.now asked.now.section.now
+        (lent asked.now.header) addresses.now per_row result
         rows.old rows.new rules.old rules.new }
     ensures kept { is_live held.new ≡ is_live held.old }
 {
@@ -144,17 +166,7 @@ fn answer_each(
             return i;
         }
         let mut row = rows[i];
-        answer(
-            held,
-            section,
-            header,
-            bases,
-            addresses[i],
-            &mut row,
-            rules,
-            first,
-            per_row,
-        );
+        answer(held, asked, addresses[i], &mut row, rules, first, per_row);
         rows[i] = row;
         first += per_row;
     }
@@ -164,9 +176,7 @@ fn answer_each(
 /// Writes the row of one address, with the context that is held.
 fn answer(
     held: &mut Option<Box<Context>>,
-    section: &[u8],
-    header: Option<&[u8]>,
-    bases: &CfiBases,
+    asked: &AskedSection<'_>,
     address: u64,
     row: &mut CfiRow,
     rules: &mut [CfiRule],
@@ -174,14 +184,14 @@ fn answer(
     count: usize,
 )
     requires { first + count ≤ length rules.old }
-    ensures answered { IsAnswerForC (is_live held.old) bases.now section.now
-        (lent header.entry) address row.new rules.new first count }
+    ensures answered { IsAnswerForC (is_live held.old) asked.now.bases.now asked.now.section.now
+        (lent asked.now.header) address row.new rules.new first count }
     ensures around { SameAround first count rules.old rules.new }
     ensures kept { is_live held.new ≡ is_live held.old }
 {
     match held {
         Some(context) => {
-            let found = find_row(context.as_mut(), section, header, bases, address);
+            let found = find_row(context.as_mut(), asked, address);
             write_answer(found, row, rules, first, count);
         }
         None => {
@@ -195,16 +205,15 @@ fn answer(
 /// Returns `Error::UnsupportedAddressSize` where the size is not 1, 2, 4 or 8.
 fn find_row<'ctx>(
     context: &'ctx mut Context,
-    section: &[u8],
-    header: Option<&[u8]>,
-    bases: &CfiBases,
+    asked: &AskedSection<'_>,
     address: u64,
 ) -> Result<&'ctx FoundRow, Error>
-    ensures { IsSizedAnswer bases.now section.now (lent header.entry) address
-        (map_ok (λ row. row.now) result) }
+    ensures { IsSizedAnswer asked.now.bases.now asked.now.section.now (lent asked.now.header)
+        address (map_ok (λ row. row.now) result) }
 {
-    if !is_sized(bases.address_size) {
-        return Err(Error::UnsupportedAddressSize(bases.address_size));
+    let size = asked.bases.address_size;
+    if !is_sized(size) {
+        return Err(Error::UnsupportedAddressSize(size));
     }
-    source_of(section, header, bases).row(context, address)
+    source_of(asked.section, asked.header, asked.bases).row(context, address)
 }

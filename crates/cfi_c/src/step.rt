@@ -6,11 +6,10 @@ ghost use Rattle.cfi_c.specs.AddressRows.{is_live};
 ghost use Rattle.cfi_c.specs.PassedRegisters.{known_value};
 ghost use Rattle.cfi_c.specs.SteppedFrames.{IsHeldStep, IsPassedStep, IsStepWith, IsStepped};
 ghost use Rattle.cfi_c.specs.SteppedFrames.{caller_after, caller_or, end_after, function_after};
-ghost use Rattle.cfi_c.specs.Ends.{end_by};
 
 use crate::context::{CfiContext, Context};
 use crate::debug_frame::step_in_debug_frame;
-use crate::end::{CfiEnd, NONE, failed_end, no_context, plain_end, unsized_end};
+use crate::end::{CfiEnd, end_by, no_context, unsized_end};
 use crate::function::{CfiFunction, written_function};
 use crate::memory::{CfiMemory, abi_in};
 use crate::module::{CfiModule, is_debug_frame, loaded_of};
@@ -279,18 +278,5 @@ pub fn caller_or(old: CfiCaller, caller: Result<Caller, FrameError>) -> CfiCalle
             is_interrupted: caller.is_interrupted,
         },
         Err(_error) => old,
-    }
-}
-
-/// Why there is no caller, or that there is one.
-pub fn end_by(caller: Result<Caller, FrameError>) -> CfiEnd
-    ensures { result ≡ end_by caller }
-{
-    match caller {
-        Ok(caller) => match caller.pc {
-            Some(_pc) => plain_end(NONE, 0),
-            None => plain_end(0, 0),
-        },
-        Err(error) => failed_end(error),
     }
 }

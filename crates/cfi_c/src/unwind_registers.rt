@@ -1,5 +1,5 @@
 //! The frames of a stack, with the registers of each.
-ghost use Rattle.std.specs.Prelude.{◌≡◌, ◌+◌, ◌++◌, ◌≤◌, List, drop, length, map, take, true};
+ghost use Rattle.std.specs.Prelude.{◌≡◌, ◌+◌, ◌++◌, ◌≤◌, ⊤, List, drop, length, map, take, true};
 ghost use Rattle.cfi_read_core.specs.Addresses.{IsAddressSize};
 ghost use Rattle.cfi_c.specs.AddressRows.{is_live};
 ghost use Rattle.cfi_c.specs.PassedRegisters.{known_value, written_value};
@@ -20,6 +20,13 @@ use cfi_step::walk::{Start, resumed};
 use cfi_step::{End, Steps, Walk, WalkFrame};
 use std::alloc::Global;
 use std::mem;
+
+/// How many frames are written, and why there are no more.
+#[derive(Clone, Copy)]
+struct Unwound {
+    count: usize,
+    end: CfiEnd,
+}
 
 /// Writes the frames of a stack as `cfi_unwind`, and the registers of each frame: as many for each
 /// as are passed, of which those from 256 on are not read. Those of a frame come behind those of
@@ -45,11 +52,10 @@ pub extern "C" fn cfi_unwind_registers(
     ensures kept { context.new.live ≡ context.old.live }
 {
     let mut held = mem::replace(context, CfiContext::of(alloc, None)).into_box();
-    let count = unwind(
-        &mut held, modules, stack, pc, registers, frames, values, end,
-    );
+    let unwound = unwind(&mut held, modules, stack, pc, registers, frames, values);
     *context = CfiContext::of(alloc, held);
-    count
+    *end = unwound.end;
+    unwound.count
 }
 
 /// Writes the frames and registers, with the context that is held, if the size of an address is
@@ -62,25 +68,30 @@ fn unwind(
     registers: &[CfiValue],
     frames: &mut [CfiFrame],
     values: &mut [CfiValue],
-    end: &mut CfiEnd,
-) -> usize
+) -> Unwound
     ensures unwound { IsUnwoundWith (is_live held.old) modules.now stack.now pc registers.now
-        frames.old frames.new values.old values.new result end.new }
+        frames.old frames.new values.old values.new result.count result.end }
     ensures kept { is_live held.new ≡ is_live held.old }
 {
     let Some(context) = held else {
-        *end = no_context();
-        return 0;
+        return Unwound {
+            count: 0,
+            end: no_context(),
+        };
     };
     if !is_sized(stack.address_size) {
-        *end = unsized_end(stack.address_size);
-        return 0;
+        return Unwound {
+            count: 0,
+            end: unsized_end(stack.address_size),
+        };
     }
     let registers = first_registers(registers);
     let context = context.as_mut();
     let walk = walk_from(context, modules, stack, pc, registers, frames, values);
-    *end = end_of(walk.end);
-    walk.count
+    Unwound {
+        count: walk.count,
+        end: end_of(walk.end),
+    }
 }
 
 /// Writes them by the registers of the innermost frame, and says why there are no more.
@@ -111,23 +122,12 @@ fn walk_from(
         memory: window_over(stack.base, stack.bytes, stack.big_endian),
         abi: abi_of(stack),
     };
-    let mut no_rows: [(); 0] = [];
-    write_all(
-        &steps,
-        &mut no_rows,
-        context,
-        pc,
-        known,
-        found,
-        frames,
-        values,
-    )
+    write_all(&steps, context, pc, known, found, frames, values)
 }
 
-/// Writes frame after frame, each with its registers, as `write_frames`.
-fn write_all<K, C, P: Steps<K, C>>(
+/// Writes frame after frame, each with its registers, as `write_frames` without a cache.
+fn write_all<C, P: Steps<(), C>>(
     steps: &P,
-    cache: &mut [K],
     ctx: &mut C,
     pc: u64,
     registers: &mut [Option<u64>],
@@ -137,10 +137,11 @@ fn write_all<K, C, P: Steps<K, C>>(
 ) -> Walk
     requires room { length registers.old ≤ 256 }
     requires same { caller.old ≡ registers.old }
-    requires can { (rows : List K) → P.can_step steps.now rows }
+    requires can { (rows : List ⊤) → P.can_step steps.now rows }
     ensures { IsWalkedTo (P.is_step steps.now) result.end pc registers.old
         frames.old frames.new values.old values.new result.count }
 {
+    let mut no_rows: [(); 0] = [];
     let mut at = Start {
         pc,
         is_interrupted: true,
@@ -153,7 +154,7 @@ fn write_all<K, C, P: Steps<K, C>>(
         }
         write_registers(registers, values, first);
         first += registers.len();
-        let step = steps.step(cache, ctx, &at, registers, caller);
+        let step = steps.step(&mut no_rows, ctx, &at, registers, caller);
         frames[index] = CfiFrame::of(&at, step);
         match resumed(step) {
             Ok(next) => {

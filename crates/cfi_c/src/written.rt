@@ -130,7 +130,7 @@ fn write_rules<A: ArrayLike<Item = (Register, RegisterRule<usize>)>>(
         rules[first + k] = rule_of(None);
     }
     for (register, rule) in found.registers() {
-        let k = number_in(*register);
+        let k = number_of_register(*register);
         if k < count {
             rules[first + k] = rule_of(Some(*rule));
         }
@@ -138,7 +138,7 @@ fn write_rules<A: ArrayLike<Item = (Register, RegisterRule<usize>)>>(
 }
 
 /// Returns the register's number, which is at most 65535.
-fn number_in(register: Register) -> usize
+fn number_of_register(register: Register) -> usize
     ensures number { result ≡ register.0 }
     ensures small { result ≤ 65535 }
 {
@@ -150,23 +150,23 @@ pub fn rule_of(rule: Option<RegisterRule<usize>>) -> CfiRule
     ensures { result ≡ rule_for_c rule }
 {
     let Some(rule) = rule else {
-        return plain(0, 0);
+        return plain_rule(0, 0);
     };
     match rule {
-        RegisterRule::Undefined => plain(1, 0),
-        RegisterRule::SameValue => plain(2, 0),
-        RegisterRule::Offset(offset) => plain(3, offset),
-        RegisterRule::ValOffset(offset) => plain(4, offset),
-        RegisterRule::Register(other) => plain(5, i64::from(other.0)),
-        RegisterRule::Expression(e) => placed(6, e.offset as u64, e.length as u64),
-        RegisterRule::ValExpression(e) => placed(7, e.offset as u64, e.length as u64),
-        RegisterRule::Architectural => plain(8, 0),
-        RegisterRule::Constant(value) => placed(9, value, 0),
+        RegisterRule::Undefined => plain_rule(1, 0),
+        RegisterRule::SameValue => plain_rule(2, 0),
+        RegisterRule::Offset(offset) => plain_rule(3, offset),
+        RegisterRule::ValOffset(offset) => plain_rule(4, offset),
+        RegisterRule::Register(other) => plain_rule(5, i64::from(other.0)),
+        RegisterRule::Expression(e) => placed_rule(6, e.offset as u64, e.length as u64),
+        RegisterRule::ValExpression(e) => placed_rule(7, e.offset as u64, e.length as u64),
+        RegisterRule::Architectural => plain_rule(8, 0),
+        RegisterRule::Constant(value) => placed_rule(9, value, 0),
     }
 }
 
 /// Returns a rule that carries a number or nothing.
-fn plain(kind: u64, value: i64) -> CfiRule
+fn plain_rule(kind: u64, value: i64) -> CfiRule
     ensures { result ≡ record { kind = kind; value = value; place = 0; length = 0 } }
 {
     CfiRule {
@@ -178,7 +178,7 @@ fn plain(kind: u64, value: i64) -> CfiRule
 }
 
 /// Returns a rule that carries an expression or a constant.
-fn placed(kind: u64, place: u64, length: u64) -> CfiRule
+fn placed_rule(kind: u64, place: u64, length: u64) -> CfiRule
     ensures { result ≡ record { kind = kind; value = pos 0; place = place; length = length } }
 {
     CfiRule {

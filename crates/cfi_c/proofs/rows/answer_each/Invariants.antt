@@ -12,4 +12,4 @@ invariant-loop-i l =
     (l.first ≡ l.i * l.per_row) ×
     (l.first ≤ length l.rules) ×
     (l.i ≤ length l.rows) ×
-    AreAnswered (is_live l.initial.held) l.bases l.section (option_map (λ bytes. bytes.now) l.header) l.addresses l.per_row l.i l.initial.rows l.rows l.initial.rules l.rules
+    AreAnswered (is_live l.initial.held) l.asked.bases.now l.asked.section.now (option_map (λ bytes. bytes.now) l.asked.header) l.addresses l.per_row l.i l.initial.rows l.rows l.initial.rules l.rules

@@ -10,6 +10,6 @@ returns c =
     let found = map_ok (λ row. row.now) c.row.result in (
       λ unsized. absurd (unsized (search rules)),
       λ sized.
-          passed_answer c.args.bases.now c.args.section.now (lent c.args.header) c.args.address found
+          passed_answer c.args.asked.now.bases.now c.args.asked.now.section.now (lent c.args.asked.now.header) c.args.address found
           (subst (λ given. IsGivenRow (Some 192) (Some 4) true given c.args.address found) c.source_of.ensures c.row.ensures.row),
     )

@@ -5,7 +5,7 @@ use Rattle.cfi_step.specs.Walks.{State}
 use Rattle.cfi_step.proofs.Walking.{has_room}
 use Rattle.cfi_c.specs.declared.frame.CfiFrame.{CfiFrame}
 use Rattle.cfi_c.specs.declared.register.CfiValue.{CfiValue}
-use Rattle.cfi_c.specs.RegisterFrames.{AreFirst, Framed, IsWalkWith, framed, frames_of, innermost, registers_written}
+use Rattle.cfi_c.specs.RegisterFrames.{AreFirst, FrameWithRegisters, IsWalkWith, framed, frames_of, innermost, registers_written}
 use Rattle.cfi_c.specs.PassedRegisters.{written_value}
 use Rattle.cfi_c.proofs.RegisterWalks.{frames_after, next_first, one_frame, one_last, one_more, one_row, registers_after, too_short}
 use Rattle.cfi_c.proofs.unwind_registers.write_all.Goals as goal
@@ -34,7 +34,7 @@ returns-then-values-first g c =
     let none = c.no_room.ensures in
     let short : length c.args.values.now < c.loop-index.first + length c.args.registers.now = omega (arith, c.if-values-first.true, here.1, here.2, values.2) in (
       done,
-      subst (λ (fs : List Framed). IsWalkWith (g.P.Steps.is_step c.args.steps.now) (innermost c.args.pc c.args.registers.now) fs c.no_room.result.end) (append-nil done)
+      subst (λ (fs : List FrameWithRegisters). IsWalkWith (g.P.Steps.is_step c.args.steps.now) (innermost c.args.pc c.args.registers.now) fs c.no_room.result.end) (append-nil done)
           (follows [] c.no_room.result.end (ap (λ w. w.end) none)),
       ap (λ w. w.count) none ∙ counted,
       frames,
@@ -50,14 +50,14 @@ returns-in-Err g c =
     let here = c.loop-index.invariant.0 in
     let (done, counted, placed, frames, values, follows) = c.loop-index.invariant.1 in
     let s : State = record { at = c.loop-index.at; registers = c.loop-index.registers; caller = c.loop-index.caller } in
-    let f : Framed = framed s c.step-step.result in
+    let f : FrameWithRegisters = framed s c.step-step.result in
     let inside : c.loop-index.index < length c.loop-index.frames = omega (arith, frames.2) in (
       done ++ (f ∷ []),
       one_last (g.P.Steps.is_step c.args.steps.now) (innermost c.args.pc c.args.registers.now) s done follows c.step-step.result c.step-step.new.caller c.step-step.ensures.step c.in-Err.end c.in-Err.ensures,
       ap (λ (k : ℕ). k + 1) counted ∙ sym (length-append done (f ∷ [])),
       subst (λ (w : List CfiFrame). AreFirst w c.args.frames.now (slice_set c.loop-index.frames c.loop-index.index c.of.result)) (sym (frames_after done f))
           (subst (λ (y : CfiFrame). AreFirst (frames_of done ++ (f.frame ∷ [])) c.args.frames.now (slice_set c.loop-index.frames c.loop-index.index y)) (sym c.of.ensures)
-          (one_frame (frames_of done) c.args.frames.now c.loop-index.frames c.loop-index.index f.frame (length-map done (λ (x : Framed). x.frame) ∙ sym counted) inside frames)),
+          (one_frame (frames_of done) c.args.frames.now c.loop-index.frames c.loop-index.index f.frame (length-map done (λ (x : FrameWithRegisters). x.frame) ∙ sym counted) inside frames)),
       subst (λ (w : List CfiValue). AreFirst w c.args.values.now c.write_registers.new.values) (sym (registers_after done f))
           (one_row (registers_written done) f.registers c.args.values.now c.loop-index.values c.write_registers.new.values c.loop-index.first (length c.loop-index.registers) (sym placed)
           (length-map c.loop-index.registers written_value) values c.write_registers.ensures.written c.write_registers.ensures.behind (search rules)),
@@ -69,7 +69,7 @@ loop-index-preserved g c =
     let here = c.loop-index.invariant.0 in
     let (done, counted, placed, frames, values, follows) = c.loop-index.invariant.1 in
     let s : State = record { at = c.loop-index.at; registers = c.loop-index.registers; caller = c.loop-index.caller } in
-    let f : Framed = framed s c.step-step.result in
+    let f : FrameWithRegisters = framed s c.step-step.result in
     let inside : c.loop-index.index < length c.loop-index.frames = omega (arith, frames.2) in
     let room : length c.step-step.new.caller ≡ length c.copy_from_slice.new.self = search rules in
     let same_room : length c.copy_from_slice.new.self ≡ length c.args.registers.now = search rules in
@@ -88,7 +88,7 @@ loop-index-preserved g c =
             ∙ (sym (length-append (registers_written done) f.registers) ∙ sym (ap length (registers_after done f)))),
         subst (λ (w : List CfiFrame). AreFirst w c.args.frames.now (slice_set c.loop-index.frames c.loop-index.index c.of.result)) (sym (frames_after done f))
             (subst (λ (y : CfiFrame). AreFirst (frames_of done ++ (f.frame ∷ [])) c.args.frames.now (slice_set c.loop-index.frames c.loop-index.index y)) (sym c.of.ensures)
-            (one_frame (frames_of done) c.args.frames.now c.loop-index.frames c.loop-index.index f.frame (length-map done (λ (x : Framed). x.frame) ∙ sym counted) inside frames)),
+            (one_frame (frames_of done) c.args.frames.now c.loop-index.frames c.loop-index.index f.frame (length-map done (λ (x : FrameWithRegisters). x.frame) ∙ sym counted) inside frames)),
         subst (λ (w : List CfiValue). AreFirst w c.args.values.now c.write_registers.new.values) (sym (registers_after done f))
             (one_row (registers_written done) f.registers c.args.values.now c.loop-index.values c.write_registers.new.values c.loop-index.first (length c.loop-index.registers) (sym placed)
             (length-map c.loop-index.registers written_value) values c.write_registers.ensures.written c.write_registers.ensures.behind same_length),
@@ -103,7 +103,7 @@ returns g c =
     let none = c.no_room-2.ensures in
     let over : c.loop-index.index ≡ length c.loop-index.frames = omega (arith, frames.2) in (
       done,
-      subst (λ (fs : List Framed). IsWalkWith (g.P.Steps.is_step c.args.steps.now) (innermost c.args.pc c.args.registers.now) fs c.no_room-2.result.end) (append-nil done)
+      subst (λ (fs : List FrameWithRegisters). IsWalkWith (g.P.Steps.is_step c.args.steps.now) (innermost c.args.pc c.args.registers.now) fs c.no_room-2.result.end) (append-nil done)
           (follows [] c.no_room-2.result.end (ap (λ w. w.end) none)),
       ap (λ w. w.count) none ∙ (sym over ∙ counted),
       frames,

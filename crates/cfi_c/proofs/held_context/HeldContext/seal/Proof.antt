@@ -23,11 +23,11 @@ use Rattle.std.proofs.raw_atomic.Walks.{proved_at}
 use Rattle.std_alloc.specs.Box.Ownership.{box_owns}
 use Rattle.cfi_c.specs.ContextRow.{heap_context_row}
 use Rattle.cfi_c.specs.contracts.unboxed.Unboxed as unboxed
-use Rattle.cfi_c.specs.contracts.held.HeldContext as held_context
+use Rattle.cfi_c.specs.contracts.held_context.HeldContext as held_context
 use Rattle.cfi_c.proofs.PointerPairs.{heap, pair, pair_typed, pair_out, pair_in}
-use Rattle.cfi_c.specs.contracts.held.HeldContext.seal as f
-use Rattle.cfi_c.proofs.held.HeldContext.seal.Statement.{statement}
-use Rattle.cfi_c.proofs.held.HeldContext.seal.Code as code
+use Rattle.cfi_c.specs.contracts.held_context.HeldContext.seal as f
+use Rattle.cfi_c.proofs.held_context.HeldContext.seal.Statement.{statement}
+use Rattle.cfi_c.proofs.held_context.HeldContext.seal.Code as code
 
 pub seal_spec : {M : Type 1} → statement M
 seal_spec 𝓤 𝓛 𝓜 𝓡 wired =

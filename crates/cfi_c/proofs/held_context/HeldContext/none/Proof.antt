@@ -17,12 +17,12 @@ use denote.Steps.{nothing}
 use denote.Struct.Owning.{shape}
 use denote.Triple.Walked.{says, Goes-dropped, Stays, stay_dropped, walk_of, ends_at}
 use Rattle.std.proofs.raw_atomic.Walks.{proved_at}
-use Rattle.cfi_c.specs.contracts.held.HeldContext as held_context
+use Rattle.cfi_c.specs.contracts.held_context.HeldContext as held_context
 use Rattle.core.proofs.alloc.Calls.{handle_tells}
 use Rattle.cfi_c.proofs.PointerPairs.{heap, pair, null_typed, pair_in}
-use Rattle.cfi_c.specs.contracts.held.HeldContext.none as f
-use Rattle.cfi_c.proofs.held.HeldContext.none.Statement.{statement}
-use Rattle.cfi_c.proofs.held.HeldContext.none.Code as code
+use Rattle.cfi_c.specs.contracts.held_context.HeldContext.none as f
+use Rattle.cfi_c.proofs.held_context.HeldContext.none.Statement.{statement}
+use Rattle.cfi_c.proofs.held_context.HeldContext.none.Code as code
 
 pub none_spec : {M : Type 1} → statement M
 none_spec 𝓤 𝓛 𝓜 𝓡 wired =
