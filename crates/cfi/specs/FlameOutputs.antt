@@ -4,14 +4,14 @@ use Rattle.std.specs.Prelude.{◌≡◌, ◌⊎◌, ℕ, List, ◌++◌, codes}
 use Rattle.std.specs.Fmt.{decimal}
 use Rattle.cfi_flame.specs.Flames.{Drawing, IsGraphOfPlain, IsPlainRefused, as_drawn, drawing_view}
 use Rattle.cfi_flame.specs.PlainTexts.{plain}
-use Rattle.cfi_flame.specs.Functions.{Row}
+use Rattle.cfi_flame.specs.Functions.{FunctionRow}
 use Rattle.cfi_flame.specs.Reports.{IsReport}
 use Rattle.cfi_flame.specs.Rankings.{IsRanking, IsReportRefused}
 use Rattle.cfi_flame.specs.declared.folded.FoldedError.{FoldedError}
 use Rattle.cfi_flame.specs.declared.folded.FoldedError.TheVariants.{OutOfMemory, NotFolded}
 use Rattle.cfi_flame.specs.declared.folded.FoldedError.TheVariants.{NoSamples, TooManySamples}
 use Rattle.cfi_programs.specs.Lines.{Line, line}
-use Rattle.cfi_programs.specs.Refusals.{reason_line, refused_line}
+use Rattle.cfi_programs.specs.Refusals.{reason_line, refusal_saying}
 use Rattle.cfi_programs.specs.declared.style.Format.{Format}
 use Rattle.cfi_programs.specs.declared.style.Format.TheVariants.{Text, Json}
 use Rattle.cfi.specs.FunctionObjects.{not_folded_object, objects_text}
@@ -38,10 +38,10 @@ not_folded Text number = line (codes "refused NotFolded " ++ decimal number) 1
 not_folded Json number = record { text = not_folded_object number; status = 1 }
 
 abbrev pub refusal : Format → FoldedError → Line
-refusal format OutOfMemory = refused_line format (codes "OutOfMemory")
+refusal format OutOfMemory = refusal_saying format (codes "OutOfMemory")
 refusal format (NotFolded number) = not_folded format number
-refusal format NoSamples = refused_line format (codes "NoSamples")
-refusal format TooManySamples = refused_line format (codes "TooManySamples")
+refusal format NoSamples = refusal_saying format (codes "NoSamples")
+refusal format TooManySamples = refusal_saying format (codes "TooManySamples")
 
 abbrev pub made_line : List ℕ → Line
 made_line made = record { text = made; status = 0 }
@@ -49,7 +49,7 @@ made_line made = record { text = made; status = 0 }
 -- the functions of the stacks of a plain text, as objects
 abbrev pub AreObjects : List ℕ → List ℕ → Type 0
 AreObjects text made =
-    (all : ℕ) × (ranked : List Row) × IsRanking text all ranked
+    (all : ℕ) × (ranked : List FunctionRow) × IsRanking text all ranked
     × (made ≡ objects_text all ranked)
 
 -- or why there are none

@@ -2,7 +2,7 @@
 --     objects_text all rows      how many samples there are, and then each function with its own
 use Rattle.std.specs.Prelude.{ℕ, List, [], ◌∷◌, ◌++◌, codes}
 use Rattle.std.specs.List.{flat_map}
-use Rattle.cfi_flame.specs.Functions.{Row}
+use Rattle.cfi_flame.specs.Functions.{FunctionRow}
 use Rattle.cfi_programs.specs.JsonLines.{json_escaped, json_number}
 
 abbrev pub samples_object : ℕ → List ℕ
@@ -14,13 +14,13 @@ not_folded_object number =
     codes "{\"error\":\"NotFolded\",\"line\":" ++ (json_number number ++ (codes "}" ++ 10 ∷ []))
 
 -- behind a name
-abbrev pub counts_members : Row → List ℕ
+abbrev pub counts_members : FunctionRow → List ℕ
 counts_members row =
     codes "\",\"self\":" ++ (json_number row.own ++ (codes ",\"total\":"
     ++ (json_number row.total ++ (codes "}" ++ 10 ∷ []))))
 
-abbrev pub function_object : Row → List ℕ
+abbrev pub function_object : FunctionRow → List ℕ
 function_object row = codes "{\"function\":\"" ++ (json_escaped row.name ++ counts_members row)
 
-abbrev pub objects_text : ℕ → List Row → List ℕ
+abbrev pub objects_text : ℕ → List FunctionRow → List ℕ
 objects_text all rows = samples_object all ++ flat_map function_object rows

@@ -1,5 +1,5 @@
 //! The files that a profile or a core file names, as the system opens them.
-ghost use Rattle.std.specs.Prelude.{◌≡◌, IfSome, string_bytes};
+ghost use Rattle.std.specs.Prelude.{◌≡◌, ⊤, IfSome, string_bytes};
 ghost use Rattle.cfi.specs.Folders.{folder_of, folders_view, linked_path, path_below};
 ghost use Rattle.cfi.specs.Process.{MayOpenAt, disk_of};
 
@@ -59,6 +59,8 @@ impl<S: System> Opener for ProfileOpener<'_, S> {
     ghost may_open = { λ opener place opened.
         MayOpenAt (disk_of (S.may_open opener.system.now) S.File.bytes)
         (folders_view opener.folders) place opened };
+
+    ghost has_said = { λ _ _. ⊤ };
 
     /// Opens the file with this name, if it is UTF-8 and a regular file.
     fn open(&self, name: &[u8]) -> Option<S::File> {
