@@ -8,10 +8,11 @@ use cfi_parts::pointer::{BaseAddresses, Pointer};
 use cfi_read_core::{
     DebugFrameOffset, DwEhPe, EhFrameOffset, Error, Format, Reader, ReaderOffsetId, Register,
 };
-use cfi_tests_bytes::THREE_ROWS;
+use cfi_tests_bytes::{bytes_of, joined};
 use cfi_unwind::entry::{CommonInformationEntry, FrameDescriptionEntry};
 use cfi_unwind::unwind_section::{DebugFrame, EhFrame, UnwindSection, scan_for_fde};
 use std::process::Abort;
+use std::test::Fail;
 
 /// Some fields of a CIE: its format, length, version, size of addresses, data alignment factor and
 /// return address register.
@@ -82,88 +83,88 @@ fn walk_both<R: Reader>(reader: R) -> (Walked, Walked) {
 }
 
 /// Sections, and the entries of each in `.debug_frame` and in `.eh_frame`.
-const COUNTED: [(&str, &[u8], (Walked, Walked)); 4] = [
-    ("no bytes", &[], ((0, None), (0, None))),
+const COUNTED: [(&str, &str, (Walked, Walked)); 4] = [
+    ("no bytes", "", ((0, None), (0, None))),
     (
         "a gap first",
-        &[
-            0, 0, 0, 0, 0x10, 0, 0, 0, 0xff, 0xff, 0xff, 0xff, 4, 0, 8, 0, 1, 0x78, 0x10, 0x0c, 7,
-            8, 0x90, 1, 0x14, 0, 0, 0, 4, 0, 0, 0, 0, 0x10, 0, 0, 0, 0, 0, 0, 0x20, 0, 0, 0, 0, 0,
-            0, 0,
-        ],
+        "00000000 10000000 ffffffff 04000800 0178100c 07089001 14000000 04000000 00100000 00000000 20000000 00000000",
         ((2, None), (0, None)),
     ),
     (
         "a gap of 64 bits first",
-        &[
-            0xff, 0xff, 0xff, 0xff, 0, 0, 0, 0, 0, 0, 0, 0, 0x10, 0, 0, 0, 0xff, 0xff, 0xff, 0xff,
-            4, 0, 8, 0, 1, 0x78, 0x10, 0x0c, 7, 8, 0x90, 1, 0x14, 0, 0, 0, 0x0c, 0, 0, 0, 0, 0x10,
-            0, 0, 0, 0, 0, 0, 0x20, 0, 0, 0, 0, 0, 0, 0,
-        ],
+        "ffffffff 00000000 00000000 10000000 ffffffff 04000800 0178100c 07089001 14000000 0c000000 00100000 00000000 20000000 00000000",
         ((2, None), (0, None)),
     ),
     (
         "a CIE before the section",
-        &[4, 0, 0, 0, 5, 0, 0, 0],
+        "04000000 05000000",
         ((1, None), (0, Some(Error::OffsetOutOfBounds(5)))),
     ),
 ];
 
 #[test]
-fn how_many_entries_there_are(rt: HostRuntime) {
-    for (case, bytes, walked) in &COUNTED {
-        assert_eq!(rt; walk_both(Slice::of(bytes)), *walked, "{case}");
+fn how_many_entries_there_are(rt: HostRuntime) -> Result<(), Fail> {
+    for (case, digits, walked) in &COUNTED {
+        let bytes = bytes_of(rt.alloc(), digits)?;
+        assert_eq!(rt; walk_both(Slice::of(bytes.as_slice())), *walked, "{case}");
     }
+    Ok(())
 }
 
+/// A CIE, and an FDE at 20.
+const THREE_ROWS: &str = "10000000 ffffffff 04000800 017810 0c0708 9001 \
+    1c000000 00000000 0010000000000000 2000000000000000 41 0e10 8602 43 0d06";
+
 /// Sections, offsets, and the errors of reading a CIE there.
-const REFUSALS: [(&str, &[u8], usize, Error); 8] = [
+const REFUSALS: [(&str, &str, usize, Error); 8] = [
     (
         "a length that is cut",
-        &[5, 0],
+        "0500",
         0,
         Error::UnexpectedEof(ReaderOffsetId(0)),
     ),
     (
         "a reserved length",
-        &[0xf5, 0xff, 0xff, 0xff],
+        "f5ffffff",
         0,
         Error::UnknownReservedLength(0xffff_fff5),
     ),
     (
         "a length of 64 bits that is cut",
-        &[0xff, 0xff, 0xff, 0xff, 0x39, 0x30, 0, 0],
+        "ffffffff 39300000",
         0,
         Error::UnexpectedEof(ReaderOffsetId(4)),
     ),
     (
         "a length past the section",
-        &[0, 0, 0, 0xff, 0xff, 0xff, 0xff, 0xff],
+        "000000ff ffffffff",
         0,
         Error::UnexpectedEof(ReaderOffsetId(4)),
     ),
-    ("a gap", &[0, 0, 0, 0], 0, Error::NoEntryAtGivenOffset(0)),
-    ("an FDE", &THREE_ROWS, 20, Error::NotCieId(20)),
+    ("a gap", "00000000", 0, Error::NoEntryAtGivenOffset(0)),
+    ("an FDE", THREE_ROWS, 20, Error::NotCieId(20)),
     (
         "the end of the section",
-        &THREE_ROWS,
+        THREE_ROWS,
         52,
         Error::UnexpectedEof(ReaderOffsetId(52)),
     ),
     (
         "after the section",
-        &THREE_ROWS,
+        THREE_ROWS,
         53,
         Error::UnexpectedEof(ReaderOffsetId(0)),
     ),
 ];
 
 #[test]
-fn entries_that_are_no_cie(rt: HostRuntime) {
-    for (case, bytes, offset, refusal) in &REFUSALS {
-        let found = refusal_at(Slice::of(bytes), *offset);
+fn entries_that_are_no_cie(rt: HostRuntime) -> Result<(), Fail> {
+    for (case, digits, offset, refusal) in &REFUSALS {
+        let bytes = bytes_of(rt.alloc(), digits)?;
+        let found = refusal_at(Slice::of(bytes.as_slice()), *offset);
         assert_eq!(rt; found, Some(*refusal), "{case}");
     }
+    Ok(())
 }
 
 /// The first address of an FDE and its end, how many addresses it has, and whether it contains
@@ -241,47 +242,41 @@ const ENCODING: Option<DwEhPe> = Some(DwEhPe(0x43));
 /// Sections and the fields of the FDE at an offset: one that is its own CIE; then after a CIE
 /// whose FDEs have a pointer to language-specific data and addresses relative to themselves, of
 /// which the second points to zero; and after one whose FDEs have addresses relative to a function.
-const WITH_DATA: [(&str, &[u8], usize, Result<WithData, Error>); 4] = [
+const WITH_DATA: [(&str, &str, usize, Result<WithData, Error>); 4] = [
     (
         "its own CIE",
-        &[4, 0, 0, 0, 4, 0, 0, 0],
+        "04000000 04000000",
         0,
         Err(Error::NotCieId(0)),
     ),
     (
         "a pointer",
-        &[
-            0x0f, 0, 0, 0, 0, 0, 0, 0, 1, 0x7a, 0x4c, 0x52, 0, 1, 0x78, 0x10, 2, 0x43, 0x1b, 0x11,
-            0, 0, 0, 0x17, 0, 0, 0, 0xe5, 0xef, 0xff, 0xff, 0x20, 0, 0, 0, 4, 0x10, 0, 0, 0,
-        ],
+        "0f000000 00000000 017a4c52 00017810 02431b11 00000017 000000e5 efffff20 00000004 10000000",
         19,
         Ok((0x1000, 0x1020, Some(Pointer::Direct(0x1010)), ENCODING)),
     ),
     (
         "a pointer to zero",
-        &[
-            0x0f, 0, 0, 0, 0, 0, 0, 0, 1, 0x7a, 0x4c, 0x52, 0, 1, 0x78, 0x10, 2, 0x43, 0x1b, 0x11,
-            0, 0, 0, 0x17, 0, 0, 0, 0xe5, 0xef, 0xff, 0xff, 0x20, 0, 0, 0, 4, 0, 0, 0, 0,
-        ],
+        "0f000000 00000000 017a4c52 00017810 02431b11 00000017 000000e5 efffff20 00000004 00000000",
         19,
         Ok((0x1000, 0x1020, Some(Pointer::Direct(0x1000)), ENCODING)),
     ),
     (
         "addresses relative to a function",
-        &[
-            0x0f, 0, 0, 0, 0, 0, 0, 0, 1, 0x7a, 0x4c, 0x52, 0, 1, 0x78, 0x10, 2, 0x43, 0x43, 0x11,
-            0, 0, 0, 0x17, 0, 0, 0, 0xe5, 0xef, 0xff, 0xff, 0x20, 0, 0, 0, 4, 0x10, 0, 0, 0,
-        ],
+        "0f000000 00000000 017a4c52 00017810 02434311 00000017 000000e5 efffff20 00000004 10000000",
         19,
         Err(Error::FuncRelativePointerInBadContext),
     ),
 ];
 
 #[test]
-fn language_specific_data(rt: HostRuntime) {
-    for (case, bytes, offset, data) in &WITH_DATA {
-        assert_eq!(rt; with_data(Slice::of(bytes), *offset), *data, "{case}");
+fn language_specific_data(rt: HostRuntime) -> Result<(), Fail> {
+    for (case, digits, offset, data) in &WITH_DATA {
+        let bytes = bytes_of(rt.alloc(), digits)?;
+        let found = with_data(Slice::of(bytes.as_slice()), *offset);
+        assert_eq!(rt; found, *data, "{case}");
     }
+    Ok(())
 }
 
 /// Whether a CIE is of a signal trampoline, and whether the B key signs its return addresses.
@@ -300,111 +295,102 @@ fn marks_of_both<R: Reader<Offset = usize>>(in_debug_frame: R, in_eh_frame: R) -
     )
 }
 
-/// Letters, a CIE of `.debug_frame` and one of `.eh_frame` with these, and the marks of both.
-const MARKS: [(&str, &[u8], &[u8], Marks); 11] = [
+/// Letters; the length of a CIE of `.debug_frame` with these, that CIE, and one of `.eh_frame`; and
+/// the marks of both.
+const MARKS: [(&str, usize, &str, &str, Marks); 11] = [
     (
         "S, with a nop",
-        &[
-            0x0d, 0, 0, 0, 0xff, 0xff, 0xff, 0xff, 4, 0x53, 0, 8, 0, 1, 0x78, 0x10, 0,
-        ],
-        &[0x0a, 0, 0, 0, 0, 0, 0, 0, 1, 0x53, 0, 1, 0x78, 0x10],
+        17,
+        "0d000000 ffffffff 04530008 00017810 00",
+        "0a000000 00000000 01530001 7810",
         Ok((true, false)),
     ),
     (
         "R",
-        &[
-            0x0d, 0, 0, 0, 0xff, 0xff, 0xff, 0xff, 4, 0x52, 0, 8, 0, 1, 0x78, 0x10, 0,
-        ],
-        &[0x0a, 0, 0, 0, 0, 0, 0, 0, 1, 0x52, 0, 1, 0x78, 0x10],
+        17,
+        "0d000000 ffffffff 04520008 00017810 00",
+        "0a000000 00000000 01520001 7810",
         Err(Error::UnknownAugmentation),
     ),
     (
         "Sz",
-        &[
-            0x0e, 0, 0, 0, 0xff, 0xff, 0xff, 0xff, 4, 0x53, 0x7a, 0, 8, 0, 1, 0x78, 0x10, 0,
-        ],
-        &[0x0b, 0, 0, 0, 0, 0, 0, 0, 1, 0x53, 0x7a, 0, 1, 0x78, 0x10],
+        18,
+        "0e000000 ffffffff 04537a00 08000178 1000",
+        "0b000000 00000000 01537a00 017810",
         Err(Error::UnknownAugmentation),
     ),
     (
         "B",
-        &[
-            0x0c, 0, 0, 0, 0xff, 0xff, 0xff, 0xff, 4, 0x42, 0, 8, 0, 1, 0x78, 0x10,
-        ],
-        &[0x0a, 0, 0, 0, 0, 0, 0, 0, 1, 0x42, 0, 1, 0x78, 0x10],
+        16,
+        "0c000000 ffffffff 04420008 00017810",
+        "0a000000 00000000 01420001 7810",
         Ok((false, true)),
     ),
     (
         "S",
-        &[
-            0x0c, 0, 0, 0, 0xff, 0xff, 0xff, 0xff, 4, 0x53, 0, 8, 0, 1, 0x78, 0x10,
-        ],
-        &[0x0a, 0, 0, 0, 0, 0, 0, 0, 1, 0x53, 0, 1, 0x78, 0x10],
+        16,
+        "0c000000 ffffffff 04530008 00017810",
+        "0a000000 00000000 01530001 7810",
         Ok((true, false)),
     ),
     (
         "SB",
-        &[
-            0x0d, 0, 0, 0, 0xff, 0xff, 0xff, 0xff, 4, 0x53, 0x42, 0, 8, 0, 1, 0x78, 0x10,
-        ],
-        &[0x0b, 0, 0, 0, 0, 0, 0, 0, 1, 0x53, 0x42, 0, 1, 0x78, 0x10],
+        17,
+        "0d000000 ffffffff 04534200 08000178 10",
+        "0b000000 00000000 01534200 017810",
         Ok((true, true)),
     ),
     (
         "zB",
-        &[
-            0x0e, 0, 0, 0, 0xff, 0xff, 0xff, 0xff, 4, 0x7a, 0x42, 0, 8, 0, 1, 0x78, 0x10, 0,
-        ],
-        &[
-            0x0c, 0, 0, 0, 0, 0, 0, 0, 1, 0x7a, 0x42, 0, 1, 0x78, 0x10, 0,
-        ],
+        18,
+        "0e000000 ffffffff 047a4200 08000178 1000",
+        "0c000000 00000000 017a4200 01781000",
         Ok((false, true)),
     ),
     (
         "zBR",
-        &[
-            0x10, 0, 0, 0, 0xff, 0xff, 0xff, 0xff, 4, 0x7a, 0x42, 0x52, 0, 8, 0, 1, 0x78, 0x10, 1,
-            0x1b,
-        ],
-        &[
-            0x0e, 0, 0, 0, 0, 0, 0, 0, 1, 0x7a, 0x42, 0x52, 0, 1, 0x78, 0x10, 1, 0x1b,
-        ],
+        20,
+        "10000000 ffffffff 047a4252 00080001 7810011b",
+        "0e000000 00000000 017a4252 00017810 011b",
         Ok((false, true)),
     ),
     (
         "zPLRS",
-        &[
-            0x1c, 0, 0, 0, 0xff, 0xff, 0xff, 0xff, 4, 0x7a, 0x50, 0x4c, 0x52, 0x53, 0, 8, 0, 1,
-            0x78, 0x10, 0x0b, 0, 0x11, 0x22, 0x33, 0x44, 0x55, 0x66, 0x77, 0x88, 0x1b, 0x1b,
-        ],
-        &[
-            0x1a, 0, 0, 0, 0, 0, 0, 0, 1, 0x7a, 0x50, 0x4c, 0x52, 0x53, 0, 1, 0x78, 0x10, 0x0b, 0,
-            0x11, 0x22, 0x33, 0x44, 0x55, 0x66, 0x77, 0x88, 0x1b, 0x1b,
-        ],
+        32,
+        "1c000000 ffffffff 047a504c 52530008 00017810 0b001122 33445566 77881b1b",
+        "1a000000 00000000 017a504c 52530001 78100b00 11223344 55667788 1b1b",
         Ok((true, false)),
     ),
     (
         "BR",
-        &[
-            0x0d, 0, 0, 0, 0xff, 0xff, 0xff, 0xff, 4, 0x42, 0x52, 0, 8, 0, 1, 0x78, 0x10,
-        ],
-        &[0x0b, 0, 0, 0, 0, 0, 0, 0, 1, 0x42, 0x52, 0, 1, 0x78, 0x10],
+        17,
+        "0d000000 ffffffff 04425200 08000178 10",
+        "0b000000 00000000 01425200 017810",
         Err(Error::UnknownAugmentation),
     ),
     (
         "Bz",
-        &[
-            0x0d, 0, 0, 0, 0xff, 0xff, 0xff, 0xff, 4, 0x42, 0x7a, 0, 8, 0, 1, 0x78, 0x10,
-        ],
-        &[0x0b, 0, 0, 0, 0, 0, 0, 0, 1, 0x42, 0x7a, 0, 1, 0x78, 0x10],
+        17,
+        "0d000000 ffffffff 04427a00 08000178 10",
+        "0b000000 00000000 01427a00 017810",
         Err(Error::UnknownAugmentation),
     ),
 ];
 
+/// The marks of a CIE of `.debug_frame`, and of the one of `.eh_frame` behind it.
+fn marks_in_bytes(bytes: &[u8], length: usize) -> (Marks, Marks) {
+    marks_of_both(
+        Slice::of(bytes.get(..length).unwrap_or_default()),
+        Slice::of(bytes.get(length..).unwrap_or_default()),
+    )
+}
+
 #[test]
-fn letters_of_cies(rt: HostRuntime) {
-    for (letters, in_debug_frame, in_eh_frame, marks) in &MARKS {
-        let found = marks_of_both(Slice::of(in_debug_frame), Slice::of(in_eh_frame));
+fn letters_of_cies(rt: HostRuntime) -> Result<(), Fail> {
+    for (letters, length, in_debug_frame, in_eh_frame, marks) in &MARKS {
+        let bytes = joined(rt.alloc(), in_debug_frame, in_eh_frame)?;
+        let found = marks_in_bytes(bytes.as_slice(), *length);
         assert_eq!(rt; found, (*marks, *marks), "{letters}");
     }
+    Ok(())
 }

@@ -5,8 +5,9 @@ use cfi_parts::instruction::{CallFrameInstruction, UnwindExpression};
 use cfi_parts::pointer::BaseAddresses;
 use cfi_read_core::constants::DwCfa;
 use cfi_read_core::{DebugFrameOffset, Error, Reader, ReaderOffsetId, Register, Vendor};
+use cfi_tests_bytes::joined;
 use cfi_unwind::unwind_section::{DebugFrame, UnwindSection};
-use std::alloc::{AllocError, Global};
+use std::alloc::Global;
 use std::process::Abort;
 use std::test::Fail;
 
@@ -46,25 +47,23 @@ fn first_two_in<R: Reader<Offset = usize>>(
     first_two(&section, offset)
 }
 
-/// Addresses from 0x1000 up to 0x1020, for the CIE at 0.
-const RANGE: [u8; 20] = [
-    0, 0, 0, 0, 0, 0x10, 0, 0, 0, 0, 0, 0, 0x20, 0, 0, 0, 0, 0, 0, 0,
-];
+/// A CIE of 20 bytes, and an FDE of it for the addresses from 0x1000 up to 0x1020, without its
+/// length and its instructions.
+const WITHOUT_PROGRAM: &str = "10000000 ffffffff 04000800 017810 0c0708 9001 \
+    00000000 00000000 0010000000000000 2000000000000000";
 
-/// A CIE of 20 bytes, and an FDE whose instructions begin at 44.
-fn with_program(alloc: Global, program: &[u8]) -> Result<Vec<u8>, AllocError> {
-    let mut bytes = Vec::new(alloc);
-    bytes.extend_from_slice(&CIE)?;
-    let size = u32::try_from(program.len()).unwrap_or(u32::MAX);
-    let length = 20u32.wrapping_add(size);
-    bytes.extend_from_slice(&length.to_le_bytes())?;
-    bytes.extend_from_slice(&RANGE)?;
-    bytes.extend_from_slice(program)?;
+/// The same with instructions, which begin at 44.
+fn with_program(alloc: Global, program: &str) -> Result<Vec<u8>, Fail> {
+    let mut bytes = joined(alloc, WITHOUT_PROGRAM, program)?;
+    let length = u8::try_from(bytes.len().saturating_sub(24)).unwrap_or(0);
+    if let Some(first) = bytes.get_mut(20) {
+        *first = length;
+    }
     Ok(bytes)
 }
 
 /// The first two instructions of that FDE.
-fn of_program(alloc: Global, program: &[u8], vendor: Vendor) -> Result<FirstTwo, Fail> {
+fn of_program(alloc: Global, program: &str, vendor: Vendor) -> Result<FirstTwo, Fail> {
     let bytes = with_program(alloc, program)?;
     Ok(first_two_in(Slice::of(bytes.as_slice()), vendor, 20)?)
 }
@@ -72,7 +71,7 @@ fn of_program(alloc: Global, program: &[u8], vendor: Vendor) -> Result<FirstTwo,
 /// Checks the first two instructions of an FDE with this program.
 fn check(
     rt: &(impl Abort + AllocGlobal),
-    program: &[u8],
+    program: &str,
     vendor: Vendor,
     read: &FirstTwo,
 ) -> Result<(), Fail> {
@@ -82,59 +81,56 @@ fn check(
 }
 
 /// Instructions, one for each FDE.
-const VECTORS: [(&[u8], Instruction); 15] = [
-    (&[0x6a], CallFrameInstruction::AdvanceLoc { delta: 42 }),
+const VECTORS: [(&str, Instruction); 15] = [
+    ("6a", CallFrameInstruction::AdvanceLoc { delta: 42 }),
     (
-        &[0x83, 0xcd, 0x0f],
+        "83cd0f",
         CallFrameInstruction::Offset {
             register: Register(3),
             factored_offset: 1997,
         },
     ),
     (
-        &[0xc3],
+        "c3",
         CallFrameInstruction::Restore {
             register: Register(3),
         },
     ),
-    (&[2, 8], CallFrameInstruction::AdvanceLoc { delta: 8 }),
+    ("0208", CallFrameInstruction::AdvanceLoc { delta: 8 }),
+    ("03f401", CallFrameInstruction::AdvanceLoc { delta: 500 }),
     (
-        &[3, 0xf4, 1],
-        CallFrameInstruction::AdvanceLoc { delta: 500 },
-    ),
-    (
-        &[4, 0, 0, 0x10, 0],
+        "04000010 00",
         CallFrameInstruction::AdvanceLoc { delta: 1048576 },
     ),
     (
-        &[9, 7, 8],
+        "090708",
         CallFrameInstruction::Register {
             dest_register: Register(7),
             src_register: Register(8),
         },
     ),
     (
-        &[0x12, 2, 0xf1, 0xb1, 0x7f],
+        "1202f1b1 7f",
         CallFrameInstruction::DefCfaSf {
             register: Register(2),
             factored_offset: -9999,
         },
     ),
     (
-        &[0x13, 0x85, 0x7f],
+        "13857f",
         CallFrameInstruction::DefCfaOffsetSf {
             factored_offset: -123,
         },
     ),
     (
-        &[0x11, 7, 0x5f],
+        "11075f",
         CallFrameInstruction::OffsetExtendedSf {
             register: Register(7),
             factored_offset: -33,
         },
     ),
     (
-        &[0x0f, 0x0a, 0x0a, 9, 8, 7, 6, 5, 4, 3, 2, 1],
+        "0f0a0a09 08070605 04030201",
         CallFrameInstruction::DefCfaExpression {
             expression: UnwindExpression {
                 offset: 46,
@@ -143,7 +139,7 @@ const VECTORS: [(&[u8], Instruction); 15] = [
         },
     ),
     (
-        &[0x16, 0x32, 6, 2, 2, 1, 1, 5, 5],
+        "16320602 02010105 05",
         CallFrameInstruction::ValExpression {
             register: Register(50),
             expression: UnwindExpression {
@@ -152,16 +148,16 @@ const VECTORS: [(&[u8], Instruction); 15] = [
             },
         },
     ),
-    (&[0x2e, 0x10], CallFrameInstruction::ArgsSize { size: 16 }),
+    ("2e10", CallFrameInstruction::ArgsSize { size: 16 }),
     (
-        &[0x2f, 6, 2],
+        "2f0602",
         CallFrameInstruction::OffsetExtendedNegative {
             register: Register(6),
             factored_offset: 2,
         },
     ),
     (
-        &[1, 8, 7, 6, 5, 4, 3, 2, 1],
+        "01080706 05040302 01",
         CallFrameInstruction::SetLoc {
             address: 0x0102030405060708,
         },
@@ -169,9 +165,9 @@ const VECTORS: [(&[u8], Instruction); 15] = [
 ];
 
 /// Instructions that are errors, but for one vendor.
-const PROGRAMS: [(&[u8], Vendor, FirstTwo); 6] = [
+const PROGRAMS: [(&str, Vendor, FirstTwo); 6] = [
     (
-        &[0x3f, 0],
+        "3f00",
         Vendor::Default,
         (
             Err(Error::UnknownCallFrameInstruction(DwCfa(0x3f))),
@@ -179,17 +175,17 @@ const PROGRAMS: [(&[u8], Vendor, FirstTwo); 6] = [
         ),
     ),
     (
-        &[2],
+        "02",
         Vendor::Default,
         (Err(Error::UnexpectedEof(ReaderOffsetId(45))), Ok(None)),
     ),
     (
-        &[0x2f, 6],
+        "2f06",
         Vendor::Default,
         (Err(Error::UnexpectedEof(ReaderOffsetId(46))), Ok(None)),
     ),
     (
-        &[0x2d, 0],
+        "2d00",
         Vendor::Default,
         (
             Err(Error::UnknownCallFrameInstruction(DwCfa(0x2d))),
@@ -197,12 +193,12 @@ const PROGRAMS: [(&[u8], Vendor, FirstTwo); 6] = [
         ),
     ),
     (
-        &[7, 0x80, 0x80, 4, 0],
+        "07808004 00",
         Vendor::Default,
         (Err(Error::UnsupportedRegister(65536)), Ok(None)),
     ),
     (
-        &[0x2d, 0],
+        "2d00",
         Vendor::AArch64,
         (
             Ok(Some(CallFrameInstruction::NegateRaState)),

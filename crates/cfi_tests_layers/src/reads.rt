@@ -5,6 +5,7 @@ use cfi_read_core::{
     BigEndian, EndianSlice, Error, NarrowSlice, Reader, ReaderAddress, ReaderOffsetId, Register,
     RunTimeEndian,
 };
+use cfi_tests_bytes::bytes_of;
 use std::process::Abort;
 use std::test::Fail;
 
@@ -50,56 +51,51 @@ fn check_signed<A: Reader, B: Reader>(
 
 /// The examples of DWARF 5 section 7.6, padding, and the greatest number; the value of each, and
 /// the place after it.
-const UNSIGNED: [(&[u8], (Result<u64, Error>, u64)); 9] = [
-    (&[2], (Ok(2), 1)),
-    (&[127], (Ok(127), 1)),
-    (&[0x80, 1], (Ok(128), 2)),
-    (&[0xb9, 0x64], (Ok(12857), 2)),
-    (&[0x90, 0x80, 0x00], (Ok(16), 3)),
+const UNSIGNED: [(&str, (Result<u64, Error>, u64)); 9] = [
+    ("02", (Ok(2), 1)),
+    ("7f", (Ok(127), 1)),
+    ("8001", (Ok(128), 2)),
+    ("b964", (Ok(12857), 2)),
+    ("908000", (Ok(16), 3)),
+    ("ffffffff ffffffff ff01", (Ok(u64::MAX), 10)),
     (
-        &[0xff, 0xff, 0xff, 0xff, 0xff, 0xff, 0xff, 0xff, 0xff, 1],
-        (Ok(u64::MAX), 10),
-    ),
-    (
-        &[0x80, 0x80, 0x80, 0x80, 0x80, 0x80, 0x80, 0x80, 0x80, 2],
+        "80808080 80808080 8002",
         (Err(Error::BadUnsignedLeb128), 10),
     ),
-    (
-        &[0x80, 0x80],
-        (Err(Error::UnexpectedEof(ReaderOffsetId(2))), 2),
-    ),
-    (&[], (Err(Error::UnexpectedEof(ReaderOffsetId(0))), 0)),
+    ("8080", (Err(Error::UnexpectedEof(ReaderOffsetId(2))), 2)),
+    ("", (Err(Error::UnexpectedEof(ReaderOffsetId(0))), 0)),
 ];
 
 /// The same for signed ones.
-const SIGNED: [(&[u8], (Result<i64, Error>, u64)); 10] = [
-    (&[2], (Ok(2), 1)),
-    (&[0x7e], (Ok(-2), 1)),
-    (&[0xff, 0], (Ok(127), 2)),
-    (&[0x81, 0x7f], (Ok(-127), 2)),
-    (&[0x80, 1], (Ok(128), 2)),
-    (&[0x80, 0x7f], (Ok(-128), 2)),
-    (&[0x85, 0x80, 0x80, 0x00], (Ok(5), 4)),
-    (
-        &[0x80, 0x80, 0x80, 0x80, 0x80, 0x80, 0x80, 0x80, 0x80, 0x7f],
-        (Ok(i64::MIN), 10),
-    ),
-    (
-        &[0x80, 0x80, 0x80, 0x80, 0x80, 0x80, 0x80, 0x80, 0x80, 1],
-        (Err(Error::BadSignedLeb128), 10),
-    ),
-    (&[0xff], (Err(Error::UnexpectedEof(ReaderOffsetId(1))), 1)),
+const SIGNED: [(&str, (Result<i64, Error>, u64)); 10] = [
+    ("02", (Ok(2), 1)),
+    ("7e", (Ok(-2), 1)),
+    ("ff00", (Ok(127), 2)),
+    ("817f", (Ok(-127), 2)),
+    ("8001", (Ok(128), 2)),
+    ("807f", (Ok(-128), 2)),
+    ("85808000", (Ok(5), 4)),
+    ("80808080 80808080 807f", (Ok(i64::MIN), 10)),
+    ("80808080 80808080 8001", (Err(Error::BadSignedLeb128), 10)),
+    ("ff", (Err(Error::UnexpectedEof(ReaderOffsetId(1))), 1)),
 ];
 
 #[test]
-fn leb128(rt: HostRuntime) -> Result<(), Fail> {
-    for (bytes, read) in &UNSIGNED {
-        let narrow = Narrow::new(bytes, RunTimeEndian::Big)?;
-        check_unsigned(&rt, Slice::of(bytes), narrow, *read);
+fn unsigned_leb128(rt: HostRuntime) -> Result<(), Fail> {
+    for (digits, read) in &UNSIGNED {
+        let bytes = bytes_of(rt.alloc(), digits)?;
+        let narrow = Narrow::new(bytes.as_slice(), RunTimeEndian::Big)?;
+        check_unsigned(&rt, Slice::of(bytes.as_slice()), narrow, *read);
     }
-    for (bytes, read) in &SIGNED {
-        let narrow = Narrow::new(bytes, RunTimeEndian::Big)?;
-        check_signed(&rt, Slice::of(bytes), narrow, *read);
+    Ok(())
+}
+
+#[test]
+fn signed_leb128(rt: HostRuntime) -> Result<(), Fail> {
+    for (digits, read) in &SIGNED {
+        let bytes = bytes_of(rt.alloc(), digits)?;
+        let narrow = Narrow::new(bytes.as_slice(), RunTimeEndian::Big)?;
+        check_signed(&rt, Slice::of(bytes.as_slice()), narrow, *read);
     }
     Ok(())
 }

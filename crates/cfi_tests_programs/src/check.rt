@@ -35,14 +35,17 @@ table of one row | CIE FDE1 | HEADER 01000000 ROW1 | faithful 1
 FDE of no addresses | CIE 10000000 1c000000 e0efffff 00000000 00 000000 FDE2 | HEADER 02000000 ROW1 ROW2 | faithful 2
 FDE that wraps | CIE 10000000 1c000000 e0efffff ffffffff 00 000000 FDE2 | HEADER 02000000 ROW1 ROW2 | faithful 2
 rows behind the count | CIE FDE1 FDE2 | HEADER 02000000 ROW1 ROW2 ROW3 | faithful 2
+what looks like an FDE within one | CIE FDE1 FDE2 24000000 44000000 d8efffff 20000000 00 000000 10000000 58000000 c4efffff 20000000 00 000000 | HEADER 03000000 ROW1 ROW2 ROW3 | faithful 3
 ";
 
 const UNFAITHFUL: &str = "
 two rows swapped | CIE FDE1 FDE2 FDE3 | HEADER 03000000 ROW2 ROW1 ROW3 | row 1: starts at 0x1000, the row before it at 0x1010
 row doubled | CIE FDE1 FDE2 FDE3 | HEADER 03000000 ROW1 ROW1 ROW3 | row 1: starts at 0x1000, the row before it at 0x1000
+last row below the one before it | CIE FDE1 FDE2 FDE3 | HEADER 03000000 ROW1 ROW2 08f1ffff 40010000 | row 2: starts at 0x1008, the row before it at 0x1010
 row missing | CIE FDE1 FDE2 FDE3 | HEADER 02000000 ROW1 ROW3 | FDE 0x2c: no row starts at 0x1010 and leads to it
 start one off | CIE FDE1 FDE2 FDE3 | HEADER 03000000 ROW1 11f1ffff 2c010000 ROW3 | FDE 0x2c: no row starts at 0x1010 and leads to it
 target one off | CIE FDE1 FDE2 FDE3 | HEADER 03000000 ROW1 10f1ffff 2d010000 ROW3 | FDE 0x2c: no row starts at 0x1010 and leads to it
+target of another FDE | CIE FDE1 FDE2 FDE3 | HEADER 03000000 ROW1 10f1ffff 18010000 ROW3 | FDE 0x2c: no row starts at 0x1010 and leads to it
 target in an entry, at what looks like the FDE | CIE FDE1 FDE2 24000000 44000000 d8efffff 20000000 00 000000 10000000 58000000 c4efffff 20000000 00 000000 | HEADER 03000000 ROW1 ROW2 20f1ffff 54010000 | FDE 0x40: no row starts at 0x1020 and leads to it
 FDE that overlaps | CIE 10000000 1c000000 e0efffff 11000000 00 000000 FDE2 FDE3 | HEADER 03000000 ROW1 ROW2 ROW3 | FDE 0x18: ends at 0x1011, the next row starts at 0x1010
 count too high | CIE FDE1 FDE2 FDE3 | HEADER 04000000 ROW1 ROW2 ROW3 40f1ffff 40010000 | table: 4 rows for 3 FDEs

@@ -257,8 +257,21 @@ fn prints_rows(
     functions: &FunctionNames<'_>,
     text: &str,
 ) -> Result<(), Fail> {
+    let words = debug_frame();
+    prints_rows_of(rt, &words, style, digits, addresses, functions, text)
+}
+
+fn prints_rows_of(
+    rt: &(impl Abort + AllocGlobal),
+    words: &SectionWords,
+    style: Style,
+    digits: &str,
+    addresses: Option<&[u64]>,
+    functions: &FunctionNames<'_>,
+    text: &str,
+) -> Result<(), Fail> {
     let bytes = bytes_of(rt.alloc(), digits)?;
-    let source = debug_frame().source(bytes.as_slice(), &[]);
+    let source = words.source(bytes.as_slice(), &[]);
     let Style { names, format } = style;
     let asked = AskedRows {
         addresses,
@@ -276,6 +289,134 @@ fn rows_of_fdes(rt: HostRuntime) -> Result<(), Fail> {
     let functions = FunctionNames::none(rt.alloc());
     for (addresses, text) in &ADDRESSES {
         prints_rows(&rt, PLAIN, THREE_ROWS, *addresses, &functions, text)?;
+    }
+    Ok(())
+}
+
+/// Sections of AArch64, and the rows of their FDEs one by one.
+const WALKS: [(&str, &str); 12] = [
+    // a factor of 2^63 by which an FDE advances twice, so that it moves to the same address
+    (
+        "19000000 ffffffff 04000800 80808080808080808001 7810 0c0708 9001 \
+         15000000 00000000 0010000000000000 2000000000000000 42",
+        "fde 0x1000 0x1020
+0x1000 0x1000 cfa=r7+8 args=0 r16=offset(-8)
+0x1000 0x1020 cfa=r7+8 args=0 r16=offset(-8)
+",
+    ),
+    // a location that is set to itself
+    (
+        "10000000 ffffffff 04000800 017810 0c0708 9001 \
+         1d000000 00000000 0010000000000000 2000000000000000 01 0010000000000000",
+        "fde 0x1000 0x1020
+0x1000 0x1000 cfa=r7+8 args=0 r16=offset(-8)
+0x1000 0x1020 cfa=r7+8 args=0 r16=offset(-8)
+",
+    ),
+    // a remembered row
+    (
+        "10000000 ffffffff 04000800 017810 0c0708 9001 \
+         19000000 00000000 0010000000000000 2000000000000000 0a 0e20 42 0b",
+        "fde 0x1000 0x1020
+0x1000 0x1002 cfa=r7+32 args=0 r16=offset(-8)
+0x1002 0x1020 cfa=r7+8 args=0 r16=offset(-8)
+",
+    ),
+    // a CIE whose instructions advance, and an FDE without instructions
+    (
+        "11000000 ffffffff 04000800 017810 0c0708 9001 41 \
+         14000000 00000000 0010000000000000 2000000000000000",
+        "fde 0x1000 0x1020
+0x1000 0x1020 cfa=r7+8 args=0 r16=offset(-8)
+",
+    ),
+    // the CFA is an expression when its register is set
+    (
+        "10000000 ffffffff 04000800 017810 0c0708 9001 \
+         1b000000 00000000 0010000000000000 2000000000000000 8602 0f0130 0d06",
+        "fde 0x1000 0x1020
+refused CfiInstructionInInvalidContext: a call frame instruction is not valid in its context
+0x1000 0x1020 cfa=expr(DW_OP_lit0) args=0 r6=offset(-16) r16=offset(-8)
+",
+    ),
+    // a state is restored though none is remembered, and then the CFA's offset is set
+    (
+        "10000000 ffffffff 04000800 017810 0c0708 9001 \
+         17000000 00000000 0010000000000000 2000000000000000 0b 0e10",
+        "fde 0x1000 0x1020
+refused PopWithEmptyStack: restore_state without remember_state
+0x1000 0x1020 cfa=r7+16 args=0 r16=offset(-8)
+",
+    ),
+    // the CIE remembers its row before it has a rule for register 16, which the FDE restores
+    (
+        "11000000 ffffffff 04000800 017810 0c0708 0a 9001 \
+         17000000 00000000 0010000000000000 2000000000000000 0b 41 d0",
+        "fde 0x1000 0x1020
+0x1000 0x1001 cfa=r7+8 args=0
+0x1001 0x1020 cfa=r7+8 args=0 r16=offset(-8)
+",
+    ),
+    // signed; unsigned within a state; as it was remembered
+    (
+        "0b000000 ffffffff 04000800 017810 \
+         1a000000 00000000 0010000000000000 2000000000000000 2d 41 0a 2d 41 0b",
+        "fde 0x1000 0x1020
+0x1000 0x1001 cfa=r0+0 args=0 r34=constant(1)
+0x1001 0x1002 cfa=r0+0 args=0 r34=constant(0)
+0x1002 0x1020 cfa=r0+0 args=0 r34=constant(1)
+",
+    ),
+    // two toggles; three more within a state; none of those, and one behind it
+    (
+        "0b000000 ffffffff 04000800 017810 \
+         1e000000 00000000 0010000000000000 2000000000000000 2d 2d 41 0a 2d 2d 2d 42 0b 2d",
+        "fde 0x1000 0x1020
+0x1000 0x1001 cfa=r0+0 args=0 r34=constant(0)
+0x1001 0x1003 cfa=r0+0 args=0 r34=constant(1)
+0x1003 0x1020 cfa=r0+0 args=0 r34=constant(1)
+",
+    ),
+    // one toggle of the CIE and one of the FDE, which then restores the CIE's rule
+    (
+        "0c000000 ffffffff 04000800 017810 2d \
+         17000000 00000000 0010000000000000 2000000000000000 2d 41 e2",
+        "fde 0x1000 0x1020
+0x1000 0x1001 cfa=r0+0 args=0 r34=constant(0)
+0x1001 0x1020 cfa=r0+0 args=0 r34=constant(1)
+",
+    ),
+    // the size of the arguments is restored with the row that has it
+    (
+        "10000000 ffffffff 04000800 017810 0c0708 9001 \
+         1b000000 00000000 0010000000000000 2000000000000000 2e10 0a 2e20 41 0b",
+        "fde 0x1000 0x1020
+0x1000 0x1001 cfa=r7+8 args=32 r16=offset(-8)
+0x1001 0x1020 cfa=r7+8 args=16 r16=offset(-8)
+",
+    ),
+    // a state within a state; the moves within both remain
+    (
+        "10000000 ffffffff 04000800 017810 0c0708 9001 \
+         1f000000 00000000 0010000000000000 2000000000000000 0a 0e20 0a 0e30 41 0b 42 0b 43",
+        "fde 0x1000 0x1020
+0x1000 0x1001 cfa=r7+48 args=0 r16=offset(-8)
+0x1001 0x1003 cfa=r7+32 args=0 r16=offset(-8)
+0x1003 0x1006 cfa=r7+8 args=0 r16=offset(-8)
+0x1006 0x1020 cfa=r7+8 args=0 r16=offset(-8)
+",
+    ),
+];
+
+#[test]
+fn rows_one_by_one(rt: HostRuntime) -> Result<(), Fail> {
+    let functions = FunctionNames::none(rt.alloc());
+    let of_aarch64 = SectionWords {
+        vendor: Vendor::AArch64,
+        ..debug_frame()
+    };
+    for (digits, text) in &WALKS {
+        prints_rows_of(&rt, &of_aarch64, PLAIN, digits, None, &functions, text)?;
     }
     Ok(())
 }

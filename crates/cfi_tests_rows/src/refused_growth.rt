@@ -191,16 +191,31 @@ const TELLING: [u8; 56] = [
     0, 0x0a, 0x0b, 0x14, 0xff, 0xff, 3, 0,
 ];
 
+fn set(bytes: &mut [u8], at: usize, told: u8) {
+    if let Some(byte) = bytes.get_mut(at) {
+        *byte = told;
+    }
+}
+
+fn telling(of_rules: u8, of_rows: u8) -> [u8; 56] {
+    let mut bytes = TELLING;
+    set(&mut bytes, 48, of_rows);
+    set(&mut bytes, 55, of_rules);
+    bytes
+}
+
 /// Tells the lists of a context which of their growths fails in the next unwind.
 fn tell<S: UnwindContextStorage<usize>>(
     context: &mut UnwindContext<usize, S>,
     of_rules: u8,
     of_rows: u8,
 ) -> Result<Shown, Error> {
-    let mut bytes = TELLING;
-    bytes[48] = of_rows;
-    bytes[55] = of_rules;
-    row_in(&bytes, Vendor::AArch64, context, 0x1000)
+    row_in(
+        &telling(of_rules, of_rows),
+        Vendor::AArch64,
+        context,
+        0x1000,
+    )
 }
 
 /// Sections with remembered states, in a CIE, in an FDE and in both, and one whose CIE moves; the

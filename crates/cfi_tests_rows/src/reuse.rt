@@ -17,15 +17,20 @@ pub(crate) const CUT: [u8; 46] = [
     0, 0, 0, 0, 0, 0, 0, 0x10, 0, 0, 0, 0, 0, 0, 0x20, 0, 0, 0, 0, 0, 0, 0, 0x41, 2,
 ];
 
+/// A section with the opcodes of a vendor.
+pub(crate) fn section_of<R: Reader>(reader: R, vendor: Vendor) -> DebugFrame<R> {
+    let mut section = DebugFrame::from(reader);
+    section.set_vendor(vendor);
+    section
+}
+
 fn row_of<R: Reader<Offset = usize>, S: UnwindContextStorage<usize>>(
     reader: R,
     vendor: Vendor,
     context: &mut UnwindContext<usize, S>,
     address: u64,
 ) -> Result<Shown, Error> {
-    let mut section = DebugFrame::from(reader);
-    section.set_vendor(vendor);
-    row_of_section(&section, context, address)
+    row_of_section(&section_of(reader, vendor), context, address)
 }
 
 /// The row of a section for an address.

@@ -94,17 +94,20 @@ pub(crate) fn row_of_section<R: Reader, U: UnwindSection<R>, S: UnwindContextSto
 }
 
 /// A row, the size of its arguments, and the rule of register 34.
-pub(crate) type WholeIn<T> = (ShownIn<T>, u64, Option<RegisterRule<T>>);
+pub(crate) type Whole = (Shown, u64, Option<RegisterRule<usize>>);
 
-pub(crate) type Whole = WholeIn<usize>;
+fn whole<A: ArrayLike<Item = (Register, RegisterRule<usize>)>>(
+    row: &UnwindTableRow<usize, A>,
+) -> Whole {
+    (shown(row), row.saved_args_size(), rule_of(row, 34))
+}
 
-fn whole_if_found<T: ReaderOffset, A: ArrayLike<Item = (Register, RegisterRule<T>)>>(
-    found: Result<Option<&UnwindTableRow<T, A>>, Error>,
-) -> Result<Option<WholeIn<T>>, Error> {
-    match found {
-        Ok(Some(row)) => Ok(Some((shown(row), row.saved_args_size(), rule_of(row, 34)))),
-        Ok(None) => Ok(None),
-        Err(refusal) => Err(refusal),
+fn whole_if_any<A: ArrayLike<Item = (Register, RegisterRule<usize>)>>(
+    row: Option<&UnwindTableRow<usize, A>>,
+) -> Option<Whole> {
+    match row {
+        Some(row) => Some(whole(row)),
+        None => None,
     }
 }
 
@@ -112,7 +115,10 @@ fn whole_if_found<T: ReaderOffset, A: ArrayLike<Item = (Register, RegisterRule<T
 pub(crate) fn next_whole<R: Reader<Offset = usize>, S: UnwindContextStorage<usize>>(
     table: &mut UnwindTable<'_, '_, R, S>,
 ) -> Result<Option<Whole>, Error> {
-    whole_if_found(table.next_row())
+    match table.next_row() {
+        Ok(row) => Ok(whole_if_any(row)),
+        Err(refusal) => Err(refusal),
+    }
 }
 
 /// The CFA r7+8.

@@ -204,69 +204,57 @@ fn a_pipe_in_both_orders(rt: HostRuntime) -> Result<(), Fail> {
     check_piped(&rt, BIG, BIG_PIPE)
 }
 
-/// A case, the bytes that are changed, and the error.
-type Changed = (&'static str, &'static [(usize, u8)], PerfError);
+/// A case, the byte that is changed, at its offset, and the error.
+type Changed = (&'static str, (usize, u8), PerfError);
 
 const ERRORS: [Changed; 15] = [
-    ("no profile", &[(7, 0x31)], PerfError::NotPerf),
-    ("the header of a pipe", &[(8, 16)], PerfError::NoEvents),
-    (
-        "a header of 72 bytes",
-        &[(8, 72)],
-        PerfError::HeaderSize(72),
-    ),
-    ("samples in other files", &[(75, 1)], PerfError::Directory),
+    ("no profile", (7, 0x31), PerfError::NotPerf),
+    ("the header of a pipe", (8, 16), PerfError::NoEvents),
+    ("a header of 72 bytes", (8, 72), PerfError::HeaderSize(72)),
+    ("samples in other files", (75, 1), PerfError::Directory),
     (
         "events of 111 bytes",
-        &[(16, 111)],
+        (16, 111),
         PerfError::AttributeSize(111),
     ),
     (
         "events past the end",
-        &[(27, 1)],
+        (27, 1),
         PerfError::AttributesOutOfBounds,
     ),
-    ("no bytes of events", &[(32, 0)], PerfError::NoEvents),
+    ("no bytes of events", (32, 0), PerfError::NoEvents),
     (
         "a second event, which is the first record",
-        &[(32, 224)],
+        (32, 224),
         PerfError::MixedEvents,
     ),
-    (
-        "records past the end",
-        &[(43, 1)],
-        PerfError::DataOutOfBounds,
-    ),
+    ("records past the end", (43, 1), PerfError::DataOutOfBounds),
     (
         "the architecture past the end",
-        &[(BEHIND + 19, 1)],
+        (BEHIND + 19, 1),
         PerfError::FeatureOutOfBounds,
     ),
     (
         "a record of 7 bytes",
-        &[(RECORDS + 6, 7)],
+        (RECORDS + 6, 7),
         PerfError::RecordSize(7),
     ),
     (
         "a record past the end of all",
-        &[(RECORDS + 7, 4)],
+        (RECORDS + 7, 4),
         PerfError::RecordCut,
     ),
     (
         "a stack past the end of its sample",
-        &[(SAMPLE + 88, 17)],
+        (SAMPLE + 88, 17),
         PerfError::RecordCut,
     ),
     (
         "a name without its zero",
-        &[(RECORDS + 6, 33)],
+        (RECORDS + 6, 33),
         PerfError::RecordCut,
     ),
-    (
-        "compressed records",
-        &[(RECORDS, 81)],
-        PerfError::Compressed,
-    ),
+    ("compressed records", (RECORDS, 81), PerfError::Compressed),
 ];
 
 /// The first error of a profile, its architecture's before its records'.
@@ -277,8 +265,8 @@ fn error_in(bytes: &[u8]) -> Result<[Option<Line>; 4], PerfError> {
 
 #[test]
 fn each_error(rt: HostRuntime) -> Result<(), Fail> {
-    for (case, changes, error) in &ERRORS {
-        let bytes = changed(rt.alloc(), LITTLE, changes)?;
+    for (case, change, error) in &ERRORS {
+        let bytes = changed(rt.alloc(), LITTLE, &[*change])?;
         assert_eq!(rt; (case, error_in(bytes.as_slice())), (case, Err(*error)));
     }
     Ok(())

@@ -233,6 +233,8 @@ impl<'a> Opener for OneFile<'a> {
 
     ghost may_open = { λ _ _ _. ⊤ };
 
+    ghost has_said = { λ _ _. ⊤ };
+
     fn open(&self, name: &[u8]) -> Option<&'a [u8]> {
         if name == self.name {
             Some(self.bytes)

@@ -1,8 +1,8 @@
 //! Runs of the programs of CALLING.md, on a small section whose rows were worked out by hand.
-use crate::all_rows::{count_all_rows, count_rows, last_end};
-use crate::instructions::expression_bytes;
-use crate::one_row::{cfa_of, end_of_row, row_of_call, start_of_row};
-use crate::own_storage::end_in_small;
+use cfi_guide::all_rows::{count_all_rows, count_rows, last_end};
+use cfi_guide::instructions::expression_bytes;
+use cfi_guide::one_row::{cfa_of, end_of_row, row_of_call, start_of_row};
+use cfi_guide::own_storage::end_in_small;
 use gimli_cfi::{
     BaseAddresses, EhFrame, EhFrameHdr, Error, LittleEndian, Reader, Register, UnwindContext,
 };

@@ -1,5 +1,5 @@
 //! Tables of many FDEs: with steps in pages, and with steps too far apart for pages.
-use crate::tests::by_hand::table_of;
+use crate::by_hand::table_of;
 use cfi_compiled::{CompiledRow, CompiledTable};
 use cfi_tests_bytes::bytes_of;
 use gimli_cfi::{CfaRule, Error, Register};
