@@ -1,0 +1,233 @@
+#!/usr/bin/env python3
+"""Compares what `cfi unwind --raw` and `perf script` read of changed profiles: the first lines of samples, and what was lost.
+
+beside_perf.py PROGRAM [--inputs N] [--seed S] [--show N] [--seconds S] [FILE..]
+
+Each input is a profile with bytes changed, mostly in its header, the attributes of its events and its records; it follows
+from its number. The profiles are those of crates/cfi/data, and those that are named: short ones of `perf record`, of fewer
+than 64 kB. Compared are thread, process, time, period and event of each sample, in their order, and how many records and
+samples were lost; frames are compared by tools/compare_with_perf. A difference has a rule by which it is known, or is one
+that isn't: that is printed, and its file kept in fuzz/out/perf. Prints how often each rule was met; the status is 1 if there
+was a difference without a rule. Needs perf 6.1.
+"""
+import argparse
+import collections
+import os
+import random
+import re
+import struct
+import sys
+from pathlib import Path
+from unicodedata import category
+
+from beside_readelf import TOP, changed, output_of, processor_time
+
+KEPT = TOP / "fuzz" / "out" / "perf"
+DATA = TOP / "crates" / "cfi" / "data"
+FIELDS = "comm,pid,tid,time,period,event,ip"
+# the thread's name, the process, the thread, the time, the period and the event
+HEAD = re.compile(r"^ *(\S.*?|) +(-?\d+)/(-?\d+) +(?:\[\d+\] +)?(\d+\.\d{6}): +(\d+) (?:(\S.*?|)): ?$")
+LOST = re.compile(r"PERF_RECORD_LOST: id:\d+: lost:(\d+)|PERF_RECORD_LOST_SAMPLES: id:\d+: lost samples :(\d+)")
+MODIFIERS = re.compile(":[uknHGpPhDIe]*$")
+Head = collections.namedtuple("Head", "comm pid tid time period event")
+
+# ---- changed profiles
+
+
+def parts_of(data):
+    """The header, the attributes, and each record: from where to where."""
+    order = "<" if data[:8] == b"PERFILE2" else ">"
+    size, = struct.unpack_from(order + "Q", data, 8)
+    if size == 16:
+        return [(0, 16), *records(data, order, 16, len(data))]
+    attributes, length, start, count = struct.unpack_from(order + "4Q", data, 24)
+    found = [(0, min(size, len(data))), (attributes, attributes + length), (start + count, len(data))]
+    return found + records(data, order, start, min(start + count, len(data)))
+
+
+def records(data, order, at, end):
+    found = []
+    while at + 8 <= end:
+        kind, misc, size = struct.unpack_from(order + "IHH", data, at)
+        if size < 8:
+            break
+        # the header and the first fields more often than what follows
+        found += [(at, at + 8), (at, min(at + 48, at + size)), (at, at + size)]
+        at += size
+    return found
+
+
+# ---- what the programs print
+
+
+class Printed:
+    """Heads, what was lost, what is said of the profile, and how many samples are of guests."""
+
+    def __init__(self):
+        self.heads, self.lost, self.said, self.guests = [], [0, 0], None, 0
+        # of each thread that begins, its process and number, and those of its parent
+        self.forks, self.are_lacking, self.has_updates = [], False, False
+
+
+def printed_by_cfi(text, errors):
+    found = Printed()
+    for line in text.split("\n"):
+        head = HEAD.match(line)
+        if head and not line.startswith("\t"):
+            found.heads.append(Head(*(field or "" for field in head.groups())))
+        elif line.startswith("refused "):
+            found.said = line.split()[1].rstrip(":")
+        elif line and line[0] not in "#\t":
+            found.said = line
+    for k, what in enumerate(("records", "samples")):
+        lost = re.search(rf"lost (\d+) {what}", errors)
+        found.lost[k] = int(lost[1]) if lost else 0
+    return found
+
+
+def printed_by_perf(text, errors):
+    found = Printed()
+    for line in text.split("\n"):
+        if line[:1] in (".", "\t"):
+            continue
+        if lost := LOST.search(line):
+            found.lost[0] += int(lost[1] or 0)
+            found.lost[1] += int(lost[2] or 0)
+        elif fork := re.search(r"PERF_RECORD_FORK\((-?\d+):(-?\d+)\):\((-?\d+):(-?\d+)\)", line):
+            found.forks.append(fork.groups())
+        elif head := HEAD.match(line):
+            found.heads.append(Head(*(field or "" for field in head.groups())))
+        elif "PERF_RECORD_EVENT_UPDATE" in line:
+            found.has_updates = True
+        elif mode := re.search(r"PERF_RECORD_SAMPLE\(IP, 0x([0-9a-f]+)\)", line):
+            found.guests += int(mode[1], 16) & 7 not in (0, 1, 2)
+            found.are_lacking |= ": -1/-1: " in line
+    complaints = [line for line in errors.split("\n") if line.strip() and not re.match("Warning:|Processed |Check |$", line)]
+    found.said = complaints[0] if complaints else None
+    return found
+
+
+# ---- the comparison
+
+
+def printable(name):
+    """A name as cfi prints it, each byte a character."""
+    text = name.encode("latin-1").decode(errors="backslashreplace")
+    text = "".join("".join(map("\\x{:02x}".format, c.encode())) if category(c) == "Cc" else c for c in text)
+    return text.encode().decode("latin-1")
+
+
+def complaint_of(said):
+    return re.sub(r"0x[0-9a-f]+|\d+|'[^']*'", "N", said.split(": ")[-1] if ": " in said else said)[:60]
+
+
+def rule_of(ours, theirs):
+    """Why all that is read differs: what one of the programs says of the profile."""
+    if ours.said:
+        return f"cfi refuses {ours.said}"
+    if theirs.said:
+        return f"perf says: {complaint_of(theirs.said)}"
+    if theirs.guests:
+        return "perf script prints no sample of a guest or a hypervisor"
+    return "perf takes -1 for a field that samples don't have" if theirs.are_lacking else None
+
+
+def head_rule(mine, other, theirs):
+    """Why one field of two heads differs, or None."""
+    if other._replace(event=mine.event) == mine and theirs.has_updates:
+        return "head: perf names events by PERF_RECORD_EVENT_UPDATE, which cfi doesn't read"
+    forks = any(fork[2] != fork[3] for fork in theirs.forks)
+    if other._replace(comm=mine.comm) == mine and other.comm == f":{other.tid}" and forks:
+        return "head: perf has no name of a thread that another process than its parent's began"
+    rules = {
+        "a name is printed escaped": lambda head: head._replace(comm=printable(head.comm)),
+        "perf puts modifiers behind a name that isn't stored": lambda head: head._replace(event=MODIFIERS.sub("", head.event)),
+        "an event without a name is unknown": lambda head: head._replace(event=re.sub("^unknown.*", "unknown", head.event)),
+        "perf prints the numbers of processes and threads with a sign": unsigned,
+    }
+    for rule, change in rules.items():
+        other = change(other)
+        if mine == other:
+            return f"head: {rule}"
+    return None
+
+
+def unsigned(head):
+    numbers = {name: str(int(getattr(head, name)) % (1 << 32)) for name in ("pid", "tid")}
+    return head._replace(**numbers, comm=re.sub(r"^:-\d+$", lambda found: f":{int(found[0][1:]) % (1 << 32)}", head.comm))
+
+
+def compare(program, data, path, counts):
+    path.write_bytes(data)
+    status, text, errors = output_of([program, "unwind", "--raw", path])
+    if status not in (0, 1, 2):
+        yield None, f"cfi: status {status}: {errors[-300:]}"
+        return
+    ours = printed_by_cfi(text, errors)
+    status, text, errors = output_of(["perf", "script", "-D", "--no-inline", "--no-demangle", "-F", FIELDS, "-i", path])
+    if status is None or status < 0:
+        yield f"perf ends with status {status}", ""
+        return
+    theirs = printed_by_perf(text, errors)
+    counts["profiles"] += 1
+    yield from compare_heads(ours, theirs, counts)
+    if ours.lost == theirs.lost:
+        counts["profiles that lost the same"] += ours.lost != [0, 0]
+    elif len(ours.heads) == len(theirs.heads):
+        yield rule_of(ours, theirs), f"lost: cfi {ours.lost}, perf {theirs.lost}"
+
+
+def compare_heads(ours, theirs, counts):
+    for mine, other in zip(ours.heads, theirs.heads):
+        rule = None if mine == other else head_rule(mine, other, theirs) or rule_of(ours, theirs)
+        if mine != other:
+            yield rule, f"cfi {mine}, perf {other}"
+            if not (rule or "").startswith("head"):
+                return
+        counts["samples that are equal"] += 1
+    if len(ours.heads) != len(theirs.heads):
+        yield rule_of(ours, theirs), f"cfi {len(ours.heads)} samples ({ours.said}), perf {len(theirs.heads)} ({theirs.said})"
+
+
+# ---- all
+
+
+def main():
+    parser = argparse.ArgumentParser(usage=__doc__)
+    parser.add_argument("program")
+    parser.add_argument("files", nargs="*")
+    parser.add_argument("--inputs", type=int, default=2000)
+    parser.add_argument("--seed", type=int, default=1)
+    parser.add_argument("--seconds", type=float, default=1e9)
+    parser.add_argument("--show", type=int, default=1)
+    asked = parser.parse_intermixed_args()
+    program = str(Path(asked.program).resolve())
+    originals = [path.read_bytes() for path in [*sorted(DATA.glob("*.perf")), *map(Path, asked.files)]]
+    originals = [(data, parts_of(data)) for data in originals if len(data) < 1 << 16]
+    KEPT.mkdir(parents=True, exist_ok=True)
+    path, rules, counts = KEPT / f"input{os.getpid()}", collections.Counter(), collections.Counter()
+    unknown, seed = 0, asked.seed
+    os.chdir(DATA)
+    while seed < asked.seed + asked.inputs and processor_time() < asked.seconds:
+        random_ = random.Random(seed)
+        data, parts = random_.choice(originals)
+        data = changed(random_, data, parts)
+        differences = list(compare(program, data, path, counts))
+        for rule, what in differences:
+            rules[rule or "no rule"] += 1
+            if rule is None:
+                (KEPT / str(seed)).write_bytes(data)
+            if rules[rule or "no rule"] <= (20 if rule is None else asked.show):
+                print(f"{rule or 'DIFFERENT'}: input {seed}: {what[:400]}", flush=True)
+        unknown += any(rule is None for rule, _ in differences)
+        counts["profiles without a difference"] += not differences
+        seed += 1
+    path.unlink(missing_ok=True)
+    for rule, count in sorted([*rules.items(), *counts.items()]):
+        print(f"{count:8} {rule}")
+    print(f"{seed - asked.seed} inputs, {unknown} with a difference without a rule, {processor_time():.0f} s of processor time")
+    return 1 if unknown else 0
+
+
+if __name__ == "__main__":
+    sys.exit(main())
