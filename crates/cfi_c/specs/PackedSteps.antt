@@ -53,6 +53,7 @@ IsPcOf mask signed (Some a) ra pc = pc ≡ Ok (Some (unsigned mask signed a))
 IsPcOf mask signed None ra pc = pc ≡ Err (UnknownRegister ra)
 
 module _ (memory : CfiMemory) (registers : List CfiValue) where
+  -- the frame that C passes, with as many registers as it passes
   abbrev pub passed_frame : Frame
   passed_frame = frame_in memory (values_of registers)
 

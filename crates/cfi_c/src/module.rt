@@ -12,7 +12,7 @@ ghost use Rattle.cfi_c.specs.PassedModules.{code_end, code_start, has_code, is_d
 ghost use Rattle.cfi_c.specs.PassedModules.{passed_module_at, sized};
 
 use crate::section::{CfiBases, bases_of, endian_of, vendor_of};
-use cfi_step::code::{code_at, has_code};
+use cfi_step::code_ranges::{code_at, has_code};
 use cfi_step::{HasCode, LoadedModule};
 use gimli_cfi::{EhFrame, EhFrameHdr, EndianSlice, RunTimeEndian};
 

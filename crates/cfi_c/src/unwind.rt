@@ -14,7 +14,7 @@ use crate::passed_steps::PassedSteps;
 use crate::register::{CfiValue, first_registers, write_values};
 use crate::section::is_sized;
 use crate::stack::{CfiStack, abi_of};
-use cfi_step::code::out_of_order;
+use cfi_step::code_ranges::out_of_order;
 use cfi_step::{End, Walk, write_frames};
 use std::alloc::Global;
 use std::mem;

@@ -15,7 +15,7 @@ use crate::passed_steps::PassedSteps;
 use crate::register::{CfiValue, first_registers, write_values, written_value};
 use crate::section::is_sized;
 use crate::stack::{CfiStack, abi_of};
-use cfi_step::code::out_of_order;
+use cfi_step::code_ranges::out_of_order;
 use cfi_step::walk::{Start, resumed};
 use cfi_step::{End, Steps, Walk, WalkFrame};
 use std::alloc::Global;

@@ -7,9 +7,10 @@ use Rattle.cfi_parts.specs.Instructions.{Instruction}
 use Rattle.cfi_state.specs.MachineSettings.{Setting}
 use Rattle.cfi_state.specs.Machine.{State}
 use Rattle.cfi_state.specs.Row.{Row}
-use Rattle.cfi_state.specs.MachineRuns.{may_allocate}
+use Rattle.cfi_state.specs.Allocation.{may_allocate}
 use Rattle.cfi_state.specs.Program.{in_fde}
-use Rattle.cfi_state.specs.FdeAnswers.{AreConsecutive, answer_at, answers, cie_refusal, on_option, rows_of, run_answers}
+use Rattle.cfi_state.specs.FdeAnswers.{AreConsecutive, answer_at, answers, cie_refusal, rows_of, run_answers}
+use Rattle.cfi_state.specs.Cases.{on_option}
 use Rattle.cfi_state.specs.UnwindTableStates.{TableState, run_answers_to_come}
 use Rattle.cfi_state.proofs.IsStateAfter.{accepted_value, refused_error, run_law}
 use Rattle.cfi_entry.specs.EntryInstructions.{cie_instructions, fde_instructions}

@@ -8,8 +8,9 @@ use Rattle.cfi_read_core.specs.declared.error.Error.TheVariants.{OutOfMemory}
 use Rattle.cfi_read_core.specs.declared.instruction.CallFrameInstruction.{CallFrameInstruction}
 use Rattle.cfi_state.specs.MachineSettings.{Setting}
 use Rattle.cfi_state.specs.Program.{in_cie, refusal, refusal_at_end}
-use Rattle.cfi_state.specs.FdeAnswers.{or_refused, first_refusal, cie_refusal, program_state}
-use Rattle.cfi_state.specs.MachineRuns.{MayAllocate}
+use Rattle.cfi_state.specs.FdeAnswers.{first_refusal, cie_refusal, program_state}
+use Rattle.cfi_state.specs.Cases.{or_refused}
+use Rattle.cfi_state.specs.Allocation.{MayAllocate}
 use Rattle.cfi_state.specs.AcceptedInstructions.{IsLeftOut, AcceptsInitialInstructions, cie_keeps, cie_leaves_out, cie_finds_unreadable, cie_is_kept, cie_end_left_out}
 
 due_left_out : (w : Bool) (due : Option Error) (e : Error) → (e ≡ OutOfMemory → ⊥) → IsLeftOut w due e → due ≡ Some e

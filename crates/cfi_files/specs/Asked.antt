@@ -7,7 +7,7 @@ use Rattle.cfi_elf.specs.declared.error.ElfError.{ElfError}
 use Rattle.cfi_object.specs.Numbers.{number}
 use Rattle.cfi_names.specs.Names.{shown}
 use Rattle.cfi_programs.specs.Lines.{address_text}
-use Rattle.cfi_programs.specs.JsonLines.{json_name}
+use Rattle.cfi_programs.specs.JsonTexts.{json_name}
 use Rattle.cfi_programs.specs.declared.style.Format.{Format}
 use Rattle.cfi_programs.specs.declared.style.Format.TheVariants.{Text, Json}
 

@@ -9,7 +9,8 @@ use Rattle.cfi_programs.specs.ErrorWords.{parting}
 use Rattle.cfi_programs.specs.Lines.{Line}
 use Rattle.cfi_programs.specs.Refusals.{reason_line, refusal_in, refusal_saying}
 use Rattle.cfi_names.specs.Names.{shown}
-use Rattle.cfi_programs.specs.JsonLines.{json_name, json_section}
+use Rattle.cfi_programs.specs.JsonLines.{json_section}
+use Rattle.cfi_programs.specs.JsonTexts.{json_name}
 use Rattle.cfi_programs.specs.declared.style.Format.{Format}
 use Rattle.cfi_programs.specs.declared.style.Format.TheVariants.{Text, Json}
 

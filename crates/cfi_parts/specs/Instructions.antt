@@ -122,15 +122,18 @@ abbrev pub extended_opcodes : InstructionContext → List (ℕ × Read Instructi
 extended_opcodes c =
     row_creation c ++ cfa_definition c ++ state_and_others c ++ offset_rules ++ register_rules c
 
+-- the primary opcodes, which are the two high bits alone: the low six bits are the first operand
+abbrev pub primary_opcodes : ℕ → List (ℕ × Read Instruction)
+primary_opcodes low =
+    (0x40, advance low)
+    ∷ (0x80, unsigned_leb128 >>= λ n. give (variant.Offset (record { 0 = low }) n))
+    ∷ (0xc0, give (variant.Restore (record { 0 = low })))
+    ∷ []
+
+-- ---- the choice by an opcode
+
 abbrev pub by_extended_opcode : InstructionContext → ℕ → Read Instruction
 by_extended_opcode c opcode = chosen_from opcode (extended_opcodes c) (unknown_opcode opcode)
-
--- Not one of the opcodes whose two high bits are 0 that compilers write most: padding, short moves,
--- a new place of the CFA, and the state of a row.
-abbrev pub IsRare : ℕ → Type 0
-IsRare opcode =
-    (opcode ≢ 0x00) × (opcode ≢ 0x02) × (opcode ≢ 0x03) × (opcode ≢ 0x0a) × (opcode ≢ 0x0b)
-    × (opcode ≢ 0x0c) × (opcode ≢ 0x0d) × (opcode ≢ 0x0e)
 
 -- the end of the table, the rules of registers, and of these the ones without an offset
 unfoldable pub by_register_rules : InstructionContext → ℕ → Read Instruction
@@ -139,13 +142,12 @@ by_register_rules c opcode = chosen_from opcode (register_rules c) (unknown_opco
 unfoldable pub by_rules : InstructionContext → ℕ → Read Instruction
 by_rules c opcode = chosen_from opcode offset_rules (by_register_rules c opcode)
 
--- the primary opcodes, which are the two high bits alone: the low six bits are the first operand
-abbrev pub primary_opcodes : ℕ → List (ℕ × Read Instruction)
-primary_opcodes low =
-    (0x40, advance low)
-    ∷ (0x80, unsigned_leb128 >>= λ n. give (variant.Offset (record { 0 = low }) n))
-    ∷ (0xc0, give (variant.Restore (record { 0 = low })))
-    ∷ []
+-- Not one of the opcodes whose two high bits are 0 that compilers write most: padding, short moves,
+-- a new place of the CFA, and the state of a row.
+abbrev pub IsRare : ℕ → Type 0
+IsRare opcode =
+    (opcode ≢ 0x00) × (opcode ≢ 0x02) × (opcode ≢ 0x03) × (opcode ≢ 0x0a) × (opcode ≢ 0x0b)
+    × (opcode ≢ 0x0c) × (opcode ≢ 0x0d) × (opcode ≢ 0x0e)
 
 abbrev pub by_opcode : InstructionContext → ℕ → Read Instruction
 by_opcode c opcode =

@@ -8,7 +8,8 @@ use Rattle.std.specs.Str.{bytes_eq}
 use Rattle.cfi_perf.specs.declared.error.PerfError.{PerfError}
 use Rattle.cfi_perf.specs.ByteReads.{before_zero}
 use Rattle.cfi_perf.specs.Layouts.{has_any}
-use Rattle.cfi_perf.specs.Events.{Mapping, count_at, counted_id}
+use Rattle.cfi_perf.specs.CountedIds.{count_at, counted_id}
+use Rattle.cfi_perf.specs.Events.{Mapping}
 use Rattle.cfi_perf.specs.RecordFrames.{FramedRecord, split_record}
 
 -- after pid, of four bytes, are 20 for the id; if PERF_RECORD_MISC_BUILD_ID_SIZE (1 << 15) is set,

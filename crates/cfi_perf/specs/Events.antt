@@ -1,7 +1,7 @@
 -- The records of mapped files, programs and new processes (perf_event_open(2), "MMAP layout";
 -- include/uapi/linux/perf_event.h).
-use Rattle.std.specs.Prelude.{ℕ, Bool, not, List, drop, length, take, Option, Some, None, Result}
-use Rattle.std.specs.Prelude.{Ok, slice_get, option_map, unwrap_or, ◌==◌, if◌then◌else◌, ok_or}
+use Rattle.std.specs.Prelude.{ℕ, Bool, not, List, drop, Option, Some, None, Result, Ok, option_map}
+use Rattle.std.specs.Prelude.{if◌then◌else◌, ok_or}
 use Rattle.std.specs.Int.{w32, w64}
 use Rattle.cfi_read_core.specs.ReadFunctions.{Read, ◌>>=◌, give}
 use Rattle.cfi_read_core.specs.Numbers.{unsigned}
@@ -22,6 +22,7 @@ use Rattle.cfi_perf.specs.declared.record.Lost.{Lost}
 use Rattle.cfi_perf.specs.declared.record_fields.MappedRange.{MappedRange}
 use Rattle.cfi_perf.specs.Results.{and_then, or_error}
 use Rattle.cfi_perf.specs.ByteReads.{before_zero, read_from}
+use Rattle.cfi_perf.specs.CountedIds.{count_at, counted_id}
 use Rattle.cfi_perf.specs.Layouts.{has_any}
 use Rattle.cfi_perf.specs.Samples.{Sample, sample_view, thread}
 
@@ -80,24 +81,13 @@ event_view OtherOfCode = OtherEvent
 abbrev pub record_view : RecordOfCode → Record
 record_view r = record { time = r.time; event = event_view r.event }
 
--- ---- identifications of builds
-
--- at most 20 of these bytes, as many as are counted; none where there are none
-abbrev pub counted_id : ℕ → List ℕ → Option (List ℕ)
-counted_id count bytes =
-    let id = take count (take 20 bytes) in if length id == 0 then None else Some id
-
--- a byte that counts them; 0 where it isn't there
-abbrev pub count_at : ℕ → List ℕ → ℕ
-count_at place bytes = unwrap_or (slice_get bytes place) 0
+-- ---- mapped files
 
 -- where PERF_RECORD_MISC_MMAP_BUILD_ID (1 << 14) is set, PERF_RECORD_MMAP2 has a count and the id
 -- in place of maj, min, ino and ino_generation
 abbrev pub own_build_id : ℕ → List ℕ → Option (List ℕ)
 own_build_id misc fields =
     if has_any 0x4000 misc then counted_id (count_at 32 fields) (drop 36 fields) else None
-
--- ---- mapped files
 
 -- the fields of both records up to pgoff
 unfoldable pub mapped_range : Read MappedRange

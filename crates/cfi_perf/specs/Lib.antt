@@ -3,6 +3,7 @@ pub mod Attributes
 pub mod BuildIds
 pub mod ByteReads
 pub mod CallChains
+pub mod CountedIds
 pub mod ErrorNames
 pub mod ErrorTexts
 pub mod EventEntries

@@ -2,7 +2,8 @@
 //! `PERF_RECORD_HEADER_BUILD_ID`).
 ghost use Rattle.std.specs.Prelude.{◌≡◌, option_map};
 ghost use Rattle.cfi_read_core.specs.ByteOrder.{is_big};
-ghost use Rattle.cfi_perf.specs.Events.{count_at, counted_id, mapping_record_view};
+ghost use Rattle.cfi_perf.specs.CountedIds.{count_at, counted_id};
+ghost use Rattle.cfi_perf.specs.Events.{mapping_record_view};
 ghost use Rattle.cfi_perf.specs.BuildIds.{entry_id, has_build_id, listed_build_id, is_entry_named};
 ghost use Rattle.cfi_perf.specs.RecordFrames.{framed_view};
 ghost use Rattle.cfi_perf.specs.BuildIds.{with_build_id};
@@ -32,7 +33,7 @@ pub(crate) fn counted_id(count: u8, bytes: &[u8]) -> Option<&[u8]>
     if id.is_empty() { None } else { Some(id) }
 }
 
-/// A byte that counts them; 0 where it isn't there.
+/// How many bytes an identification has, by the byte at this place; 0 where there is none.
 pub(crate) fn count_at(place: usize, bytes: &[u8]) -> u8
     ensures { result ≡ count_at place bytes.now }
 {

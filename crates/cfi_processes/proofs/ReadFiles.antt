@@ -18,6 +18,8 @@ use Rattle.cfi_processes.specs.CodeParts.{ArePartsOf, ArePartsOfBytes, is_told, 
 use Rattle.cfi_processes.specs.FileReads.{IsBuild, IsBuildOf, IsByLink, IsContents, IsDebug, IsDebugOf, IsFileFound, IsLinkedAmong, IsLinkedIn, IsLinkedReading, IsOr, IsOrCopy, IsPlaceRead, IsReadIfOpened, IsAllLeft, IsTold, if_built, if_readable, names_a_file}
 use Rattle.cfi_processes.specs.KernelSymbols.{is_kernel_name}
 use Rattle.cfi_processes.specs.Wanted.{FilePlace, Wanted, at_path, code_map, copy_of, debug_of, is_text, kernel_symbols, linked}
+use Rattle.cfi_object.specs.NeededParts.{AreAsked}
+use Rattle.cfi_processes.specs.Enough.{needed_of_code}
 use Rattle.cfi_processes.specs.FileBuilds.{has_build, id_in, id_of, is_known_build, is_linked, link_in, link_of}
 use Rattle.cfi_object.proofs.WholeParts.{all_of_input, whole_is}
 use Rattle.cfi_processes.proofs.CodeImages.{id_found, link_found}
@@ -62,6 +64,12 @@ all_read known (Err e) is = tt
 pub all_whole : {E : Type 0} (known : Option (List ℕ)) (whole : Bool) (r : Result CodeParts E) → IfOk r (λ code. IsAllOf known (parts_of code)) → IfOk r (λ code. whole ≡ true → is_whole (Some code) ≡ true)
 all_whole known whole (Ok code) (bytes, left, is) = λ asked. whole_all code bytes is
 all_whole known whole (Err e) is = tt
+
+-- all of it was asked for, so nothing is said of parts
+pub whole_asked : {E : Type 0} (whole : Bool) (r : Result CodeParts E) → whole ≡ true → IfOk r (λ code. whole ≡ false → AreAsked needed_of_code (parts_of code))
+whole_asked true (Ok code) is = λ no. absurd (cc (no))
+whole_asked true (Err e) is = tt
+whole_asked false r is = absurd (cc)
 
 -- none where it wasn't opened
 pub none_read : {Handle : Type 0} (remaining : Handle → Option (List ℕ)) (opened : Option Handle) → opened ≡ None → ArePartsOf (IsReadIfOpened remaining opened) None

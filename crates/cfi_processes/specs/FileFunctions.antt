@@ -17,7 +17,7 @@ use Rattle.cfi_elf.specs.Options.{or_this}
 use Rattle.cfi_elf.specs.Modular.{minus}
 use Rattle.cfi_processes.specs.declared.file_functions.FileFunctions.{FileFunctions}
 use Rattle.cfi_processes.specs.declared.mappings.MappedCode.{MappedCode}
-use Rattle.cfi_processes.specs.Objects.{code_addresses}
+use Rattle.cfi_processes.specs.Objects.{bias_by, code_addresses}
 
 pub record Functions : Type 0 where
   pub addresses : ℕ → Option ℕ  -- of the byte of code at an offset
@@ -47,5 +47,4 @@ functions_by_symbols image debug = option_map (with_symbols debug) (result_ok (e
 -- both files have the same addresses: those of the process less the bias
 abbrev pub mapped_function : MappedCode → ℕ → Functions → Option FunctionPlace
 mapped_function mapped a functions =
-    option_and_then (λ bias. functions.places (minus a bias))
-    (option_map (minus mapped.start) (functions.addresses mapped.offset))
+    option_and_then (λ bias. functions.places (minus a bias)) (bias_by functions.addresses mapped)

@@ -80,9 +80,10 @@ kernel_symbol_at text a = nearest_among (kernel_symbols_of text) a
 abbrev pub address_if : List ℕ → Symbol → Option ℕ
 address_if name s = if is_none s.owner && bytes_eq s.name name then Some s.address else None
 
-abbrev pub address_among : List Symbol → List ℕ → Option ℕ
-address_among [] name = None
-address_among (s ∷ symbols) name = option_or (address_if name s) (address_among symbols name)
+abbrev pub kernel_address_among : List Symbol → List ℕ → Option ℕ
+kernel_address_among [] name = None
+kernel_address_among (s ∷ symbols) name =
+    option_or (address_if name s) (kernel_address_among symbols name)
 
 abbrev pub address_of_symbol : List ℕ → List ℕ → Option ℕ
-address_of_symbol text name = address_among (kernel_symbols_of text) name
+address_of_symbol text name = kernel_address_among (kernel_symbols_of text) name

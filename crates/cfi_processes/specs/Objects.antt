@@ -4,7 +4,7 @@
 --     debug_for file debug      .debug_frame of a file, or else of its debug file
 --     object_in image debug      the file of which these parts were read, if it has call frames;
 --         of its debug file those of debug were
---     bias_in file mapped, bias_of object mapped      how far its code is moved
+--     bias_by addresses mapped, bias_of object mapped      how far its code is moved
 --     is_compiled object      whether a compiled table is made
 --     IsDebugTable section table      a compiled table of .debug_frame, if there is one
 --     object_module number object tables mapped      the module, with the file's number and these
@@ -102,11 +102,11 @@ object_in image debug = option_and_then (with_call_frames debug) (result_ok (elf
 
 -- the byte at the first mapped address is that at the offset in the file, which has an address of
 -- the file's own
-abbrev pub bias_in : File → MappedCode → Option ℕ
-bias_in file mapped = option_map (minus mapped.start) (code_addresses file mapped.offset)
+abbrev pub bias_by : (ℕ → Option ℕ) → MappedCode → Option ℕ
+bias_by addresses mapped = option_map (minus mapped.start) (addresses mapped.offset)
 
 abbrev pub bias_of : Object → MappedCode → Option ℕ
-bias_of object mapped = option_map (minus mapped.start) (object.addresses mapped.offset)
+bias_of object mapped = bias_by object.addresses mapped
 
 -- where each row is else found by a scan
 abbrev pub is_compiled : Object → Bool

@@ -16,10 +16,12 @@ pub struct CodeParts {
 }
 
 impl CodeParts {
-    ghost use Rattle.std.specs.Prelude.{◌≡◌, Some, IfOk, true};
+    ghost use Rattle.std.specs.Prelude.{◌≡◌, Some, IfOk, true, false};
     ghost use Rattle.cfi_elf.specs.Images.{image_view, whole};
     ghost use Rattle.cfi_object.specs.FileParts.{AreOfInput, IsAllOf};
+    ghost use Rattle.cfi_object.specs.NeededParts.{AreAsked};
     ghost use Rattle.cfi_processes.specs.CodeParts.{is_whole, parts_of};
+    ghost use Rattle.cfi_processes.specs.Enough.{needed_of_code};
 
     /// The file of these bytes. Does not allocate.
     pub fn whole(alloc: Global, bytes: Vec<u8>) -> CodeParts
@@ -30,8 +32,8 @@ impl CodeParts {
         }
     }
 
-    /// Reads the parts of a file that are needed, or all of it if asked for. Fails with
-    /// `Unreadable` where its length can't be told or a read fails, and with `OutOfMemory`.
+    /// Reads the parts of a file that are needed and no others, or all of it if asked for. Fails
+    /// with `Unreadable` where its length can't be told or a read fails, and with `OutOfMemory`.
     /// Allocates for the parts.
     pub fn read<I: FileInput>(
         alloc: Global,
@@ -40,6 +42,8 @@ impl CodeParts {
     ) -> Result<CodeParts, InputError>
         ensures read { IfOk result (λ code. AreOfInput (I.bytes input.old) (parts_of code)) }
         ensures whole { IfOk result (λ code. whole ≡ true → is_whole (Some code) ≡ true) }
+        ensures asked { IfOk result (λ code. whole ≡ false
+            → AreAsked needed_of_code (parts_of code)) }
     {
         if whole {
             return Self::read_whole(alloc, input);

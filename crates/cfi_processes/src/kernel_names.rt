@@ -3,7 +3,7 @@ ghost use Rattle.std.specs.Prelude.{◌≡◌, ℕ, codes};
 ghost use Rattle.cfi_processes.specs.KernelSymbols.{address_of_symbol, kernel_symbol_at};
 ghost use Rattle.cfi_processes.specs.SortedSymbols.{nearest_in};
 
-use crate::kernel_symbols::{address_among, symbols_of};
+use crate::kernel_symbols::{kernel_address_among, symbols_of};
 use crate::mappings::MappedCode;
 use crate::text_symbols::{SortedSymbols, TextSymbol};
 use std::alloc::{AllocError, Global};
@@ -45,9 +45,9 @@ impl<'run> KernelNames<'run> {
     {
         let symbols = symbols_of(alloc, text)?;
         let list = symbols.as_slice();
-        let start = address_among(list, symbol);
-        let code_end = address_among(list, b"_etext");
-        let data_end = address_among(list, b"_edata");
+        let start = kernel_address_among(list, symbol);
+        let code_end = kernel_address_among(list, b"_etext");
+        let data_end = kernel_address_among(list, b"_edata");
         Ok(KernelNames {
             text,
             symbol,

@@ -13,7 +13,7 @@ ghost use Rattle.cfi_processes.specs.Mappings.{AreMappedInOrder};
 ghost use Rattle.cfi_processes.specs.Sites.{site_view};
 
 use crate::kernel_names::KernelNames;
-use crate::kernel_symbols::KERNEL_IMAGE;
+use crate::kernel_symbols::{KERNEL_IMAGE, is_kernel_name};
 use crate::mappings::MappedCode;
 use crate::names::Name;
 use crate::process_code::ProcessCode;
@@ -90,7 +90,7 @@ fn kernel_name_of(file: Option<Name<'_>>) -> Option<Name<'_>>
 fn kernel_name(name: Name<'_>) -> Name<'_>
     ensures { result.bytes.now ≡ kernel_name name.entry.bytes.now }
 {
-    if name.bytes.starts_with(KERNEL_IMAGE) {
+    if is_kernel_name(name.bytes) {
         Name::new(KERNEL_IMAGE)
     } else {
         name

@@ -1,7 +1,7 @@
 //! The symbols of the kernel, as it tells them (`/proc/kallsyms`, proc(5)).
 ghost use Rattle.std.specs.Prelude.{◌≡◌, IfOk, map, option_map};
 ghost use Rattle.std.specs.List.{filter_map};
-ghost use Rattle.cfi_processes.specs.KernelSymbols.{address_among, address_if, is_data_type};
+ghost use Rattle.cfi_processes.specs.KernelSymbols.{address_if, is_data_type, kernel_address_among};
 ghost use Rattle.cfi_processes.specs.KernelSymbols.{is_function_type, is_kernel_name};
 ghost use Rattle.cfi_processes.specs.KernelSymbols.{is_function_of_letter};
 ghost use Rattle.cfi_processes.specs.KernelSymbols.{is_function_of_type, kernel_symbol_from};
@@ -139,8 +139,8 @@ fn is_data_type(letter: u8) -> bool
 }
 
 /// The address of the first symbol of the kernel itself with this name. Does not allocate.
-pub fn address_among(symbols: &[TextSymbol<'_>], name: &[u8]) -> Option<u64>
-    ensures { result ≡ address_among (map symbol_view symbols.now) name.now }
+pub fn kernel_address_among(symbols: &[TextSymbol<'_>], name: &[u8]) -> Option<u64>
+    ensures { result ≡ kernel_address_among (map symbol_view symbols.now) name.now }
 {
     for symbol in symbols {
         if let Some(address) = address_if(symbol, name) {

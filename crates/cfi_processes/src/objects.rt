@@ -6,8 +6,8 @@ ghost use Rattle.cfi_elf.specs.ElfFiles.{file_view};
 ghost use Rattle.cfi_elf.specs.Images.{image_view};
 ghost use Rattle.cfi_object.specs.CallFrames.{eh_frame_of};
 ghost use Rattle.cfi_processes.specs.Modules.{debug_view};
-ghost use Rattle.cfi_processes.specs.Objects.{bias_in, debug_by, debug_for, debug_in};
-ghost use Rattle.cfi_processes.specs.Objects.{debug_section, there};
+ghost use Rattle.cfi_processes.specs.Objects.{bias_by, code_addresses, debug_by};
+ghost use Rattle.cfi_processes.specs.Objects.{debug_for, debug_in, debug_section, there};
 
 use crate::mappings::MappedCode;
 use cfi_compiled::CompiledTable;
@@ -310,7 +310,7 @@ fn debug_by<'a, 'file>(
 
 /// How far a file's code is moved where it is mapped (`Object::bias`). Does not allocate.
 pub fn bias_in(file: &ElfFile<'_>, mapped: &MappedCode) -> Option<u64>
-    ensures { result ≡ bias_in (file_view file.now) mapped.now }
+    ensures { result ≡ bias_by (code_addresses (file_view file.now)) mapped.now }
 {
     match file.address_of_offset(mapped.offset) {
         Ok(Some(address)) => Some(mapped.start.wrapping_sub(address)),

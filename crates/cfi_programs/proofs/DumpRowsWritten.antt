@@ -10,13 +10,15 @@ use Rattle.cfi_read_core.specs.declared.error.Error.{Error}
 use Rattle.cfi_parts.specs.Instructions.{Instruction}
 use Rattle.cfi_state.specs.UnwindContexts.{ContextState}
 use Rattle.cfi_state.specs.Machine.{State}
-use Rattle.cfi_state.specs.MachineRuns.{MayAllocate, AreNever, NextAnswer, passes, ends_row, refuses, cannot_read, last_row, no_row, may_allocate}
+use Rattle.cfi_state.specs.MachineRuns.{NextAnswer, passes, ends_row, refuses, cannot_read, last_row, no_row}
+use Rattle.cfi_state.specs.Allocation.{MayAllocate, AreNever, may_allocate}
 use Rattle.cfi_state.specs.MachineSettings.{Setting}
 use Rattle.cfi_state.specs.MappedStates.{map_row}
 use Rattle.cfi_state.specs.AcceptedInstructions.{at_program}
 use Rattle.cfi_state.specs.Program.{Program, in_fde}
 use Rattle.cfi_state.specs.Row.{Row}
-use Rattle.cfi_state.specs.FdeAnswers.{answers, on_option, cie_refusal, IsStateAfter}
+use Rattle.cfi_state.specs.FdeAnswers.{answers, cie_refusal, IsStateAfter}
+use Rattle.cfi_state.specs.Cases.{on_option}
 use Rattle.cfi_state.specs.UnwindTableStates.{TableState, before_last_row, answers_to_come, IsNext}
 use Rattle.cfi_state.proofs.FixedStorage.{fixed_never}
 use Rattle.cfi_state.proofs.IsStateAfter.{accepted_value, refused_error}

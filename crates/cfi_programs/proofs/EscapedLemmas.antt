@@ -2,7 +2,7 @@
 use Rattle.std.proofs.Common.{◌≡◌, ◌∙◌, ℕ, ◌+◌, ◌<◌, ◌≤◌, List, [], ◌∷◌, ◌++◌, length, get_or, drop, map, Option, Result, refl, sym, ap, subst, add-one, append_assoc, codes}
 use Rattle.std.proofs.Math.Seq.{drop-cons}
 use Rattle.std.proofs.lemmas.List.{drop_all}
-use Rattle.cfi_programs.specs.JsonLines.{json_escape, json_escaped}
+use Rattle.cfi_programs.specs.JsonTexts.{json_escape, json_escaped}
 use Rattle.cfi_programs.specs.WriterOutput.{Writes}
 use Rattle.cfi_programs.proofs.WrittenLemmas.{IsGiven}
 

@@ -8,7 +8,9 @@ use Rattle.cfi_state.specs.declared.table.rules.RegisterRule.TheVariants as rule
 use Rattle.cfi_state.specs.Row.{Row}
 use Rattle.std.specs.FinMap as map
 use Rattle.cfi_object.specs.declared.register_names.RegisterNames.TheVariants.{X86_64}
-use Rattle.cfi_programs.specs.JsonLines.{bytes_of_rule, json_escaped, json_addresses, json_function, json_head, json_name, json_number, json_rule, json_section, rules_end, separated}
+use Rattle.cfi_programs.specs.JsonLines.{json_addresses, json_function, json_section}
+use Rattle.cfi_programs.specs.JsonRows.{bytes_of_rule, json_head, json_rule, rules_end}
+use Rattle.cfi_programs.specs.JsonTexts.{json_escaped, json_name, json_number, separated}
 use Rattle.cfi_programs.specs.Refusals.{reason_end, reason_line, refusal_in, refusal_told}
 use Rattle.std.specs.Fmt.{decimal}
 use Rattle.cfi_object.specs.declared.register_names.RegisterNames.{RegisterNames}

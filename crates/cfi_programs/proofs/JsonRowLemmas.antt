@@ -2,7 +2,8 @@
 use Rattle.std.proofs.Common.{◌≡◌, ◌∙◌, ℕ, ◌+◌, ◌-◌, ◌<◌, Bool, true, false, List, [], ◌∷◌, ◌++◌, Option, Some, None, refl, sym, ap, append_assoc, codes}
 use Rattle.cfi_read_core.specs.declared.instruction.UnwindExpression.{UnwindExpression}
 use Rattle.cfi_state.specs.declared.table.rules.RegisterRule.{RegisterRule}
-use Rattle.cfi_programs.specs.JsonLines.{bytes_member_at, bytes_member, bytes_of_rule, json_rule, bytes_opening, rules_end, separated}
+use Rattle.cfi_programs.specs.JsonRows.{bytes_member_at, bytes_member, bytes_of_rule, json_rule, bytes_opening, rules_end}
+use Rattle.cfi_programs.specs.JsonTexts.{separated}
 use Rattle.cfi_programs.specs.RowLines.{expression_at, ruled_by, rules_by}
 use Rattle.cfi_programs.specs.Wordings.{Wording}
 use Rattle.cfi_programs.proofs.RowLineLemmas.{rules_more, rules_with}

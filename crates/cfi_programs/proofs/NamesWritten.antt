@@ -5,7 +5,7 @@ use Rattle.std.proofs.Math.Seq.{drop-cons}
 use Rattle.std.proofs.lemmas.List.{drop_all}
 use Rattle.cfi_names.specs.Names.{NamePart, byte_escape, first_part, is_printable_ascii, parts}
 use Rattle.cfi_names.proofs.NameLemmas.{made_first, parts_plain}
-use Rattle.cfi_programs.specs.JsonLines.{json_escape, json_escaped, json_name, json_part}
+use Rattle.cfi_programs.specs.JsonTexts.{json_escape, json_escaped, json_name, json_part}
 use Rattle.cfi_programs.proofs.WrittenLemmas.{IsGiven}
 
 module _ (f : NamePart → List ℕ) (old now : Option (List ℕ)) (bytes : List ℕ) (part : NamePart) (whole : List ℕ) where

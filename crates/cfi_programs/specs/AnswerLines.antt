@@ -5,7 +5,7 @@ use Rattle.cfi_state.specs.Row.{Row}
 use Rattle.cfi_object.specs.declared.register_names.RegisterNames.{RegisterNames}
 use Rattle.cfi_programs.specs.Lines.{Line, line}
 use Rattle.cfi_programs.specs.Refusals.{refusal_end, refusal_line, refusal_told}
-use Rattle.cfi_programs.specs.JsonLines.{json_members, json_row}
+use Rattle.cfi_programs.specs.JsonRows.{json_members, json_row}
 use Rattle.cfi_programs.specs.RowLines.{row_saying, row_text}
 use Rattle.cfi_programs.specs.Wordings.{Wording}
 use Rattle.cfi_programs.specs.declared.style.Format.{Format}

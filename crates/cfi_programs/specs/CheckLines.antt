@@ -7,7 +7,7 @@ use Rattle.gimli_cfi.specs.declared.hdr.unfaithful.Unfaithful.{Unfaithful}
 use Rattle.gimli_cfi.specs.declared.hdr.unfaithful.Unfaithful.TheVariants as reasons
 use Rattle.cfi_programs.specs.ErrorWords.{error_words}
 use Rattle.cfi_programs.specs.Lines.{Line, address_text, line}
-use Rattle.cfi_programs.specs.JsonLines.{json_number}
+use Rattle.cfi_programs.specs.JsonTexts.{json_number}
 use Rattle.cfi_programs.specs.declared.style.Format.{Format}
 use Rattle.cfi_programs.specs.declared.style.Format.TheVariants.{Text, Json}
 use Rattle.gimli_cfi.specs.declared.hdr.verdict.Verdict.{Verdict}

@@ -8,7 +8,8 @@ use Rattle.cfi_read_core.specs.declared.error.Error.{Error}
 use Rattle.cfi_state.specs.MachineSettings.{Setting}
 use Rattle.cfi_state.specs.Program.{in_fde}
 use Rattle.cfi_state.specs.Row.{Row}
-use Rattle.cfi_state.specs.FdeAnswers.{answers, cie_refusal, on_option}
+use Rattle.cfi_state.specs.FdeAnswers.{answers, cie_refusal}
+use Rattle.cfi_state.specs.Cases.{on_option}
 use Rattle.cfi_unwind.specs.AddressRow.{setting}
 use Rattle.cfi_entry.specs.Cies.{Cie}
 use Rattle.cfi_entry.specs.Entries.{Entry, CieEntry, FdeEntry}

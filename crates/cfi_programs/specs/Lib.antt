@@ -11,6 +11,8 @@ pub mod OperationReads
 pub mod ExpressionWords
 pub mod Wordings
 pub mod FunctionLines
+pub mod JsonTexts
+pub mod JsonRows
 pub mod JsonLines
 pub mod AnswerLines
 pub mod KeptRules

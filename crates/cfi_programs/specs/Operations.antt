@@ -1,7 +1,7 @@
 -- The operations of DWARF expressions (DWARF 5 sections 2.5.1, 2.6.1 and 7.7.1): for each section a
--- table, from the opcode to the name and the form of the operand. Operations with a block, a type,
--- an entry or an offset of another section are in no table: call frames may not have them, or they
--- mean nothing there (section 6.4.2).
+-- table or two, from the opcode to the name and the form of the operand. Operations with a block, a
+-- type, an entry or an offset of another section are in no table: call frames may not have them, or
+-- they mean nothing there (section 6.4.2).
 --     operation_entry opcode      its name, and the form of its operand
 use Rattle.std.specs.Prelude.{ℕ, ◌-◌, List, [], ◌∷◌, ◌++◌, nat_lt, ◌==◌}
 use Rattle.std.specs.Prelude.{codes, if◌then◌else◌}
@@ -62,7 +62,7 @@ control_flow_table =
 unfoldable pub control_entry : ℕ → OperationEntry
 control_entry opcode = found opcode control_flow_table (other_entry opcode)
 
--- arithmetic and logical operations (section 2.5.1.4)
+-- bits and shifts, of the arithmetic and logical operations (section 2.5.1.4)
 abbrev pub logical_table : List (ℕ × OperationEntry)
 logical_table =
     (0x1a, made (codes "DW_OP_and") Nothing)
@@ -77,6 +77,7 @@ logical_table =
 unfoldable pub logic_entry : ℕ → OperationEntry
 logic_entry opcode = found opcode logical_table (control_entry opcode)
 
+-- arithmetic, of the same
 abbrev pub arithmetic_table : List (ℕ × OperationEntry)
 arithmetic_table =
     (0x19, made (codes "DW_OP_abs") Nothing)

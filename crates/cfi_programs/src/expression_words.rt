@@ -84,12 +84,12 @@ pub fn write_in_words<R: Reader<Offset = usize>, S: UnwindSection<R>, W: Write>(
         (in_words names from.address_size from.position expression) }
 {
     write_text(output, b"expr(")?;
-    write_inside(output, names, section, expression)?;
+    write_words_in(output, names, section, expression)?;
     write_text(output, b")")
 }
 
 /// Writes what stands between the brackets.
-fn write_inside<R: Reader<Offset = usize>, S: UnwindSection<R>, W: Write>(
+fn write_words_in<R: Reader<Offset = usize>, S: UnwindSection<R>, W: Write>(
     output: &mut W,
     names: RegisterNames,
     section: &S,

@@ -1,7 +1,7 @@
 //! The numbers and strings of JSON (RFC 8259).
 ghost use Rattle.std.specs.Prelude.{◌≡◌, ◌++◌, OnOk, codes};
 ghost use Rattle.std.specs.Fmt.{decimal};
-ghost use Rattle.cfi_programs.specs.JsonLines.{json_escape, json_escaped, json_number};
+ghost use Rattle.cfi_programs.specs.JsonTexts.{json_escape, json_escaped, json_number};
 ghost use Rattle.cfi_programs.specs.WriterOutput.{Writes};
 
 use crate::lines::write_text;

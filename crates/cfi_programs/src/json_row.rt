@@ -1,9 +1,11 @@
 //! The line of a row in JSON.
 ghost use Rattle.std.specs.Prelude.{◌++◌, [], ◌∷◌, codes};
-ghost use Rattle.cfi_programs.specs.JsonLines.{bytes_member, cfa_bytes, json_bytes, json_cfa};
-ghost use Rattle.cfi_programs.specs.JsonLines.{json_head, json_member, json_members, json_number};
-ghost use Rattle.cfi_programs.specs.JsonLines.{address_members, json_row, json_rule, json_rules};
-ghost use Rattle.cfi_programs.specs.JsonLines.{bytes_opening, separated};
+ghost use Rattle.cfi_programs.specs.JsonRows.{bytes_member, cfa_bytes, json_bytes, json_cfa};
+ghost use Rattle.cfi_programs.specs.JsonRows.{json_head, json_member, json_members};
+ghost use Rattle.cfi_programs.specs.JsonTexts.{json_number};
+ghost use Rattle.cfi_programs.specs.JsonRows.{address_members, json_row, json_rule, json_rules};
+ghost use Rattle.cfi_programs.specs.JsonRows.{bytes_opening};
+ghost use Rattle.cfi_programs.specs.JsonTexts.{separated};
 ghost use Rattle.cfi_programs.specs.RowLines.{expression_at};
 ghost use Rattle.cfi_object.specs.RegisterNames.{register_text};
 ghost use Rattle.cfi_programs.specs.ExpressionWords.{hexadecimal_of};

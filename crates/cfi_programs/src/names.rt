@@ -1,8 +1,8 @@
 //! Names of functions, files and threads, as they are written.
-ghost use Rattle.std.specs.Prelude.{flat_map};
+ghost use Rattle.std.specs.Prelude.{◌++◌, codes, flat_map};
 ghost use Rattle.cfi_names.specs.Names.{byte_escape, name_part_view, shown, shown_part};
 ghost use Rattle.cfi_names.specs.Utf8.{scalar};
-ghost use Rattle.cfi_programs.specs.JsonLines.{json_name, json_part, number_escape};
+ghost use Rattle.cfi_programs.specs.JsonTexts.{json_name, json_part, number_escape};
 ghost use Rattle.cfi_programs.specs.WriterOutput.{Writes};
 
 use crate::json::write_escaped;
@@ -67,6 +67,16 @@ pub fn write_json_name<W: Write>(output: &mut W, name: &[u8]) -> io::Result<()>
     } else {
         write_json_parts(output, name)
     }
+}
+
+/// Writes a name as the rest of a member, whose beginning this is up to the string.
+pub fn write_name_member<W: Write>(output: &mut W, before: &[u8], name: &[u8]) -> io::Result<()>
+    ensures { Writes (W.contents output.old) (W.contents output.new) result
+        (before.now ++ (json_name name.now ++ codes "\"")) }
+{
+    write_text(output, before)?;
+    write_json_name(output, name)?;
+    write_text(output, b"\"")
 }
 
 /// Writes a name within a string, part by part.

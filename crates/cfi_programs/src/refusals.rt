@@ -130,12 +130,12 @@ pub fn write_refusal_told<W: Write>(output: &mut W, format: Format, error: Error
     ensures { Prints (refusal_told format error)
         (W.contents output.old) (W.contents output.new) result }
 {
-    write_told(output, format, error)?;
+    write_refused(output, format, error)?;
     Ok(1)
 }
 
-/// Writes the line.
-fn write_told<W: Write>(output: &mut W, format: Format, error: Error) -> io::Result<()>
+/// Writes the line of an error, with its name and what it says.
+pub fn write_refused<W: Write>(output: &mut W, format: Format, error: Error) -> io::Result<()>
     ensures { Writes (W.contents output.old) (W.contents output.new) result
         (refusal_told format error).text }
 {

@@ -10,7 +10,7 @@ use Rattle.cfi_step.specs.declared.walk.End.TheVariants.{Failed}
 use Rattle.cfi_processes.specs.declared.mappings.MappedCode.{MappedCode}
 use Rattle.cfi_processes.specs.KnownFiles.{KnownFile}
 use Rattle.cfi_processes.specs.KernelSites.{kernel_site}
-use Rattle.cfi_programs.specs.JsonLines.{separated}
+use Rattle.cfi_programs.specs.JsonTexts.{separated}
 use Rattle.cfi_stacks.specs.Choices.{chooses, everything, limited}
 use Rattle.cfi_stacks.specs.FoldedTexts.{chain_names}
 use Rattle.cfi_stacks.specs.SampleOutputs.{chain_text}

@@ -2,8 +2,9 @@
 --     reason_of end      the reason why a walk has no more frames; none where its last frame is the
 --         outermost one
 --     reason_without why      the reason why a sample has no frames
+--     reason_for result      the reason by what was found of a stack
 --     end_line reason      its line
-use Rattle.std.specs.Prelude.{List, [], ◌∷◌, ◌++◌, ℕ, Option, Some, None, codes}
+use Rattle.std.specs.Prelude.{List, [], ◌∷◌, ◌++◌, ℕ, Option, Some, None, Result, Ok, Err, codes}
 use Rattle.cfi_read_core.specs.declared.error.Error.{Error}
 use Rattle.cfi_read_core.specs.RefusalNames.{name_of}
 use Rattle.cfi_expression.specs.declared.error.FrameError.{FrameError}
@@ -20,6 +21,7 @@ use Rattle.cfi_expression.specs.declared.error.FrameError.TheVariants.{Architect
 use Rattle.cfi_step.specs.declared.walk.End.{End}
 use Rattle.cfi_step.specs.declared.walk.End.TheVariants.{Outermost, NoModule, Failed, NotRising}
 use Rattle.cfi_step.specs.declared.walk.End.TheVariants.{NoRoom}
+use Rattle.cfi_step.specs.declared.walk.Walk.{Walk}
 use Rattle.cfi_processes.specs.declared.sample_stack.NoFrames.{NoFrames}
 use Rattle.cfi_processes.specs.declared.sample_stack.NoFrames.TheVariants.{NoRegisters, OtherAbi}
 use Rattle.cfi_processes.specs.declared.sample_stack.NoFrames.TheVariants.{NoProgramCounter}
@@ -88,6 +90,11 @@ reason_without NoProgramCounter =
     plain_reason (codes "NoProgramCounter") (codes "the program counter isn't known")
 reason_without NoStackPointer =
     plain_reason (codes "NoStackPointer") (codes "the stack pointer isn't known")
+
+-- why the walk has no more frames, or none
+abbrev pub reason_for : Result Walk NoFrames → Option Reason
+reason_for (Ok walk) = reason_of walk.end
+reason_for (Err why) = Some (reason_without why)
 
 -- ---- its line
 

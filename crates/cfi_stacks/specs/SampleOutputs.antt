@@ -3,7 +3,7 @@
 --     sample_in_format style in_kernel files list name time s result room      its text, or its
 --         object of JSON
 use Rattle.std.specs.Prelude.{ℕ, Bool, true, false, List, [], ◌∷◌, ◌++◌, Option, Some, None, Result}
-use Rattle.std.specs.Prelude.{Ok, Err, codes, if◌then◌else◌}
+use Rattle.std.specs.Prelude.{codes, if◌then◌else◌}
 use Rattle.std.specs.List.{flat_map}
 use Rattle.cfi_perf.specs.Samples.{Sample, kernel_frames, user_frames}
 use Rattle.cfi_step.specs.declared.walk.StackFrame.{StackFrame}
@@ -15,9 +15,9 @@ use Rattle.cfi_processes.specs.Sites.{site_of}
 use Rattle.cfi_processes.specs.Sites.{Site}
 use Rattle.cfi_programs.specs.declared.style.Format.{Format}
 use Rattle.cfi_programs.specs.declared.style.Format.TheVariants.{Json, Text}
-use Rattle.cfi_programs.specs.JsonLines.{separated}
+use Rattle.cfi_programs.specs.JsonTexts.{separated}
 use Rattle.cfi_stacks.specs.declared.listing.StackStyle.{StackStyle}
-use Rattle.cfi_stacks.specs.Reasons.{Reason, reason_of, reason_without}
+use Rattle.cfi_stacks.specs.Reasons.{Reason, reason_for}
 use Rattle.cfi_stacks.specs.FrameObjects.{chain_frame, object_end}
 use Rattle.cfi_stacks.specs.SampleMembers.{sample_head}
 use Rattle.cfi_stacks.specs.SampleHeads.{head_line}
@@ -76,11 +76,6 @@ abbrev pub all_objects :
 all_objects raw in_kernel files list s result room =
     chain_objects raw true in_kernel (kernel_frames s)
     ++ user_objects raw files list s result room
-
--- why the walk has no more frames, or none
-abbrev pub reason_for : Result Walk NoFrames → Option Reason
-reason_for (Ok walk) = reason_of walk.end
-reason_for (Err why) = Some (reason_without why)
 
 -- a call chain has no reason
 abbrev pub sample_reason : Sample → Result Walk NoFrames → Option Reason

@@ -10,10 +10,11 @@ use Rattle.cfi_processes.specs.declared.registers.SampleMachine.{SampleMachine}
 use Rattle.cfi_processes.specs.declared.sample_stack.NoFrames.{NoFrames}
 use Rattle.cfi_processes.specs.KnownFiles.{KnownFile}
 use Rattle.cfi_cores.specs.CoreThreads.{CoreThread}
-use Rattle.cfi_programs.specs.JsonLines.{separated}
+use Rattle.cfi_programs.specs.JsonTexts.{separated}
 use Rattle.cfi_stacks.specs.declared.listing.ThreadListing.{ThreadListing}
 use Rattle.cfi_stacks.specs.FrameObjects.{object_end}
-use Rattle.cfi_stacks.specs.SampleOutputs.{in_format, reason_for}
+use Rattle.cfi_stacks.specs.SampleOutputs.{in_format}
+use Rattle.cfi_stacks.specs.Reasons.{reason_for}
 use Rattle.cfi_stacks.specs.ThreadMembers.{thread_head}
 use Rattle.cfi_stacks.specs.WalkLines.{walk_text}
 use Rattle.cfi_stacks.specs.WalkObjects.{walk_objects}

@@ -9,7 +9,7 @@ ghost use Rattle.cfi_stacks.specs.ThreadOutputs.{thread_object};
 
 use crate::frame_objects::write_object_end;
 use crate::listing::FrameStyle;
-use crate::sample_object::reason_for;
+use crate::reasons::reason_for;
 use crate::thread_members::write_thread_head;
 use crate::walk_objects::write_walk;
 use cfi_cores::CoreThread;

@@ -1,11 +1,10 @@
-//! The frames of a stack as objects of JSON (RFC 8259).
-ghost use Rattle.std.specs.Prelude.{◌≡◌, ◌++◌, OnOk, Some, codes, map, option_map};
+//! The frames of a stack as objects of JSON (RFC 8259), and the end of the stack's object.
+ghost use Rattle.std.specs.Prelude.{◌≡◌, ◌++◌, OnOk, Some, map, option_map};
 ghost use Rattle.cfi_elf.specs.FunctionPlaces.{place_view};
 ghost use Rattle.cfi_processes.specs.KnownFiles.{known_view};
 ghost use Rattle.cfi_processes.specs.Sites.{site_of};
 ghost use Rattle.cfi_processes.specs.Mappings.{AreMappedInOrder};
 ghost use Rattle.cfi_processes.specs.Sites.{site_view};
-ghost use Rattle.cfi_programs.specs.JsonLines.{json_name};
 ghost use Rattle.cfi_programs.specs.WriterOutput.{Writes};
 ghost use Rattle.cfi_stacks.specs.Reasons.{reason_view};
 ghost use Rattle.cfi_stacks.specs.FrameObjects.{file_member, frame_object, function_members};
@@ -18,7 +17,7 @@ use cfi_processes::process_code::ProcessCode;
 use cfi_processes::{Name, Site};
 use cfi_programs::json::push_number;
 use cfi_programs::lines::{write_between, write_text};
-use cfi_programs::names::write_json_name;
+use cfi_programs::names::{write_json_name, write_name_member};
 use cfi_programs::numbers::push_address;
 use cfi_programs::text::{Text, push};
 use std::io::Write;
@@ -129,18 +128,8 @@ fn write_file_member<W: Write>(output: &mut W, name: Option<Name<'_>>) -> io::Re
 {
     match name {
         None => Ok(()),
-        Some(name) => write_named(output, b",\"file\":\"", name.bytes),
+        Some(name) => write_name_member(output, b",\"file\":\"", name.bytes),
     }
-}
-
-/// Writes a name as the rest of a string whose beginning this is.
-pub(crate) fn write_named<W: Write>(output: &mut W, before: &[u8], name: &[u8]) -> io::Result<()>
-    ensures { Writes (W.contents output.old) (W.contents output.new) result
-        (before.now ++ (json_name name.now ++ codes "\"")) }
-{
-    write_text(output, before)?;
-    write_json_name(output, name)?;
-    write_text(output, b"\"")
 }
 
 /// Writes the end of the object of a stack: why there are no more frames, if there is a reason.

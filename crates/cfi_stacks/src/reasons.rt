@@ -3,11 +3,11 @@ ghost use Rattle.std.specs.Prelude.{◌≡◌, ◌++◌, [], ◌∷◌, Some, co
 ghost use Rattle.cfi_read_core.specs.RefusalNames.{name_of};
 ghost use Rattle.cfi_programs.specs.WriterOutput.{Writes};
 ghost use Rattle.cfi_stacks.specs.Reasons.{end_line, reason_of, reason_of_error, reason_view};
-ghost use Rattle.cfi_stacks.specs.Reasons.{reason_without};
+ghost use Rattle.cfi_stacks.specs.Reasons.{reason_for, reason_without};
 
 use cfi_processes::sample_stack::NoFrames;
 use cfi_programs::lines::write_part;
-use cfi_step::{End, FrameError};
+use cfi_step::{End, FrameError, Walk};
 use gimli_cfi::Error;
 use std::io;
 use std::io::Write;
@@ -48,6 +48,16 @@ pub fn reason_without(why: NoFrames) -> Reason
         ),
         NoFrames::NoProgramCounter => named("NoProgramCounter", "the program counter isn't known"),
         NoFrames::NoStackPointer => named("NoStackPointer", "the stack pointer isn't known"),
+    }
+}
+
+/// Why a walk has no more frames, or none at all.
+pub(crate) fn reason_for(found: Result<Walk, NoFrames>) -> Option<Reason>
+    ensures { option_map reason_view result ≡ reason_for found }
+{
+    match found {
+        Ok(walk) => reason_of(walk.end),
+        Err(why) => Some(reason_without(why)),
     }
 }
 

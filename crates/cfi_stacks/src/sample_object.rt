@@ -6,9 +6,9 @@ ghost use Rattle.cfi_perf.specs.Samples.{kernel_frames, sample_view};
 ghost use Rattle.cfi_processes.specs.KnownFiles.{known_view};
 ghost use Rattle.cfi_processes.specs.KernelSites.{chain_site};
 ghost use Rattle.cfi_processes.specs.Mappings.{AreMappedInOrder};
-ghost use Rattle.cfi_programs.specs.JsonLines.{separated};
+ghost use Rattle.cfi_programs.specs.JsonTexts.{separated};
 ghost use Rattle.cfi_programs.specs.WriterOutput.{Writes};
-ghost use Rattle.cfi_stacks.specs.SampleOutputs.{all_objects, chain_objects, reason_for};
+ghost use Rattle.cfi_stacks.specs.SampleOutputs.{all_objects, chain_objects};
 ghost use Rattle.cfi_stacks.specs.SampleOutputs.{sample_object, sample_reason, user_objects};
 ghost use Rattle.cfi_stacks.specs.Reasons.{reason_view};
 ghost use Rattle.cfi_stacks.specs.FrameObjects.{closing, comma_before, is_nil};
@@ -16,7 +16,7 @@ ghost use Rattle.cfi_stacks.specs.TakenSamples.{of_taken, taken_view};
 
 use crate::frame_objects::{write_frame_object, write_object_end};
 use crate::listing::FrameStyle;
-use crate::reasons::{Reason, reason_of, reason_without};
+use crate::reasons::{Reason, reason_for};
 use crate::sample_members::write_sample_head;
 use crate::taken_sample::TakenSample;
 use crate::walk_objects::write_walk;
@@ -154,15 +154,5 @@ fn sample_reason(sample: &Sample<'_>, found: Result<Walk, NoFrames>) -> Option<R
         reason_for(found)
     } else {
         None
-    }
-}
-
-/// Why a walk has no more frames, or none at all.
-pub(crate) fn reason_for(found: Result<Walk, NoFrames>) -> Option<Reason>
-    ensures { option_map reason_view result ≡ reason_for found }
-{
-    match found {
-        Ok(walk) => reason_of(walk.end),
-        Err(why) => Some(reason_without(why)),
     }
 }

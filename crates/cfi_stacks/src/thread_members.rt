@@ -6,12 +6,12 @@ ghost use Rattle.cfi_programs.specs.WriterOutput.{Writes};
 ghost use Rattle.cfi_stacks.specs.ThreadMembers.{fault_members, process_member, signal_members};
 ghost use Rattle.cfi_stacks.specs.ThreadMembers.{signal_name_member, thread_head, tid_and_signal};
 
-use crate::frame_objects::write_named;
 use crate::signals::signal_name;
 use cfi_cores::{CoreThread, Fault};
 use cfi_processes::Name;
 use cfi_programs::json::push_number;
 use cfi_programs::lines::write_text;
+use cfi_programs::names::write_name_member;
 use cfi_programs::numbers::push_address;
 use cfi_programs::text::{Text, push};
 use std::io::Write;
@@ -109,6 +109,6 @@ fn write_process_member<W: Write>(output: &mut W, name: Option<Name<'_>>) -> io:
 {
     match name {
         None => Ok(()),
-        Some(name) => write_named(output, b",\"process\":\"", name.bytes),
+        Some(name) => write_name_member(output, b",\"process\":\"", name.bytes),
     }
 }

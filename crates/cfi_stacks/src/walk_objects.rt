@@ -3,7 +3,7 @@ ghost use Rattle.std.specs.Prelude.{◌≡◌, ◌≤◌, ◌++◌, IfOk, OnOk, 
 ghost use Rattle.cfi_processes.specs.KnownFiles.{known_view};
 ghost use Rattle.cfi_processes.specs.Sites.{site_of};
 ghost use Rattle.cfi_processes.specs.Mappings.{AreMappedInOrder};
-ghost use Rattle.cfi_programs.specs.JsonLines.{separated};
+ghost use Rattle.cfi_programs.specs.JsonTexts.{separated};
 ghost use Rattle.cfi_programs.specs.WriterOutput.{Writes};
 ghost use Rattle.cfi_stacks.specs.FrameObjects.{comma_before, frame_address};
 ghost use Rattle.cfi_stacks.specs.WalkObjects.{frame_opening, stack_objects, walk_frame};

@@ -13,10 +13,12 @@ use Rattle.cfi_state.specs.Row.{Row}
 use Rattle.cfi_state.specs.MachineSettings.{Setting, is_move}
 use Rattle.cfi_state.specs.Machine.{State, fresh_state, step, end_of_cie}
 use Rattle.cfi_state.specs.Program.{Program, in_cie, in_fde, followed_by, location_of, refusal, refusal_at_end}
-use Rattle.cfi_state.specs.FdeAnswers.{or_refused, on_option, row_until, rows_ended, answers_of, first_refusal, cie_refusal, program_state, IsStateAfter}
+use Rattle.cfi_state.specs.FdeAnswers.{row_until, rows_ended, answers_of, first_refusal, cie_refusal, program_state, IsStateAfter}
+use Rattle.cfi_state.specs.Cases.{or_refused, on_option}
 use Rattle.cfi_state.specs.AllocatingOperations.{IsRefusal}
 use Rattle.cfi_state.specs.UnwindTableStates.{TableState, before_last_row, after_last_row, answers_to_come, IsNext}
-use Rattle.cfi_state.specs.MachineRuns.{MayAllocate, AreNever, current_row, NextAnswer, passes, ends_row, refuses, cannot_read, last_row, no_row, RunsInitialInstructions, cie_passes, cie_refuses, cie_cannot_read, cie_ends, cie_end_refused, FindsRow, contains_it, goes_on, is_refused, comes_to_end, AnswersFde, by_cie, by_rows}
+use Rattle.cfi_state.specs.MachineRuns.{current_row, NextAnswer, passes, ends_row, refuses, cannot_read, last_row, no_row, RunsInitialInstructions, cie_passes, cie_refuses, cie_cannot_read, cie_ends, cie_end_refused, FindsRow, contains_it, goes_on, is_refused, comes_to_end, AnswersFde, by_cie, by_rows}
+use Rattle.cfi_state.specs.Allocation.{MayAllocate, AreNever}
 use Rattle.cfi_state.specs.AcceptedInstructions.{at_program, AnswersForProgram, IsLeftOut, NextAcceptedAnswer, keeps, keeps_move, leaves_out, finds_unreadable, gives_last_row, gives_no_row, AcceptsInitialInstructions, cie_keeps, cie_leaves_out, cie_finds_unreadable, cie_is_kept, cie_end_left_out, AnswersByAccepted, refused_by_cie, found_in_rows}
 use Rattle.cfi_state.proofs.Law.{step_law}
 use Rattle.cfi_state.proofs.CieEnd.{end_law}

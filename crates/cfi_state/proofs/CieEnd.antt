@@ -15,7 +15,8 @@ use Rattle.cfi_state.specs.Machine.{Parts, State, rows_held, end_of_cie}
 use Rattle.cfi_state.specs.RememberedStates.{survivors, before_open}
 use Rattle.cfi_state.specs.LastWriters.{last_written, written_rule, writes_rule, rule_after_toggles, final_toggles, final_rule, final_rules, final_parts}
 use Rattle.cfi_state.specs.Program.{Program, in_cie, in_fde, followed_by, no_rule, parts_of, rule_count, is_stack_full, refusal, refusal_at_end, IsAccepted, nothing, one_more, cie_ended}
-use Rattle.cfi_state.specs.FdeAnswers.{or_refused, program_state}
+use Rattle.cfi_state.specs.FdeAnswers.{program_state}
+use Rattle.cfi_state.specs.Cases.{or_refused}
 use Rattle.cfi_state.proofs.RememberedStateCounts.{closings}
 use Rattle.cfi_state.proofs.RememberedStateEnds.{is_gone, left, stays_open, fronts, map_twice}
 use Rattle.cfi_state.proofs.RememberedStatePlaces.{survivors-left, before_open-fronts}

@@ -14,7 +14,8 @@ use Rattle.cfi_state.specs.declared.table.rules.RegisterRule.TheVariants as rule
 use Rattle.cfi_state.specs.Row.{Row}
 use Rattle.cfi_state.specs.MachineSettings.{Setting}
 use Rattle.cfi_state.specs.Program.{in_fde}
-use Rattle.cfi_state.specs.FdeAnswers.{answers, cie_refusal, run_answers, run_cie, or_refused, on_result, program_state}
+use Rattle.cfi_state.specs.FdeAnswers.{answers, cie_refusal, run_answers, run_cie, program_state}
+use Rattle.cfi_state.specs.Cases.{or_refused, on_result}
 use Rattle.cfi_state.proofs.IsStateAfter.{run_law, cie_law, cie_accepted}
 use Rattle.cfi_state.proofs.RuleMaps.{map_values}
 

@@ -7,7 +7,7 @@ use Rattle.cfi_state.specs.Actions.{Action, gives_rule, restores_rule, toggles_s
 use Rattle.cfi_state.specs.MachineSettings.{Setting, ra_sign_state}
 use Rattle.cfi_state.specs.Machine.{State}
 use Rattle.cfi_state.specs.Allocation.{adds_rule, copies_row, has_initial_rule, may_allocate_for}
-use Rattle.cfi_state.specs.MachineRuns.{AreNever, may_allocate}
+use Rattle.cfi_state.specs.Allocation.{AreNever, may_allocate}
 
 and_false : (b : Bool) → (b && false) ≡ false
 and_false true = refl

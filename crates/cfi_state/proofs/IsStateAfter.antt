@@ -8,7 +8,8 @@ use Rattle.cfi_read_core.specs.declared.instruction.CallFrameInstruction.{CallFr
 use Rattle.cfi_state.specs.MachineSettings.{Setting}
 use Rattle.cfi_state.specs.Machine.{State, fresh_state, step, end_of_cie}
 use Rattle.cfi_state.specs.Program.{Program, in_cie, in_fde, followed_by, refusal, refusal_at_end, IsAccepted, nothing, one_more, cie_ended}
-use Rattle.cfi_state.specs.FdeAnswers.{or_refused, on_result, on_option, rows_ended, row_ended, answers_of, first_refusal, cie_refusal, run_answers_of, run_all, run_cie, program_state, IsStateAfter}
+use Rattle.cfi_state.specs.FdeAnswers.{rows_ended, row_ended, answers_of, first_refusal, cie_refusal, run_answers_of, run_all, run_cie, program_state, IsStateAfter}
+use Rattle.cfi_state.specs.Cases.{or_refused, on_result, on_option}
 use Rattle.cfi_state.proofs.Law.{step_law, fresh_law}
 use Rattle.cfi_state.proofs.CieEnd.{end_law}
 

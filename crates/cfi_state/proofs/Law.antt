@@ -22,7 +22,8 @@ use Rattle.cfi_state.specs.Machine.{Rules, Parts, State, fresh_state, copies_hel
 use Rattle.cfi_state.specs.RememberedStates.{survivors, open_indices, before_open}
 use Rattle.cfi_state.specs.LastWriters.{last_written, written_cfa, written_cfa_register, written_cfa_offset, written_args_size, written_register, written_rule, names, cfa_from, final_cfa, final_args_size, rule_before_toggles, final_toggles, constant_or_zero, final_rule, final_rules, final_parts}
 use Rattle.cfi_state.specs.Program.{Program, in_cie, in_fde, refused_if, instructions, followed_by, location_of, no_rule, initial_rule, rule_of, parts_of, open_count, extra_count, is_stack_full, is_expression, is_no_constant, has_no_room, refusal_of, refusal, IsAccepted, nothing, one_more, cie_ended}
-use Rattle.cfi_state.specs.FdeAnswers.{or_refused, initial_rules_of, remembered_of, program_state}
+use Rattle.cfi_state.specs.FdeAnswers.{initial_rules_of, remembered_of, program_state}
+use Rattle.cfi_state.specs.Cases.{or_refused}
 use Rattle.cfi_state.proofs.RememberedStateCounts.{closing, closings, opens, closings-append}
 use Rattle.cfi_state.proofs.RememberedStateEnds.{left, fronts, left-append, fronts-append, closings_before, length-fronts, restored, no_length}
 use Rattle.cfi_state.proofs.RememberedStatePlaces.{survivors-left, before_open-fronts, open_places-length}

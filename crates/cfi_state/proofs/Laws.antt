@@ -20,11 +20,13 @@ use Rattle.cfi_read_core.specs.declared.instruction.CallFrameInstruction.{CallFr
 use Rattle.cfi_state.specs.Row.{Row, row_contains}
 use Rattle.cfi_state.specs.MachineSettings.{Setting, is_move}
 use Rattle.cfi_state.specs.Machine.{State}
-use Rattle.cfi_state.specs.MachineRuns.{MayAllocate, AreNever, AnswersFde}
+use Rattle.cfi_state.specs.MachineRuns.{AnswersFde}
+use Rattle.cfi_state.specs.Allocation.{MayAllocate, AreNever}
 use Rattle.cfi_state.specs.AcceptedInstructions.{AnswersByAccepted}
 use Rattle.cfi_state.specs.MemoryOnTheWay.{AnswersOrRunsOut}
 use Rattle.cfi_state.specs.Program.{Program, in_fde, followed_by, location_of, refusal}
-use Rattle.cfi_state.specs.FdeAnswers.{or_refused, on_option, on_result, refusals, row_until, answers_of, answers, cie_refusal, run_answers, program_state, IsStateAfter, rows_of, AreConsecutive, answer_at, fde_answer, run_fde_answer}
+use Rattle.cfi_state.specs.FdeAnswers.{refusals, row_until, answers_of, answers, cie_refusal, run_answers, program_state, IsStateAfter, rows_of, AreConsecutive, answer_at, fde_answer, run_fde_answer}
+use Rattle.cfi_state.specs.Cases.{or_refused, on_option, on_result}
 use Rattle.cfi_state.proofs.Law.{location_push}
 use Rattle.cfi_state.proofs.IsStateAfter.{cie_law, cie_accepted, run_law}
 use Rattle.cfi_state.proofs.AcceptedAnswers.{answers-other, answers-move, answers-refused, answers_by_kept}

@@ -13,7 +13,8 @@ use Rattle.cfi_state.specs.Machine.{State, no_rules}
 use Rattle.cfi_state.specs.UnwindTableStates.{TableState, before_last_row, after_last_row}
 use Rattle.cfi_state.proofs.RuleMaps.{map_values}
 use Rattle.cfi_state.specs.MemoryOnTheWay.{may_allocate_on_the_way}
-use Rattle.cfi_state.specs.MachineRuns.{NextAnswer, passes, refuses, last_row, may_allocate}
+use Rattle.cfi_state.specs.MachineRuns.{NextAnswer, passes, refuses, last_row}
+use Rattle.cfi_state.specs.Allocation.{may_allocate}
 
 -- no limits, and copies of rules allocate; the FDE covers 0x1000 up to 0x1020
 abbrev growing : Setting

@@ -16,9 +16,11 @@ use Rattle.cfi_state.specs.Row.{Row, row_contains}
 use Rattle.cfi_state.specs.Actions.{Action, sets_location, advances_location, action}
 use Rattle.cfi_state.specs.MachineSettings.{Setting, location_after, moves, next_location, is_move}
 use Rattle.cfi_state.specs.Program.{Program, in_cie, in_fde, followed_by, refused_if, location_of, refusal_of, refusal, refusal_at_end}
-use Rattle.cfi_state.specs.FdeAnswers.{or_refused, on_option, row_until, answers_of, answer_at, answers, first_refusal, cie_refusal, program_state}
+use Rattle.cfi_state.specs.FdeAnswers.{row_until, answers_of, answer_at, answers, first_refusal, cie_refusal, program_state}
+use Rattle.cfi_state.specs.Cases.{or_refused, on_option}
 use Rattle.cfi_state.specs.UnwindTableStates.{TableState, before_last_row, after_last_row, answers_to_come, IsNext}
-use Rattle.cfi_state.specs.MachineRuns.{MayAllocate, AreNever, FindsRow, contains_it, goes_on, is_refused, comes_to_end}
+use Rattle.cfi_state.specs.MachineRuns.{FindsRow, contains_it, goes_on, is_refused, comes_to_end}
+use Rattle.cfi_state.specs.Allocation.{MayAllocate, AreNever}
 use Rattle.cfi_state.specs.AcceptedInstructions.{IsLeftOut, NextAcceptedAnswer, keeps, keeps_move, leaves_out, finds_unreadable, gives_last_row, gives_no_row, AcceptsInitialInstructions, cie_keeps, cie_leaves_out, cie_finds_unreadable, cie_is_kept, cie_end_left_out, AnswersByAccepted, refused_by_cie, found_in_rows}
 use Rattle.cfi_state.specs.MemoryOnTheWay.{has_passed, reaches_allocation, may_allocate_on_the_way, AnswersOrRunsOut}
 use Rattle.cfi_state.proofs.Law.{location_push}

@@ -23,7 +23,8 @@ use Rattle.cfi_state.specs.Machine.{Rules, Parts, State, fresh_state, with_rules
 use Rattle.cfi_state.specs.MappedStates.{map_rule, map_cfa, map_parts}
 use Rattle.cfi_state.specs.Row.{Row}
 use Rattle.cfi_state.specs.UnwindTableStates.{TableState, before_last_row}
-use Rattle.cfi_state.specs.MachineRuns.{MayAllocate, NextAnswer, passes, ends_row, refuses, cannot_read, last_row, no_row, RunsInitialInstructions, cie_passes, cie_refuses, cie_cannot_read, cie_ends, cie_end_refused, FindsRow, contains_it, goes_on, is_refused, comes_to_end, AnswersFde, by_cie, by_rows}
+use Rattle.cfi_state.specs.MachineRuns.{NextAnswer, passes, ends_row, refuses, cannot_read, last_row, no_row, RunsInitialInstructions, cie_passes, cie_refuses, cie_cannot_read, cie_ends, cie_end_refused, FindsRow, contains_it, goes_on, is_refused, comes_to_end, AnswersFde, by_cie, by_rows}
+use Rattle.cfi_state.specs.Allocation.{MayAllocate}
 use Rattle.cfi_state.specs.RowExpressions.{cfa_expression, rule_expression, EachOfRules, EachExpression, EachOfState, EachOfTable}
 use Rattle.cfi_state.proofs.MappedMaps.{get-map_values}
 

@@ -7,10 +7,12 @@ use Rattle.cfi_read_core.specs.declared.instruction.CallFrameInstruction.{CallFr
 use Rattle.cfi_state.specs.Row.{Row}
 use Rattle.cfi_state.specs.MachineSettings.{Setting, is_move}
 use Rattle.cfi_state.specs.Machine.{State, step}
-use Rattle.cfi_state.specs.FdeAnswers.{on_result, row_ended, run_answers_of, answer_at}
+use Rattle.cfi_state.specs.FdeAnswers.{row_ended, run_answers_of, answer_at}
+use Rattle.cfi_state.specs.Cases.{on_result}
 use Rattle.cfi_state.specs.AllocatingOperations.{IsRefusal}
 use Rattle.cfi_state.specs.UnwindTableStates.{TableState, before_last_row, run_answers_to_come, IsNext}
-use Rattle.cfi_state.specs.MachineRuns.{MayAllocate, AreNever, NextAnswer, passes, ends_row, refuses, cannot_read, last_row, no_row, FindsRow, contains_it, goes_on, is_refused, comes_to_end}
+use Rattle.cfi_state.specs.MachineRuns.{NextAnswer, passes, ends_row, refuses, cannot_read, last_row, no_row, FindsRow, contains_it, goes_on, is_refused, comes_to_end}
+use Rattle.cfi_state.specs.Allocation.{MayAllocate, AreNever}
 
 -- ---- what one step does to the answers of a run
 

@@ -11,7 +11,8 @@ use Rattle.cfi_state.specs.MachineSettings.{Setting, is_move}
 use Rattle.cfi_state.specs.Machine.{State, step, end_of_cie}
 use Rattle.cfi_state.specs.AllocatingOperations.{IsRefusal}
 use Rattle.cfi_state.specs.UnwindTableStates.{TableState, before_last_row}
-use Rattle.cfi_state.specs.MachineRuns.{MayAllocate, current_row, NextAnswer, passes, ends_row, RunsInitialInstructions, cie_passes, cie_refuses, cie_cannot_read, cie_ends, cie_end_refused}
+use Rattle.cfi_state.specs.MachineRuns.{current_row, NextAnswer, passes, ends_row, RunsInitialInstructions, cie_passes, cie_refuses, cie_cannot_read, cie_ends, cie_end_refused}
+use Rattle.cfi_state.specs.Allocation.{MayAllocate}
 
 module _ {T : Type 0} (allocates : MayAllocate T) (s : Setting) where
   -- ---- the rows of an FDE

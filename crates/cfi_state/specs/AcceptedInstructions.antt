@@ -18,7 +18,8 @@ use Rattle.cfi_state.specs.Program.{Program, in_cie, in_fde, followed_by, locati
 use Rattle.cfi_state.specs.Program.{refusal_at_end}
 use Rattle.cfi_state.specs.FdeAnswers.{row_until, program_state, IsStateAfter}
 use Rattle.cfi_state.specs.UnwindTableStates.{TableState, before_last_row, after_last_row}
-use Rattle.cfi_state.specs.MachineRuns.{MayAllocate, FindsRow}
+use Rattle.cfi_state.specs.MachineRuns.{FindsRow}
+use Rattle.cfi_state.specs.Allocation.{MayAllocate}
 
 -- the error of an instruction that is left out
 abbrev pub IsLeftOut : Bool → Option Error → Error → Type 0

@@ -1,14 +1,29 @@
 -- Where an instruction may allocate: where a list without a limit grows, or where a row is copied
 -- and copies allocate. `copies_free` says that copies of a row's rules do not.
+--     MayAllocate      whether an instruction, and the end of a CIE's initial ones, may allocate
+--     AreNever allocates      none may
+--     may_allocate setting copies_free      whether they may over a storage
 --     may_allocate_at      whether an instruction may allocate in a state
 --     may_allocate_at_end      whether the end of a CIE's initial instructions may
-use Rattle.std.specs.Prelude.{ℕ, Bool, false, not, ◌&&◌, ◌||◌, nat_le, Option, Some, None, is_some}
+use Rattle.std.specs.Prelude.{◌≡◌, ℕ, nat_le, Bool, false, not, ◌&&◌, ◌||◌, Option, Some, None}
+use Rattle.std.specs.Prelude.{is_some}
 use Rattle.std.specs.FinMap as map
 use Rattle.cfi_read_core.specs.declared.instruction.CallFrameInstruction.{CallFrameInstruction}
 use Rattle.cfi_state.specs.Actions.{Action, gives_rule, restores_rule, toggles_sign_state}
 use Rattle.cfi_state.specs.Actions.{remembers_state, action}
 use Rattle.cfi_state.specs.MachineSettings.{Setting, ra_sign_state}
 use Rattle.cfi_state.specs.Machine.{Rules, State}
+
+-- where an instruction, and where the end of the CIE's initial instructions, may allocate
+pub record MayAllocate (T : Type 0) : Type 0 where
+  pub at : State T → CallFrameInstruction T → Bool
+  pub at_end : State T → Bool
+
+-- nowhere
+pub record AreNever {T : Type 0} (allocates : MayAllocate T) : Type 0 where
+  pub at : (state : State T) (instruction : CallFrameInstruction T)
+      → allocates.at state instruction ≡ false
+  pub at_end : (state : State T) → allocates.at_end state ≡ false
 
 -- a row is copied onto the stack
 abbrev pub copies_row : Setting → Bool → Bool
@@ -42,3 +57,10 @@ module _ {T : Type 0} where
   abbrev pub may_allocate_at_end : Setting → Bool → State T → Bool
   may_allocate_at_end setting copies_free state =
       nat_le 1 (map.len state.parts.rules) && not (is_some setting.rule_limit || copies_free)
+
+  -- over a storage, by its limits and by whether copies of its rules do not allocate
+  abbrev pub may_allocate : Setting → Bool → MayAllocate T
+  may_allocate setting copies_free = record {
+    at = may_allocate_at setting copies_free;
+    at_end = may_allocate_at_end setting copies_free;
+  }

@@ -13,6 +13,7 @@ use Rattle.cfi_read_core.specs.ReadFunctions.{Readings}
 use Rattle.cfi_read_core.specs.declared.error.Error.{Error}
 use Rattle.cfi_read_core.specs.declared.error.Error.TheVariants.{NoUnwindInfoForAddress}
 use Rattle.cfi_read_core.specs.declared.instruction.CallFrameInstruction.{CallFrameInstruction}
+use Rattle.cfi_state.specs.Cases.{on_option, on_result}
 use Rattle.cfi_state.specs.Row.{Row, row_contains}
 use Rattle.cfi_state.specs.MachineSettings.{Setting, is_move}
 use Rattle.cfi_state.specs.Machine.{Rules, Parts, State, fresh_state, step, end_of_cie}
@@ -21,18 +22,6 @@ use Rattle.cfi_state.specs.LastWriters.{final_rules, final_parts}
 use Rattle.cfi_state.specs.Program.{Program, in_cie, in_fde, instructions, followed_by, location_of}
 use Rattle.cfi_state.specs.Program.{no_rule, initial_rule, parts_of, refusal, refusal_at_end}
 use Rattle.cfi_state.specs.Program.{IsAccepted}
-
-abbrev pub or_refused : {A : Type 0} → Option Error → A → Result A Error
-or_refused None value = Ok value
-or_refused (Some error) value = Err error
-
-abbrev pub on_result : {A E B : Type 0} → (A → B) → (E → B) → Result A E → B
-on_result on_ok on_err (Ok value) = on_ok value
-on_result on_ok on_err (Err error) = on_err error
-
-abbrev pub on_option : {A B : Type 0} → B → (A → B) → Option A → B
-on_option on_none on_some None = on_none
-on_option on_none on_some (Some value) = on_some value
 
 module _ {T : Type 0} where
   abbrev pub refusals : Option Error → List (Result (Row T) Error)

@@ -9,6 +9,7 @@ pub mod Allocation
 pub mod RememberedStates
 pub mod LastWriters
 pub mod Program
+pub mod Cases
 pub mod FdeAnswers
 pub mod MappedStates
 pub mod MemoryOnTheWay

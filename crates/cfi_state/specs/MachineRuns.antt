@@ -1,11 +1,10 @@
 -- What the machine returns where it may run out of memory: then an instruction that would be
 -- accepted may be refused with `OutOfMemory`, and is left out. Where no instruction runs out of
 -- memory, these are the results of `FdeAnswers`.
---     MayAllocate      where an instruction, or the end of a CIE's initial ones, may allocate
 --     NextAnswer      the next result of a table, and the table after it
 --     RunsInitialInstructions      a CIE's initial instructions, run from a state
 --     FindsRow, AnswersFde      the result for an address
-use Rattle.std.specs.Prelude.{◌≡◌, ℕ, Bool, true, false, Option, Some, None, Result, Ok, Err}
+use Rattle.std.specs.Prelude.{◌≡◌, ℕ, true, false, Option, Some, None, Result, Ok, Err}
 use Rattle.cfi_read_core.specs.ReadFunctions.{Readings, with_first, no_values}
 use Rattle.cfi_read_core.specs.declared.error.Error.{Error}
 use Rattle.cfi_read_core.specs.declared.error.Error.TheVariants.{NoUnwindInfoForAddress}
@@ -14,19 +13,8 @@ use Rattle.cfi_state.specs.Row.{Row, row_contains}
 use Rattle.cfi_state.specs.MachineSettings.{Setting, is_move}
 use Rattle.cfi_state.specs.Machine.{State, fresh_state, step, end_of_cie}
 use Rattle.cfi_state.specs.AllocatingOperations.{IsRefusal}
-use Rattle.cfi_state.specs.Allocation.{may_allocate_at, may_allocate_at_end}
+use Rattle.cfi_state.specs.Allocation.{MayAllocate}
 use Rattle.cfi_state.specs.UnwindTableStates.{TableState, before_last_row, after_last_row}
-
--- where an instruction, and where the end of the CIE's initial instructions, may allocate
-pub record MayAllocate (T : Type 0) : Type 0 where
-  pub at : State T → CallFrameInstruction T → Bool
-  pub at_end : State T → Bool
-
--- nowhere
-pub record AreNever {T : Type 0} (allocates : MayAllocate T) : Type 0 where
-  pub at : (state : State T) (instruction : CallFrameInstruction T)
-      → allocates.at state instruction ≡ false
-  pub at_end : (state : State T) → allocates.at_end state ≡ false
 
 module _ {T : Type 0} where
   abbrev pub current_row : State T → ℕ → Row T
@@ -123,10 +111,3 @@ module _ {T : Type 0} where
         → RunsInitialInstructions allocates setting fresh_state cie (Ok state)
         → FindsRow (NextAnswer allocates setting) address (before_last_row state fde) result
         → AnswersFde allocates setting cie fde address result
-
-  -- over a storage, by its limits and by whether copies of its rules do not allocate
-  abbrev pub may_allocate : Setting → Bool → MayAllocate T
-  may_allocate setting copies_free = record {
-    at = may_allocate_at setting copies_free;
-    at_end = may_allocate_at_end setting copies_free;
-  }

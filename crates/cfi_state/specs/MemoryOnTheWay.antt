@@ -14,7 +14,7 @@ use Rattle.cfi_state.specs.Row.{Row}
 use Rattle.cfi_state.specs.MachineSettings.{Setting}
 use Rattle.cfi_state.specs.Program.{Program, in_cie, in_fde, followed_by, location_of, refusal}
 use Rattle.cfi_state.specs.FdeAnswers.{cie_refusal, program_state, fde_answer}
-use Rattle.cfi_state.specs.MachineRuns.{MayAllocate}
+use Rattle.cfi_state.specs.Allocation.{MayAllocate}
 
 module _ {T : Type 0} where
   -- the rows that have ended reach from the FDE's initial address up to the location; a CIE's

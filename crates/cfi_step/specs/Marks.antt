@@ -1,6 +1,6 @@
 -- What takes a few bits each in a packed row: from the lowest bit on four bits for the count of its
--- rules, two for each pointer, one for a signal trampoline, one for a row, and six for the size of
--- pushed arguments in words of eight bytes.
+-- rules, two for the LSDA's pointer, two for the personality's, one for a signal trampoline, one
+-- for a row, and six for the size of pushed arguments in words of eight bytes.
 --     rule_count, lsda_kind, personality_kind, is_trampoline, has_row, args_size marks      each of
 --         them
 --     is_plain marks      neither pointer is there

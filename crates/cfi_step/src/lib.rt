@@ -10,7 +10,7 @@
 pub mod abi;
 pub mod cached_rows;
 pub mod cached_walk;
-pub mod code;
+pub mod code_ranges;
 pub mod compiled;
 mod expression_bytes;
 pub mod function;
@@ -36,7 +36,7 @@ pub use abi::Abi;
 pub use cached_rows::{CachedRow, clear_rows};
 pub use cached_walk::unwind_cached;
 pub use cfi_expression::{AddressSize, Frame, FrameError, Memory, Window};
-pub use code::{HasCode, code_at};
+pub use code_ranges::{HasCode, code_at};
 pub use compiled::step_by_compiled;
 pub use function::Function;
 pub use function_steps::{FunctionStep, function_step, step_in_function};

@@ -7,7 +7,7 @@ ghost use Rattle.cfi_entry.specs.SectionViews.{eh_frame_view};
 ghost use Rattle.cfi_unwind.specs.FdeViews.{HasCieOf, IsFdeOf, fde_view};
 ghost use Rattle.cfi_step.specs.Modules.{IsFoundIn, address_in_file, has_code};
 
-use crate::code::{HasCode, has_code};
+use crate::code_ranges::{HasCode, has_code};
 use cfi_compiled::CompiledTable;
 use gimli_cfi::{
     BaseAddresses, DebugFrame, EhFrame, EhFrameHdr, FrameDescriptionEntry, Reader, fde_by_header,

@@ -2,7 +2,7 @@
 ghost use Rattle.std.specs.Prelude.{◌≡◌, ⊤, true};
 ghost use Rattle.cfi_step.specs.Modules.{are_sorted};
 
-use crate::code::{code_at, out_of_order};
+use crate::code_ranges::{code_at, out_of_order};
 use crate::module::LoadedModule;
 use std::alloc::AllocError;
 

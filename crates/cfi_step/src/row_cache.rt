@@ -51,7 +51,7 @@ impl RowCache {
     pub fn clear(&mut self)
         ensures { AreVacant (rows_in self.new) }
     {
-        clear_rows(self.rows.as_mut_slice());
+        forget_each(self.rows.as_mut_slice());
     }
 
     /// The row of the address of the file, if it is held.
@@ -88,7 +88,7 @@ impl RowCache {
 }
 
 /// Forgets each row.
-fn clear_rows(rows: &mut [PackedRow])
+fn forget_each(rows: &mut [PackedRow])
     ensures { AreVacant rows.new }
 {
     for row in rows {

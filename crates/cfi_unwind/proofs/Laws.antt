@@ -11,7 +11,8 @@ use Rattle.cfi_read_core.specs.declared.error.Error.{Error}
 use Rattle.cfi_read_core.specs.declared.error.Error.TheVariants.{OutOfMemory}
 use Rattle.cfi_state.specs.Row.{Row}
 use Rattle.cfi_read_core.specs.ListLimits.{IsFixed}
-use Rattle.cfi_state.specs.MachineRuns.{may_allocate, AnswersFde}
+use Rattle.cfi_state.specs.MachineRuns.{AnswersFde}
+use Rattle.cfi_state.specs.Allocation.{may_allocate}
 use Rattle.cfi_state.specs.AcceptedInstructions.{AnswersByAccepted}
 use Rattle.cfi_state.proofs.Laws.{by_kept, by_run, is_due, is_due_where_never, contains_it}
 use Rattle.cfi_state.proofs.FixedStorage.{fixed_never}

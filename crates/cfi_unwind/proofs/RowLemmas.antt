@@ -10,7 +10,8 @@ use Rattle.cfi_parts.specs.Instructions.{Instruction}
 use Rattle.cfi_state.specs.MachineSettings.{Setting}
 use Rattle.cfi_state.specs.Row.{Row}
 use Rattle.cfi_state.specs.FdeAnswers.{fde_answer}
-use Rattle.cfi_state.specs.MachineRuns.{may_allocate, AnswersFde}
+use Rattle.cfi_state.specs.MachineRuns.{AnswersFde}
+use Rattle.cfi_state.specs.Allocation.{may_allocate}
 use Rattle.cfi_state.specs.MappedStates.{map_row}
 use Rattle.cfi_state.specs.RowExpressions.{EachExpression, HasExpressionsIn}
 use Rattle.cfi_state.proofs.RowExpressions.{of_parts}

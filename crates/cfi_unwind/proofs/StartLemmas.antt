@@ -15,7 +15,8 @@ use Rattle.cfi_state.specs.FdeAnswers.{AreConsecutive, rows_of, run_answers}
 use Rattle.cfi_state.specs.MappedStates.{row_lent}
 use Rattle.cfi_state.specs.RowExpressions.{EachOfTable, HasExpressionsIn}
 use Rattle.cfi_state.specs.UnwindTableStates.{TableState, rows_to_come}
-use Rattle.cfi_state.specs.MachineRuns.{may_allocate, RunsInitialInstructions}
+use Rattle.cfi_state.specs.MachineRuns.{RunsInitialInstructions}
+use Rattle.cfi_state.specs.Allocation.{may_allocate}
 use Rattle.cfi_state.proofs.Laws.{run_consecutive, run_in_one_row}
 use Rattle.cfi_state.proofs.RowExpressions.{answer_holds, initial_holds}
 use Rattle.cfi_unwind.specs.AddressRow.{IsRowOfFde, setting}

@@ -15,7 +15,7 @@ use Rattle.cfi_read_core.specs.declared.error.Error.{Error}
 use Rattle.cfi_state.specs.MachineSettings.{Setting}
 use Rattle.cfi_state.specs.Row.{Row}
 use Rattle.cfi_state.specs.FdeAnswers.{fde_answer}
-use Rattle.cfi_state.specs.MachineRuns.{may_allocate}
+use Rattle.cfi_state.specs.Allocation.{may_allocate}
 use Rattle.cfi_state.specs.MemoryOnTheWay.{may_allocate_on_the_way, IsDueOrOutOfMemory}
 use Rattle.cfi_entry.specs.Sections.{Section}
 use Rattle.cfi_entry.specs.Cies.{Cie}

@@ -32,7 +32,7 @@ use Rattle.cfi_state.specs.RowExpressions.{EachExpression, EachOfTable}
 use Rattle.cfi_state.specs.Program.{in_fde}
 use Rattle.cfi_state.specs.FdeAnswers.{IsStateAfter, AreConsecutive}
 use Rattle.cfi_state.specs.MachineRuns.{current_row, NextAnswer, RunsInitialInstructions}
-use Rattle.cfi_state.specs.MachineRuns.{may_allocate}
+use Rattle.cfi_state.specs.Allocation.{may_allocate}
 use Rattle.cfi_state.specs.AcceptedInstructions.{AnswersForProgram, AcceptsInitialInstructions}
 use Rattle.cfi_entry.specs.Sections.{Section, position_of}
 use Rattle.cfi_entry.specs.Fdes.{Fde}

@@ -1,6 +1,11 @@
-//! The rows of an FDE, and the row that it gives for an address (DWARF 5 section 6.4.1).
+//! An FDE's own calls: its table of rows, and the row that it gives for an address, with the loop
+//! that finds it.
 ghost use Rattle.std.specs.Prelude.{◌≡◌, ℕ, Option, IfOk, false};
+ghost use Rattle.cfi_parts.specs.InstructionIterators.{instruction_reader};
+ghost use Rattle.cfi_parts.specs.InstructionReaders.{instructions_left};
+ghost use Rattle.cfi_state.specs.Allocation.{may_allocate};
 ghost use Rattle.cfi_state.specs.ContextEffects.{setting_of};
+ghost use Rattle.cfi_state.specs.MachineRuns.{AnswersFde};
 ghost use Rattle.cfi_state.specs.MappedStates.{row_lent};
 ghost use Rattle.cfi_state.specs.Row.{RowContains};
 ghost use Rattle.cfi_state.specs.RowExpressions.{HasExpressionsIn};
@@ -12,10 +17,11 @@ ghost use Rattle.cfi_unwind.specs.UnwindTableViews.{holds_row};
 
 use crate::entry::fde::FrameDescriptionEntry;
 use crate::unwind_section::UnwindSection;
-use crate::unwind_table::{UnwindTable, row_of_programs};
+use crate::unwind_table::UnwindTable;
 use cfi_entry::cie::address_size_of;
+use cfi_parts::instruction::CallFrameInstructionIter;
 use cfi_parts::pointer::BaseAddresses;
-use cfi_read_core::{Reader, Result};
+use cfi_read_core::{Error, Reader, Result};
 use cfi_state::storage::UnwindContextStorage;
 use cfi_state::table::context::UnwindContext;
 use cfi_state::table::machine::Parameters;
@@ -98,4 +104,31 @@ impl<R: Reader> FrameDescriptionEntry<R> {
         let instructions = self.instructions(section, bases);
         row_of_programs(self.parameters(), initial, instructions, ctx, address)
     }
+}
+
+/// Returns the row of an address, borrowed from the context: the first that contains it, or the
+/// first error of the CIE's instructions or on the way to the row.
+fn row_of_programs<'cie, 'fde, 'ctx, R: Reader, S: UnwindContextStorage<R::Offset>>(
+    parameters: Parameters,
+    initial: CallFrameInstructionIter<'cie, R>,
+    instructions: CallFrameInstructionIter<'fde, R>,
+    context: &'ctx mut UnwindContext<R::Offset, S>,
+    address: u64,
+) -> Result<&'ctx UnwindTableRow<R::Offset, S::Rules>>
+    ensures run { let s = setting_of parameters S.Rules.limit S.Stack.limit in
+        AnswersFde (may_allocate s S.Rules.copies_free) s
+        (instructions_left (instruction_reader R.position initial.entry))
+        (instructions_left (instruction_reader R.position instructions.entry))
+        address (row_lent R.Offset.number result) }
+{
+    let mut table = UnwindTable::with_instructions(parameters, initial, instructions, context)?;
+    while let Some(row) = table.next_row()? {
+        if row.contains(address) {
+            let Some(current) = table.into_current_row() else {
+                unreachable!()
+            };
+            return Ok(current);
+        }
+    }
+    Err(Error::NoUnwindInfoForAddress)
 }

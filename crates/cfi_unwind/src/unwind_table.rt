@@ -1,4 +1,4 @@
-//! The rows of an FDE (DWARF 5 section 6.4.1), and the row of an address.
+//! The table of an FDE, which gives its rows one after the other (DWARF 5 section 6.4.1).
 ghost use Rattle.std.specs.Prelude.{◌≡◌, [], false, IfNone, IfOk, IfSome, IsTrue, MatchResult};
 ghost use Rattle.std.specs.Borrow.{sem};
 ghost use Rattle.std.specs.Io.BufRead.{Rests};
@@ -8,9 +8,9 @@ ghost use Rattle.cfi_parts.specs.InstructionReaders.{instructions_left};
 ghost use Rattle.cfi_state.specs.UnwindContexts.{empty_context};
 ghost use Rattle.cfi_state.specs.ContextEffects.{setting_of};
 ghost use Rattle.cfi_state.specs.Machine.{fresh_state};
-ghost use Rattle.cfi_state.specs.MappedStates.{row_lent};
 ghost use Rattle.cfi_state.specs.UnwindTableStates.{before_last_row};
-ghost use Rattle.cfi_state.specs.MachineRuns.{may_allocate, RunsInitialInstructions, AnswersFde};
+ghost use Rattle.cfi_state.specs.Allocation.{may_allocate};
+ghost use Rattle.cfi_state.specs.MachineRuns.{RunsInitialInstructions};
 ghost use Rattle.cfi_read_core.specs.ReaderCalls.{map_ok};
 ghost use Rattle.cfi_entry.specs.Sections.{section_of};
 ghost use Rattle.cfi_unwind.specs.FdeViews.{HasCieOf, IsFdeOf, fde_view};
@@ -23,7 +23,7 @@ use crate::entry::FrameDescriptionEntry;
 use crate::unwind_section::UnwindSection;
 use cfi_parts::instruction::CallFrameInstructionIter;
 use cfi_parts::pointer::BaseAddresses;
-use cfi_read_core::{Error, Reader, Result, StoreOnHeap};
+use cfi_read_core::{Reader, Result, StoreOnHeap};
 use cfi_state::storage::UnwindContextStorage;
 use cfi_state::table::context::UnwindContext;
 use cfi_state::table::machine::{
@@ -92,7 +92,7 @@ impl<'a, 'ctx, R: Reader, S: UnwindContextStorage<R::Offset>> UnwindTable<'a, 'c
     /// Makes the table of the instructions of an FDE and its CIE.
     // Not inlined: it is called once for an FDE, from each place that goes over rows.
     #[inline(never)]
-    fn with_instructions(
+    pub(crate) fn with_instructions(
         parameters: Parameters,
         cie_instructions: CallFrameInstructionIter<'_, R>,
         fde_instructions: CallFrameInstructionIter<'a, R>,
@@ -288,31 +288,4 @@ fn run_initial<R: Reader, S: UnwindContextStorage<R::Offset>>(
         }
     }
     end_cie(context)
-}
-
-/// Returns the row of an address, borrowed from the context: the first that contains it, or the
-/// first error of the CIE's instructions or on the way to the row.
-pub(crate) fn row_of_programs<'cie, 'fde, 'ctx, R: Reader, S: UnwindContextStorage<R::Offset>>(
-    parameters: Parameters,
-    initial: CallFrameInstructionIter<'cie, R>,
-    instructions: CallFrameInstructionIter<'fde, R>,
-    context: &'ctx mut UnwindContext<R::Offset, S>,
-    address: u64,
-) -> Result<&'ctx UnwindTableRow<R::Offset, S::Rules>>
-    ensures run { let s = setting_of parameters S.Rules.limit S.Stack.limit in
-        AnswersFde (may_allocate s S.Rules.copies_free) s
-        (instructions_left (instruction_reader R.position initial.entry))
-        (instructions_left (instruction_reader R.position instructions.entry))
-        address (row_lent R.Offset.number result) }
-{
-    let mut table = UnwindTable::with_instructions(parameters, initial, instructions, context)?;
-    while let Some(row) = table.next_row()? {
-        if row.contains(address) {
-            let Some(current) = table.into_current_row() else {
-                unreachable!()
-            };
-            return Ok(current);
-        }
-    }
-    Err(Error::NoUnwindInfoForAddress)
 }

@@ -21,10 +21,11 @@ ghost use Rattle.cfi_programs.specs.Wordings.{of_section};
 
 use crate::dump::function_line::{end_line, push_end};
 use crate::dump::printed::AskedRows;
-use crate::dump::section::{whole, write_refused, write_rows};
+use crate::dump::section::{whole, write_rows};
 use crate::dump::walk::Walk;
 use crate::lines::write_text;
 use crate::numbers::push_address;
+use crate::refusals::write_refused;
 use crate::style::{Format, Style};
 use crate::text::{Text, push};
 use cfi_elf::FunctionNames;

@@ -13,9 +13,9 @@ ghost use Rattle.cfi_programs.specs.Wordings.{text_style, worded};
 
 use crate::dump::advances::{MovedTo, address_after_item, advance_target};
 use crate::dump::instruction_words::{Registers, Value, dwarf_name, expression_of};
-use crate::dump::section::write_refused;
 use crate::expression_words::write_in_words;
 use crate::lines::{write_part, write_text};
+use crate::refusals::write_refused;
 use crate::style::Format;
 use cfi_object::register_names::RegisterNames;
 use cfi_read_core::address::AddressSize;

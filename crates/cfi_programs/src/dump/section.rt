@@ -30,7 +30,7 @@ use crate::dump::printed::Printed;
 use crate::dump::walk::Walk;
 use crate::lines::write_text;
 use crate::plain_rows::{FULL_OF_LINES, KeptRows, LineRoom};
-use crate::refusals::write_refusal_told;
+use crate::refusals::write_refused;
 use crate::row_words::{write_answer, write_apart};
 use crate::style::{Format, Style};
 use crate::text::{Text, write_out};
@@ -129,15 +129,6 @@ fn write_entry<R: Reader<Offset = usize>, S: UnwindSection<R>, W: Write>(
         ),
         Err(error) => write_refused(output, Format::Text, error),
     }
-}
-
-/// Writes the line of an error.
-pub fn write_refused<W: Write>(output: &mut W, format: Format, error: Error) -> io::Result<()>
-    ensures { Writes (W.contents output.old) (W.contents output.new) result
-        (refusal_told format error).text }
-{
-    write_refusal_told(output, format, error)?;
-    Ok(())
 }
 
 /// Writes the line of a CIE and those of its initial instructions.

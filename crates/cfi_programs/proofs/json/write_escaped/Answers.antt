@@ -1,5 +1,5 @@
 use Rattle.std.proofs.Common.{◌+◌, drop, get_or, arith}
-use Rattle.cfi_programs.specs.JsonLines.{json_escape, json_escaped}
+use Rattle.cfi_programs.specs.JsonTexts.{json_escape, json_escaped}
 use Rattle.cfi_programs.proofs.EscapedLemmas.{next_escaped, none_escaped}
 use Rattle.cfi_programs.proofs.WrittenLemmas.{beginning_then, given_all, given_then, writes_refused}
 use Rattle.cfi_programs.proofs.json.write_escaped.Goals as goal

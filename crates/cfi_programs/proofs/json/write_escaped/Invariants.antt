@@ -1,5 +1,5 @@
 use Rattle.std.proofs.Common.{drop}
-use Rattle.cfi_programs.specs.JsonLines.{json_escaped}
+use Rattle.cfi_programs.specs.JsonTexts.{json_escaped}
 use Rattle.cfi_programs.proofs.WrittenLemmas.{IsGiven}
 use Rattle.cfi_programs.proofs.json.write_escaped.Given as goal
 

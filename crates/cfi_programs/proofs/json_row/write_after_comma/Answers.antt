@@ -1,6 +1,6 @@
 use Rattle.std.proofs.Common.{codes}
 use Rattle.cfi_programs.specs.Wordings.{worded}
-use Rattle.cfi_programs.specs.JsonLines.{json_member}
+use Rattle.cfi_programs.specs.JsonRows.{json_member}
 use Rattle.cfi_programs.proofs.DumpSectionWritten.{first_refused, last_written}
 use Rattle.cfi_programs.proofs.json_row.write_after_comma.Goals as goal
 

@@ -1,5 +1,5 @@
 use Rattle.std.proofs.Common.{◌∙◌, ap, arith}
-use Rattle.cfi_programs.specs.JsonLines.{bytes_of_rule, rules_end}
+use Rattle.cfi_programs.specs.JsonRows.{bytes_of_rule, rules_end}
 use Rattle.cfi_programs.specs.Wordings.{worded}
 use Rattle.cfi_programs.proofs.JsonRowLemmas.{bytes_first, bytes_without, ended_none}
 use Rattle.cfi_programs.proofs.RowLineLemmas.{rules_none}

@@ -1,6 +1,6 @@
 use Rattle.std.proofs.Common.{◌-◌}
 use Rattle.std.specs.FinMap as map
-use Rattle.cfi_programs.specs.JsonLines.{bytes_of_rule, json_bytes, rules_end}
+use Rattle.cfi_programs.specs.JsonRows.{bytes_of_rule, json_bytes, rules_end}
 use Rattle.cfi_programs.specs.RowLines.{rules_by}
 use Rattle.cfi_programs.specs.Wordings.{worded}
 use Rattle.cfi_programs.proofs.WrittenLemmas.{IsGiven}

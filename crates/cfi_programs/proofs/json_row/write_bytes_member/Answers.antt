@@ -1,5 +1,5 @@
 use Rattle.cfi_programs.specs.Wordings.{worded}
-use Rattle.cfi_programs.specs.JsonLines.{bytes_member, bytes_opening}
+use Rattle.cfi_programs.specs.JsonRows.{bytes_member, bytes_opening}
 use Rattle.cfi_programs.proofs.DumpSectionWritten.{first_refused, last_written}
 use Rattle.cfi_programs.proofs.json_row.write_bytes_member.Goals as goal
 

@@ -1,6 +1,7 @@
 use Rattle.std.proofs.Common.{◌++◌, codes}
 use Rattle.cfi_programs.specs.Wordings.{worded}
-use Rattle.cfi_programs.specs.JsonLines.{address_members, json_cfa, json_number}
+use Rattle.cfi_programs.specs.JsonRows.{address_members, json_cfa}
+use Rattle.cfi_programs.specs.JsonTexts.{json_number}
 use Rattle.cfi_programs.proofs.DumpSectionWritten.{first_refused, last_written}
 use Rattle.cfi_programs.proofs.json_row.write_head.Goals as goal
 

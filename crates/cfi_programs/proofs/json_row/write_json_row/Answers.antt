@@ -1,6 +1,6 @@
 use Rattle.std.proofs.Common.{[], ◌∷◌, ◌++◌, codes}
 use Rattle.cfi_programs.specs.Wordings.{worded}
-use Rattle.cfi_programs.specs.JsonLines.{json_members}
+use Rattle.cfi_programs.specs.JsonRows.{json_members}
 use Rattle.cfi_programs.proofs.DumpSectionWritten.{first_refused, last_written}
 use Rattle.cfi_programs.proofs.json_row.write_json_row.Goals as goal
 

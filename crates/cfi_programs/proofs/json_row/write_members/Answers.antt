@@ -1,5 +1,6 @@
 use Rattle.std.proofs.Common.{◌∙◌, ap, arith}
-use Rattle.cfi_programs.specs.JsonLines.{json_rule, separated}
+use Rattle.cfi_programs.specs.JsonRows.{json_rule}
+use Rattle.cfi_programs.specs.JsonTexts.{separated}
 use Rattle.cfi_programs.specs.Wordings.{worded}
 use Rattle.cfi_programs.proofs.JsonRowLemmas.{member_first, separated_none}
 use Rattle.cfi_programs.proofs.RowLineLemmas.{rules_none, rules_without}

@@ -1,6 +1,7 @@
 use Rattle.std.proofs.Common.{◌-◌}
 use Rattle.std.specs.FinMap as map
-use Rattle.cfi_programs.specs.JsonLines.{json_rule, json_rules, separated}
+use Rattle.cfi_programs.specs.JsonRows.{json_rule, json_rules}
+use Rattle.cfi_programs.specs.JsonTexts.{separated}
 use Rattle.cfi_programs.specs.RowLines.{rules_by}
 use Rattle.cfi_programs.specs.Wordings.{worded}
 use Rattle.cfi_programs.proofs.WrittenLemmas.{IsGiven}

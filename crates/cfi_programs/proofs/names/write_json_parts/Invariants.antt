@@ -1,5 +1,5 @@
 use Rattle.std.proofs.Common.{length}
-use Rattle.cfi_programs.specs.JsonLines.{json_name}
+use Rattle.cfi_programs.specs.JsonTexts.{json_name}
 use Rattle.cfi_programs.proofs.WrittenLemmas.{IsGiven}
 use Rattle.cfi_programs.proofs.names.write_json_parts.Given as goal
 

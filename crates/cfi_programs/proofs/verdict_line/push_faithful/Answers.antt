@@ -1,5 +1,5 @@
 use Rattle.std.proofs.Common.{◌++◌, codes, refl}
-use Rattle.cfi_programs.specs.JsonLines.{json_number}
+use Rattle.cfi_programs.specs.JsonTexts.{json_number}
 use Rattle.cfi_programs.proofs.PushedLemmas.{pushed, pushed_last}
 use Rattle.cfi_programs.proofs.verdict_line.push_faithful.Goals as goal
 

@@ -2,9 +2,9 @@ use Rattle.cfi_programs.proofs.DumpSectionWritten.{first_refused, last_written}
 use Rattle.std.proofs.Common.{◌++◌, map, true}
 use Rattle.cfi_processes.specs.KnownFiles.{known_view}
 use Rattle.cfi_processes.specs.ThreadNames.{name_bytes}
-use Rattle.cfi_programs.specs.JsonLines.{separated}
+use Rattle.cfi_programs.specs.JsonTexts.{separated}
 use Rattle.cfi_stacks.specs.WalkObjects.{walk_objects}
-use Rattle.cfi_stacks.specs.SampleOutputs.{reason_for}
+use Rattle.cfi_stacks.specs.Reasons.{reason_for}
 use Rattle.cfi_stacks.specs.FrameObjects.{object_end}
 use Rattle.cfi_stacks.specs.ThreadMembers.{thread_head}
 use Rattle.cfi_stacks.proofs.core_object.write_thread_object.Goals as goal

@@ -1,7 +1,7 @@
 use Rattle.std.proofs.Common.{ℕ, List, map, not, true}
 use Rattle.std.specs.List.{flat_map}
 use Rattle.cfi_perf.specs.Samples.{kernel_frames, sample_view}
-use Rattle.cfi_programs.specs.JsonLines.{separated}
+use Rattle.cfi_programs.specs.JsonTexts.{separated}
 use Rattle.cfi_programs.proofs.DumpSectionWritten.{first_refused, last_written}
 use Rattle.cfi_processes.specs.KnownFiles.{known_view}
 use Rattle.cfi_processes.specs.KernelSites.{kernel_site}

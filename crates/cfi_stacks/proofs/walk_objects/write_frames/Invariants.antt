@@ -1,5 +1,5 @@
 use Rattle.std.proofs.Common.{drop, map}
-use Rattle.cfi_programs.specs.JsonLines.{separated}
+use Rattle.cfi_programs.specs.JsonTexts.{separated}
 use Rattle.cfi_programs.proofs.WrittenLemmas.{IsGiven}
 use Rattle.cfi_processes.specs.KnownFiles.{known_view}
 use Rattle.cfi_stacks.specs.WalkObjects.{stack_objects}

@@ -3,7 +3,7 @@ use Rattle.cfi_parts.specs.InstructionIterators.{instruction_reader}
 use Rattle.cfi_parts.specs.InstructionReaders.{instructions_left}
 use Rattle.cfi_state.specs.ContextEffects.{setting_of}
 use Rattle.cfi_state.specs.Machine.{fresh_state}
-use Rattle.cfi_state.specs.MachineRuns.{may_allocate}
+use Rattle.cfi_state.specs.Allocation.{may_allocate}
 use Rattle.cfi_state.proofs.RunSteps.{LeadsToCie}
 use Rattle.cfi_unwind.specs.UnwindTableCalls.{state_in_numbers}
 use Rattle.cfi_unwind.proofs.unwind_table.run_initial.Given as goal

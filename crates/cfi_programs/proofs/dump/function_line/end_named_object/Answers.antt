@@ -1,5 +1,5 @@
 use Rattle.std.proofs.Common.{[], ◌∷◌, ◌++◌, codes}
-use Rattle.cfi_programs.specs.JsonLines.{json_name}
+use Rattle.cfi_programs.specs.JsonTexts.{json_name}
 use Rattle.cfi_programs.proofs.EscapedLemmas.{function_regrouped}
 use Rattle.cfi_programs.proofs.DumpSectionWritten.{first_refused, last_written}
 use Rattle.cfi_programs.proofs.dump.function_line.end_named_object.Goals as goal

@@ -1,7 +1,7 @@
 use Rattle.std.proofs.Common.{nat_le, leb-true, leb-false, arith, rules}
 use Rattle.std.proofs.lemmas.List.Sorted.{IsPartitionPoint-from_clause}
 use Rattle.cfi_step.proofs.SortedCode.{ended_are_first}
-use Rattle.cfi_step.proofs.code.ended_by.Goals as goal
+use Rattle.cfi_step.proofs.code_ranges.ended_by.Goals as goal
 
 pub returns : goal.returns
 returns g c =

@@ -1,4 +1,5 @@
-//! The code of modules, and finding that of an address.
+//! Items that have code at a range of addresses: whether they are in order, and the one of an
+//! address.
 ghost use Rattle.std.specs.Prelude.{◌≡◌, ℕ, true, IfNone, IfSome, OnSome};
 ghost use Rattle.std.specs.Option.{option_map};
 ghost use Rattle.cfi_step.specs.CodeRanges.{AreEndedBy, IsInOneAtMost, IsOutOfOrder, are_sorted};

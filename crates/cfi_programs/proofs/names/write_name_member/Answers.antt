@@ -1,7 +1,7 @@
 use Rattle.cfi_programs.proofs.DumpSectionWritten.{first_refused, last_written}
 use Rattle.std.proofs.Common.{◌++◌, codes}
-use Rattle.cfi_programs.specs.JsonLines.{json_name}
-use Rattle.cfi_stacks.proofs.frame_objects.write_named.Goals as goal
+use Rattle.cfi_programs.specs.JsonTexts.{json_name}
+use Rattle.cfi_programs.proofs.names.write_name_member.Goals as goal
 
 pub returns-in_err-write_text : goal.returns-in_err-write_text
 returns-in_err-write_text g c =

@@ -5,7 +5,7 @@ use Rattle.cfi_parts.specs.InstructionIterators.{instruction_reader}
 use Rattle.cfi_parts.specs.InstructionReaders.{instructions_left}
 use Rattle.cfi_state.specs.ContextEffects.{setting_of}
 use Rattle.cfi_unwind.proofs.TableSteps.{answer-starts, answer-refused, answer-goes-on, answer-row, answer-refusal, answer-none, answer-fewer, row-inside, row-outside}
-use Rattle.cfi_unwind.proofs.unwind_table.row_of_programs.Goals as goal
+use Rattle.cfi_unwind.proofs.fde_rows.row_of_programs.Goals as goal
 
 pub loop-row-init : goal.loop-row-init
 loop-row-init g c = (

@@ -1,5 +1,5 @@
 use Rattle.cfi_step.proofs.SortedCode.{AreSortedUpTo}
-use Rattle.cfi_step.proofs.code.out_of_order.Given as goal
+use Rattle.cfi_step.proofs.code_ranges.out_of_order.Given as goal
 
 -- the items before this one are sorted
 abbrev pub invariant-loop-index : goal.invariant-loop-index

@@ -4,7 +4,7 @@ use Rattle.cfi_parts.specs.InstructionReaders.{instructions_left}
 use Rattle.cfi_state.specs.ContextEffects.{setting_of}
 use Rattle.cfi_unwind.specs.UnwindTableViews.{table_state}
 use Rattle.cfi_unwind.proofs.TableSteps.{answers_left, LeadsToAnswer}
-use Rattle.cfi_unwind.proofs.unwind_table.row_of_programs.Given as goal
+use Rattle.cfi_unwind.proofs.fde_rows.row_of_programs.Given as goal
 
 abbrev pub invariant-loop-row : goal.invariant-loop-row
 invariant-loop-row g l =

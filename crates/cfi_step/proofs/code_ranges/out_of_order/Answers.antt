@@ -1,7 +1,7 @@
 use Rattle.std.proofs.Common.{◌≡◌, ◌+◌, take, true, false, refl, sym, subst, rules, arith, take_all}
 use Rattle.cfi_step.specs.CodeRanges.{begins_from}
 use Rattle.cfi_step.proofs.SortedCode.{AreSortedUpTo, all_sorted, not_sorted, one_more, out_of_order}
-use Rattle.cfi_step.proofs.code.out_of_order.Goals as goal
+use Rattle.cfi_step.proofs.code_ranges.out_of_order.Goals as goal
 
 pub loop-index-init : goal.loop-index-init
 loop-index-init g c = λ rest. refl

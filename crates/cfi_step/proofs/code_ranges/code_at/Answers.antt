@@ -1,6 +1,6 @@
 use Rattle.std.proofs.Common.{◌∙◌, ◌<◌, Some, ap, length, arith, rules}
 use Rattle.cfi_step.proofs.SortedCode.{all_ended, begins_later, has_begun, in_one_at_most}
-use Rattle.cfi_step.proofs.code.code_at.Goals as goal
+use Rattle.cfi_step.proofs.code_ranges.code_at.Goals as goal
 
 pub returns-then-index-list-clause-item : goal.returns-then-index-list-clause-item
 returns-then-index-list-clause-item g c =
