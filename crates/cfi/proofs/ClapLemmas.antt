@@ -13,8 +13,9 @@ use Rattle.clap.specs.declared.error.Error.{Error}
 use Rattle.clap.specs.declared.error.kind.ErrorKind.TheVariants.{OutOfMemory}
 use Rattle.clap.proofs.OnLiterals.{clap_on_literals}
 use Rattle.clap.specs.declared.builder.command.Command.{Command}
-use Rattle.cfi.specs.CommandLine.{AddsOptions, IsApp, cfi_app, first_in, option_rule, values_in, with_options}
+use Rattle.cfi.specs.CommandLine.{AddsOptions, IsApp, cfi_app, option_rule, values_in, with_options}
 use Rattle.cfi.specs.Forms.{LongOption, Value}
+use Rattle.cfi.specs.Values.{value_for}
 
 pub adds_app : (old sub new : Command) (a b : App) → IsApp a old → IsApp b sub → AddsSubcommand old sub new → IsApp (with_subcommand a b.top) new
 adds_app old sub new a b above below h =
@@ -38,7 +39,7 @@ adds_one options name value base old new a above is local h =
     (h.shape local ∙ ap₂ with_rule above.0 is, h.globals ∙ ap (λ x. (out-Command old).has_globals || x) local ∙ or_false (out-Command old).has_globals ∙ above.1)
 
 -- the first of the values at a name
-pub first_of_values : (id : Text) (rows : List Row) → first_of id rows ≡ first_in (values_in rows) id
+pub first_of_values : (id : Text) (rows : List Row) → first_of id rows ≡ value_for (values_in rows) id
 first_of_values id rows = go (find (λ (r : Row). bytes_eq r.id id) rows)
   where
     go : (o : Option Row) → option_and_then (λ (r : Row). slice_get r.values 0) o ≡ slice_get (unwrap_or (option_map (λ (r : Row). r.values) o) []) 0
@@ -64,14 +65,14 @@ pub no_value : (o : Option (Bor Text)) (value : Text) (first : Option Text) → 
     → false ≡ option_map_or (λ t. bytes_eq t value) first false
 no_value o value first is e = ap (λ (x : Option Text). option_map_or (λ t. bytes_eq t value) x false) (sym (ap (option_map (λ (s : Bor Text). s.now)) is) ∙ e)
 
--- the values of a getter that has some
-pub values_of : (o : Option (Bor (List (Bor Text)))) (v : Bor (List (Bor Text))) (all : Option (List Text)) → o ≡ Some v
-    → option_map (λ s. map (λ t. t.now) s.now) o ≡ all → map (λ t. t.now) v.now ≡ unwrap_or all []
-values_of o v all is e = ap (λ x. unwrap_or x []) (sym (ap (option_map (λ (s : Bor (List (Bor Text))). map (λ t. t.now) s.now)) is) ∙ e)
-
-pub no_values : (o : Option (Bor (List (Bor Text)))) (all : Option (List Text)) → o ≡ None
-    → option_map (λ s. map (λ t. t.now) s.now) o ≡ all → [] ≡ unwrap_or all []
-no_values o all is e = ap (λ x. unwrap_or x []) (sym (ap (option_map (λ (s : Bor (List (Bor Text))). map (λ t. t.now) s.now)) is) ∙ e)
+-- the values of a getter, or none
+pub values_or_none : (o : Option (Bor (List (Bor Text)))) (none values : Bor (List (Bor Text))) (all : Option (List Text)) → none.now ≡ [] → values ≡ unwrap_or o none
+    → option_map (λ s. map (λ t. t.now) s.now) o ≡ all → map (λ t. t.now) values.now ≡ unwrap_or all []
+values_or_none o none values all empty is e = ap (λ (s : Bor (List (Bor Text))). map (λ t. t.now) s.now) is ∙ go o ∙ ap (λ x. unwrap_or x []) e
+  where
+    go : (x : Option (Bor (List (Bor Text)))) → map (λ t. t.now) (unwrap_or x none).now ≡ unwrap_or (option_map (λ s. map (λ t. t.now) s.now) x) []
+    go None = ap (map (λ (t : Bor Text). t.now)) empty
+    go (Some s) = refl
 
 pub cfi_is_simple : (formats : Bor (List (Bor Text))) → is_simple_and_free (cfi_app formats) ≡ true
 unfolding clap_on_literals

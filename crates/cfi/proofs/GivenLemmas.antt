@@ -3,9 +3,9 @@ use Rattle.std.proofs.Common.{◌≡◌, ◌≤◌, ◌+◌, ℕ, Bool, true, fa
 use Rattle.std.specs.Option.{option_and_then}
 use Rattle.std.proofs.lemmas.List.{length-append}
 use Rattle.clap.specs.Words.{Text}
-use Rattle.cfi.specs.CommandLine.{Asked}
+use Rattle.cfi.specs.Tasks.{Task}
 use Rattle.cfi.specs.Forms.{LongOption, has_no_value, option_named, takes}
-use Rattle.cfi.specs.Words.{Given, Next, Word, argument, given, long_option, short_flag, taken, value_given, with_arguments, with_long, with_no_more, with_option, with_value, word_of}
+use Rattle.cfi.specs.Words.{Given, Next, Word, argument, words_given, long_option, short_flag, taken, value_given, with_arguments, with_long, with_no_more, with_option, with_option_value, word_of}
 
 -- n arguments at least are given next
 abbrev Each : ℕ → Next → Type 0
@@ -20,7 +20,7 @@ module _ (n : ℕ) where
       go true = tt {0}
       go false = le
 
-  by_value : (o : LongOption) (value : Text) (g : Given) → n ≤ length g.arguments → Each n (with_no_more (with_value o value g))
+  by_value : (o : LongOption) (value : Text) (g : Given) → n ≤ length g.arguments → Each n (with_no_more (with_option_value o value g))
   by_value o value g le = go (takes o.value value)
     where
       go : (b : Bool) → Each n (with_no_more (cond b (with_option o.name value g) None))
@@ -53,14 +53,14 @@ module _ (n : ℕ) where
   step options (Some o) argument word g le = by_value o word g le
 
   -- what is refused with so many arguments is refused after all further words
-  pub never : (options : List LongOption) (of : Given → Option Asked) → ((g : Given) → n ≤ length g.arguments → of g ≡ None) → (words : List Text) (awaits : Option LongOption) (g : Given)
-      → n ≤ length g.arguments → option_and_then of (given options awaits g words) ≡ None
+  pub never : (options : List LongOption) (of : Given → Option Task) → ((g : Given) → n ≤ length g.arguments → of g ≡ None) → (words : List Text) (awaits : Option LongOption) (g : Given)
+      → n ≤ length g.arguments → option_and_then of (words_given options awaits g words) ≡ None
   never options of refuses [] None g le = refuses g le
   never options of refuses [] (Some o) g le = refl
   never options of refuses (word ∷ rest) awaits g le = by_dashes (bytes_eq word (45 ∷ 45 ∷ [])) (λ awaits g le. never options of refuses rest awaits g le)
     where
-      by_taken : (o : Next) → Each n o → ((awaits : Option LongOption) (g : Given) → n ≤ length g.arguments → option_and_then of (given options awaits g rest) ≡ None)
-          → option_and_then of (option_and_then (λ next. given options next.0 next.1 rest) o) ≡ None
+      by_taken : (o : Next) → Each n o → ((awaits : Option LongOption) (g : Given) → n ≤ length g.arguments → option_and_then of (words_given options awaits g rest) ≡ None)
+          → option_and_then of (option_and_then (λ next. words_given options next.0 next.1 rest) o) ≡ None
       by_taken None le after = refl
       by_taken (Some next) le after = after next.0 next.1 le
 
@@ -68,8 +68,8 @@ module _ (n : ℕ) where
       by_awaits true = refl
       by_awaits false = refuses (with_arguments rest g) (more rest g le)
 
-      by_dashes : (c : Bool) → ((awaits : Option LongOption) (g : Given) → n ≤ length g.arguments → option_and_then of (given options awaits g rest) ≡ None)
-          → option_and_then of (cond c (cond (is_some awaits) None (Some (with_arguments rest g))) (option_and_then (λ next. given options next.0 next.1 rest) (taken options awaits (word_of word) word g)))
+      by_dashes : (c : Bool) → ((awaits : Option LongOption) (g : Given) → n ≤ length g.arguments → option_and_then of (words_given options awaits g rest) ≡ None)
+          → option_and_then of (cond c (cond (is_some awaits) None (Some (with_arguments rest g))) (option_and_then (λ next. words_given options next.0 next.1 rest) (taken options awaits (word_of word) word g)))
           ≡ None
       by_dashes true after = by_awaits (is_some awaits)
       by_dashes false after = by_taken (taken options awaits (word_of word) word g) (step options awaits (word_of word) word g le) after

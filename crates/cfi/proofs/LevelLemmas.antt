@@ -8,9 +8,11 @@ use Rattle.clap.specs.Walk.{Row, Rule, Text, arg_by_id, arg_by_index, arg_by_lon
 use Rattle.clap.specs.Simple.{Shape, built_leaf, inherited, marked_built, new_shape, with_leaf_noted}
 use Rattle.clap.specs.Kinds.{or_else}
 use Rattle.clap.specs.Faults.{check_fault, defaults_fault, level_fault}
-use Rattle.cfi.specs.CommandLine.{Asked, asked_for, asked_of, cfi_app, values_in}
+use Rattle.cfi.specs.CommandLine.{cfi_app, values_in}
+use Rattle.cfi.specs.Tasks.{Task}
+use Rattle.cfi.specs.Values.{Values}
 use Rattle.cfi.specs.Forms.{Arguments, Form, LongOption, file_and_address, file_and_addresses, format_names, one_file, any_files, option_named}
-use Rattle.cfi.specs.Words.{Given, addresses_of, asked_by_form, asked_in_form, files_of, fits, has_flag, listed, nothing, or_false, value_given, values_at, values_given}
+use Rattle.cfi.specs.Words.{Given, address_words, asked_by_form, asked_in_form, file_words, has_places, has_flag, at_most_one, none_given, or_false, value_given, values_by_form, values_given}
 use Rattle.cfi.proofs.EndLemmas.{NoDefaults, ends_in, lacks, lacks_end, missing, or_default, quiet_in, values_end, wanted, wanted_in}
 use Rattle.cfi.proofs.FlagLemmas.{IsFault, fault_next, help, waiting}
 use Rattle.cfi.proofs.OptionLemmas.{here, id_in, index_in, long_in, or_after, short_in}
@@ -86,7 +88,7 @@ wanted_is names file_and_addresses rows = refl
 wanted_is names any_files rows = refl
 
 wants_is : (arguments : Arguments) (given : List Text) (position : ℕ) → Placed arguments given position
-    → wants arguments (not (is_given (files_of arguments given))) (not (is_given (addresses_of arguments given))) ≡ not (fits arguments given)
+    → wants arguments (not (is_given (file_words arguments given))) (not (is_given (address_words arguments given))) ≡ not (has_places arguments given)
 wants_is one_file [] position h = refl
 wants_is one_file (f ∷ []) position h = refl
 wants_is one_file (f ∷ x ∷ more) position h = absurd h
@@ -100,12 +102,12 @@ wants_is file_and_addresses (f ∷ a ∷ more) position h = refl
 wants_is any_files given position h = refl
 
 -- more than a command takes
-no_second : (given : List Text) → 2 ≤ length given → fits one_file given ≡ false
+no_second : (given : List Text) → 2 ≤ length given → has_places one_file given ≡ false
 no_second [] le = refl
 no_second (f ∷ []) le = absurd (omega arith)
 no_second (f ∷ x ∷ more) le = refl
 
-no_third : (given : List Text) → 3 ≤ length given → fits file_and_address given ≡ false
+no_third : (given : List Text) → 3 ≤ length given → has_places file_and_address given ≡ false
 no_third [] le = refl
 no_third (f ∷ []) le = absurd (omega arith)
 no_third (f ∷ a ∷ []) le = absurd (omega arith)
@@ -179,7 +181,7 @@ module _ (names : Bor (List (Bor Text))) where
       one_more : (values : List Text) (id : Text) → now id ≡ values → (word : Text) → now id ++ word ∷ [] ≡ values ++ word ∷ []
       one_more values id is word = ap (λ (x : List Text). x ++ word ∷ []) is
 
-      go : (arguments : Arguments) (given : List Text) → Placed arguments given position → now (codes "FILE") ≡ files_of arguments given → now (codes "ADDRESS") ≡ addresses_of arguments given
+      go : (arguments : Arguments) (given : List Text) → Placed arguments given position → now (codes "FILE") ≡ file_words arguments given → now (codes "ADDRESS") ≡ address_words arguments given
           → Takes (map (here names) options ++ last_rules arguments) arguments given position now
       go one_file [] h file address = inr (
         single (codes "FILE") 1 true,
@@ -234,8 +236,8 @@ module _ (names : Bor (List (Bor Text))) where
   end_of f rows = fold with_default rows (leaf_rules f)
 
   ends : (f : Form) (g : Given) (position : ℕ) (rows : List Row) (now : Text → List Text) → Places f.arguments g.arguments position now → Options g now → Has rows now
-      → Ends (leaf f) f.name rows (asked_by_form f g)
-  ends f g position rows now places options has = go (fits f.arguments g.arguments) checks
+      → Ends (leaf f) f.task rows (asked_by_form f g)
+  ends f g position rows now places options has = go (has_places f.arguments g.arguments) checks
     where
       at_end : (id : Text) → at_id id (end_of f rows) ≡ or_default (has_flag f.options id) id (line id (now id))
       at_end id = ends_in names f.options (last_rules f.arguments) rows id (no_defaults f.arguments) ∙ ap (or_default (has_flag f.options id) id) (has id)
@@ -243,7 +245,7 @@ module _ (names : Bor (List (Bor Text))) where
       lacking : (id : Text) → lacks (at_id id (end_of f rows)) ≡ not (is_given (now id))
       lacking id = ap lacks (at_end id) ∙ lacks_end (has_flag f.options id) id (now id)
 
-      checks : check_fault (leaf f) (end_of f rows) false ≡ missing (not (fits f.arguments g.arguments))
+      checks : check_fault (leaf f) (end_of f rows) false ≡ missing (not (has_places f.arguments g.arguments))
       checks =
           ap missing (wanted_in names f.options (last_rules f.arguments) (end_of f rows) ∙ wanted_is names f.arguments (end_of f rows)
           ∙ ap₂ (wants f.arguments) (lacking (codes "FILE")) (lacking (codes "ADDRESS"))
@@ -253,16 +255,16 @@ module _ (names : Bor (List (Bor Text))) where
       now_is : (id : Text) → now id ≡ values_given f.arguments g id
       now_is id = by_file (bytes_eq (codes "FILE") id) refl
         where
-          by_address : (b : Bool) → bytes_eq (codes "FILE") id ≡ false → bytes_eq (codes "ADDRESS") id ≡ b → now id ≡ cond b (addresses_of f.arguments g.arguments) (listed (value_given id g.options))
+          by_address : (b : Bool) → bytes_eq (codes "FILE") id ≡ false → bytes_eq (codes "ADDRESS") id ≡ b → now id ≡ cond b (address_words f.arguments g.arguments) (at_most_one (value_given id g.options))
           by_address true e is = ap now (sym (same_id (codes "ADDRESS") id is)) ∙ places.address
           by_address false e is = options id (ap₂ (λ (x y : Bool). x || y) e is)
 
           by_file : (b : Bool) → bytes_eq (codes "FILE") id ≡ b
-              → now id ≡ cond b (files_of f.arguments g.arguments) (cond (bytes_eq (codes "ADDRESS") id) (addresses_of f.arguments g.arguments) (listed (value_given id g.options)))
+              → now id ≡ cond b (file_words f.arguments g.arguments) (cond (bytes_eq (codes "ADDRESS") id) (address_words f.arguments g.arguments) (at_most_one (value_given id g.options)))
           by_file true is = ap now (sym (same_id (codes "FILE") id is)) ∙ places.file
           by_file false is = by_address (bytes_eq (codes "ADDRESS") id) is refl
 
-      reads : (id : Text) → values_in (end_of f rows) id ≡ values_at f g id
+      reads : (id : Text) → values_in (end_of f rows) id ≡ values_by_form f g id
       reads id =
           ap (λ (o : Option Row). unwrap_or (option_map (λ (r : Row). r.values) o) []) (at_end id) ∙ values_end (has_flag f.options id) id (now id)
           ∙ ap (or_false (has_flag f.options id)) (now_is id)
@@ -270,8 +272,8 @@ module _ (names : Bor (List (Bor Text))) where
       quiet : defaults_fault rows (leaf_rules f) ≡ []
       quiet = quiet_in names f.options (last_rules f.arguments) rows (no_defaults f.arguments)
 
-      go : (b : Bool) → check_fault (leaf f) (end_of f rows) false ≡ missing (not b) → Ends (leaf f) f.name rows (cond b (Some (asked_for f.name (values_at f g))) None)
-      go true e = (ap₂ or_else quiet e, λ i. asked_for f.name (λ id. reads id i))
+      go : (b : Bool) → check_fault (leaf f) (end_of f rows) false ≡ missing (not b) → Ends (leaf f) f.task rows (cond b (Some (f.task (values_by_form f g))) None)
+      go true e = (ap₂ or_else quiet e, λ i. f.task (λ id. reads id i))
       go false e = fault_next (defaults_fault rows (leaf_rules f)) (check_fault (leaf f) (end_of f rows) false) (subst IsFault (sym e) (tt {0}))
 
   -- ---- the command
@@ -298,13 +300,13 @@ module _ (names : Bor (List (Bor Text))) where
   -- ---- all words of a command
 
   -- what its words come to
-  abbrev pub Level : Shape → Text → List Text → Option Asked → Type 0
-  Level s name words None = IsFault (level_fault s [] nothing_held words false [])
-  Level s name words (Some asked) = (level_fault s [] nothing_held words false [] ≡ []) × (asked_of (name, rows_after s.rules [] words) ≡ asked)
+  abbrev pub Level : Shape → (Values → Task) → List Text → Option Task → Type 0
+  Level s task words None = IsFault (level_fault s [] nothing_held words false [])
+  Level s task words (Some asked) = (level_fault s [] nothing_held words false [] ≡ []) × (task (values_in (rows_after s.rules [] words)) ≡ asked)
 
-  as_level : (s : Shape) (name : Text) (words : List Text) (o : Option Asked) → Comes s name (at [] None (waiting false) 1 false) words o → Level s name words o
-  as_level s name words None h = h
-  as_level s name words (Some asked) h = h
+  as_level : (s : Shape) (task : Values → Task) (words : List Text) (o : Option Task) → Comes s task (at [] None (waiting false) 1 false) words o → Level s task words o
+  as_level s task words None h = h
+  as_level s task words (Some asked) h = h
 
   first_placed : (arguments : Arguments) → Places arguments [] 1 (λ id. [])
   first_placed one_file = record { placed = refl; file = refl; address = refl }
@@ -313,10 +315,10 @@ module _ (names : Bor (List (Bor Text))) where
   first_placed any_files = record { placed = refl; file = refl; address = refl }
 
   pub level : (are : map (λ name. name.now) names.now ≡ format_names) (f : Form) → Fine f → (words : List Text) → length words ≤ usize_max
-      → Level (leaf f) f.name words (asked_in_form words f)
+      → Level (leaf f) f.task words (asked_in_form words f)
   level are f is_fine words fits =
-      as_level (leaf f) f.name words (asked_in_form words f)
-      ((comes (leaf f) f names are (is_leaf f is_fine) words).0 nothing 0 [] None false 1 (record {
+      as_level (leaf f) f.task words (asked_in_form words f)
+      ((comes (leaf f) f names are (is_leaf f is_fine) words).0 none_given 0 [] None false 1 (record {
         now = λ id. [];
         stands = record { quiet = refl; has = λ id. refl; few = omega arith };
         places = first_placed f.arguments;

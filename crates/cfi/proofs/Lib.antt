@@ -1,3 +1,4 @@
+mod CheckLemmas
 mod ClapLemmas
 mod EndLemmas
 mod FlagLemmas
@@ -5,6 +6,7 @@ mod FlameLemmas
 mod FolderLemmas
 mod GivenLemmas
 mod LevelLemmas
+mod NameLemmas
 mod NumberLemmas
 mod ObjectLemmas
 mod OptionLemmas

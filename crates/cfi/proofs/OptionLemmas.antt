@@ -16,7 +16,7 @@ use Rattle.clap.specs.declared.parser.matches.ValueSource.TheVariants.{CommandLi
 use Rattle.clap.proofs.WalkLemmas.{list_any-map}
 use Rattle.cfi.specs.CommandLine.{option_rule}
 use Rattle.cfi.specs.Forms.{LongOption, Value, any_text, format_name, format_names, has_no_value, no_value, number, option_named, takes}
-use Rattle.cfi.specs.Words.{Given, listed, value_given, with_option, with_value}
+use Rattle.cfi.specs.Words.{Given, at_most_one, value_given, with_option, with_option_value}
 use Rattle.cfi.proofs.FlagLemmas.{IsFault, fault_next, held}
 use Rattle.cfi.proofs.NumberLemmas.{accepts_number}
 use Rattle.cfi.proofs.PlaceLemmas.{repeats}
@@ -137,10 +137,10 @@ module _ (names : Bor (List (Bor Text))) where
 
     -- a value is refused with a fault, or adds to what is given
     pub by_value : (again : Bool) (o : LongOption) (v : Text) (rows : List Row) (now : Text → List Text) (g : Given) (Goal : Option Given → Type 0) → again ≡ false → has_no_value o.value ≡ false
-        → Has rows now → now o.name ≡ listed (value_given o.name g.options)
+        → Has rows now → now o.name ≡ at_most_one (value_given o.name g.options)
         → (IsFault (use_fault again (here o) (v ∷ []) rows) → Goal None)
         → (use_fault again (here o) (v ∷ []) rows ≡ [] → now o.name ≡ [] → Goal (Some (record g { options = (o.name, v) ∷ g.options })))
-        → Goal (with_value o v g)
+        → Goal (with_option_value o v g)
     by_value again o v rows now g Goal once valued has is refused added = by_takes (takes o.value v) refl
       where
         kinds : (b c : Bool) → is_given (now o.name) ≡ b → takes o.value v ≡ c → use_fault again (here o) (v ∷ []) rows ≡ use_kinds o.value again b c
@@ -149,7 +149,7 @@ module _ (names : Bor (List (Bor Text))) where
         twice : (c : Bool) → IsFault (use_kinds o.value again true c)
         twice c = subst (λ x. IsFault (use_kinds o.value x true c)) (sym once) (tt {0})
 
-        by_given : (x : Option Text) → now o.name ≡ listed x → takes o.value v ≡ true → Goal (cond (is_some x) None (Some (record g { options = (o.name, v) ∷ g.options })))
+        by_given : (x : Option Text) → now o.name ≡ at_most_one x → takes o.value v ≡ true → Goal (cond (is_some x) None (Some (record g { options = (o.name, v) ∷ g.options })))
         by_given (Some t) e known = refused (subst IsFault (sym (kinds true true (ap is_given e) known)) (twice true))
         by_given None e known = added (kinds false true (ap is_given e) known) e
 

@@ -1,5 +1,6 @@
 -- What the check of a file writes, in a style.
 use Rattle.std.proofs.Common.{◌≡◌, ◌∙◌, ◌++◌, ℕ, Bool, true, false, List, [], Option, Some, Result, Ok, Err, IfOk, refl, sym, ap, subst, cond}
+use Rattle.std.proofs.lemmas.Result.{IfOk-from_err}
 use Rattle.std.specs.Io.KnownBytes.{Appends}
 use Rattle.std.specs.Result.{IsErr}
 use Rattle.clap.specs.Words.{Text}
@@ -9,16 +10,12 @@ use Rattle.cfi_programs.proofs.WrittenLemmas.{none_yet, writes_refused}
 use Rattle.cfi_files.specs.FileOutputs.{ChecksNamed}
 use Rattle.cfi_files.specs.declared.finding.Finding.{Finding}
 use Rattle.cfi_files.specs.declared.finding.Finding.TheVariants.{Faithful, NoTable, OtherFile, Unfaithful, Unreadable}
-use Rattle.cfi.specs.declared.files.CheckStyle.{CheckStyle}
-use Rattle.cfi.specs.Findings.{is_left_out}
-use Rattle.cfi.specs.Process.{ChecksStyled, kept}
-
-no_finding : {E : Type 0} (r : Result Finding E) (Q : Finding → Type 0) → IsErr r → IfOk r Q
-no_finding (Ok finding) Q err = cc
-no_finding (Err e) Q err = tt
+use Rattle.cfi.specs.declared.checks.CheckStyle.{CheckStyle}
+use Rattle.cfi.specs.Findings.{has_no_line}
+use Rattle.cfi.specs.Checks.{ChecksStyled, kept}
 
 -- a line in full
-none_left_out : (style : CheckStyle) (finding : Finding) → style.quiet ≡ false → style.elf_alone ≡ false → is_left_out style finding ≡ false
+none_left_out : (style : CheckStyle) (finding : Finding) → style.quiet ≡ false → style.elf_alone ≡ false → has_no_line style finding ≡ false
 none_left_out style Faithful e f = e
 none_left_out style Unfaithful e f = refl
 none_left_out style NoTable e f = refl
@@ -39,22 +36,22 @@ pub unmade : {E F : Type 0} (style : CheckStyle) (name : Text) (input old start 
     → ChecksStyled style name input old old r
 unmade style name input old start line e r err (bytes, left, (finding, whole, writes, found, is)) =
     let printed : Line = kept style finding whole in
-    (bytes, left, (finding, printed, writes_refused old old r printed.text err ([], none_yet old, (printed.text, refl)), no_finding r (λ x. x ≡ finding) err, (whole, is, refl)))
+    (bytes, left, (finding, printed, writes_refused old old r printed.text err ([], none_yet old, (printed.text, refl)), IfOk-from_err r (λ x. x ≡ finding) err, (whole, is, refl)))
 
 -- a file that has no line
-pub left_out : (E F : Type 0) (style : CheckStyle) (name : Text) (input old start line : Option (List ℕ)) (found : Finding) → is_left_out style found ≡ true
+pub left_out : (E F : Type 0) (style : CheckStyle) (name : Text) (input old start line : Option (List ℕ)) (found : Finding) → has_no_line style found ≡ true
     → ChecksNamed {E = E} style.format name input start line (Ok found) → ChecksStyled {E = F} style name input old old (Ok found)
 unfolding kept_text
 left_out E F style name input old start line found out (bytes, left, (finding, whole, writes, same, is)) =
-    let none : (kept style finding whole).text ≡ [] = ap (λ (b : Bool). (kept_text b whole).text) (ap (is_left_out style) (sym same) ∙ out) in
+    let none : (kept style finding whole).text ≡ [] = ap (λ (b : Bool). (kept_text b whole).text) (ap (has_no_line style) (sym same) ∙ out) in
     (bytes, left, (finding, kept style finding whole, subst (λ (text : List ℕ). Appends old old text) (sym none) (none_yet old), same, (whole, is, refl)))
 
 -- another line is written as it was made
-module _ (style : CheckStyle) (name : Text) (input old new : Option (List ℕ)) (start items : List ℕ) (found : Finding) (none : start ≡ []) (other : is_left_out style found ≡ false) where
+module _ (style : CheckStyle) (name : Text) (input old new : Option (List ℕ)) (start items : List ℕ) (found : Finding) (none : start ≡ []) (other : has_no_line style found ≡ false) where
   made : (finding : Finding) (whole : Line) → items ≡ start ++ whole.text → found ≡ finding → (kept style finding whole).text ≡ items
   unfolding kept_text
   made finding whole writes same =
-      ap (λ (b : Bool). (kept_text b whole).text) (ap (is_left_out style) (sym same) ∙ other) ∙ sym (writes ∙ ap (λ (x : List ℕ). x ++ whole.text) none)
+      ap (λ (b : Bool). (kept_text b whole).text) (ap (has_no_line style) (sym same) ∙ other) ∙ sym (writes ∙ ap (λ (x : List ℕ). x ++ whole.text) none)
 
   pub written : (E F : Type 0) → ChecksNamed {E = E} style.format name input (Some start) (Some items) (Ok found) → Appends old new items → ChecksStyled {E = F} style name input old new (Ok found)
   written E F (bytes, left, (finding, whole, writes, same, is)) appends =
@@ -70,7 +67,7 @@ module _ (style : CheckStyle) (name : Text) (input old new : Option (List ℕ)) 
           finding,
           printed,
           writes_refused old new r printed.text err (subst (λ (text : List ℕ). (front : List ℕ) × Appends old new front × IsBeginning front text) (sym (made finding whole writes same)) front),
-          no_finding r (λ x. x ≡ finding) err,
+          IfOk-from_err r (λ x. x ≡ finding) err,
           (whole, is, refl),
         ),
       )

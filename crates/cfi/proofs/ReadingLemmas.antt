@@ -7,7 +7,9 @@ use Rattle.clap.specs.Simple.{Shape}
 use Rattle.clap.specs.Kinds.{Kinds, or_else}
 use Rattle.clap.specs.Faults.{check_fault, defaults_fault, positional_fault, settle_fault, step_fault, stray_fault, turn_fault, walk_fault, word_fault}
 use Rattle.clap.specs.declared.error.kind.ErrorKind.TheVariants.{InvalidSubcommand, UnknownArgument}
-use Rattle.cfi.specs.CommandLine.{Asked, asked_of}
+use Rattle.cfi.specs.CommandLine.{values_in}
+use Rattle.cfi.specs.Tasks.{Task}
+use Rattle.cfi.specs.Values.{Values}
 use Rattle.cfi.proofs.FlagLemmas.{IsFault, fault_first, flag_fails, held, is_flag, long_doomed, plain_is_value, short_doomed, value_met, value_passes, waiting}
 
 -- where a walk stands that has met no subcommand
@@ -36,9 +38,9 @@ abbrev pub whole : Shape → Walk → List Text → Kinds
 whole s w words = ended s (walk_fault s [] w words) (walk_on s w words).held
 
 -- what the walk over the words comes to, where they ask for the last
-abbrev pub Comes : Shape → Text → Walk → List Text → Option Asked → Type 0
-Comes s name w words None = IsFault (whole s w words)
-Comes s name w words (Some asked) = (whole s w words ≡ []) × (asked_of (name, finished s.rules (walk_on s w words).held) ≡ asked)
+abbrev pub Comes : Shape → (Values → Task) → Walk → List Text → Option Task → Type 0
+Comes s task w words None = IsFault (whole s w words)
+Comes s task w words (Some asked) = (whole s w words ≡ []) × (task (values_in (finished s.rules (walk_on s w words).held)) ≡ asked)
 
 pub whole_on : (s : Shape) (w next : Walk) (word : Text) (rest : List Text) → turn_fault s [] w word ≡ [] → walked s.rules [] w word ≡ next
     → whole s w (word ∷ rest) ≡ whole s next rest
@@ -46,11 +48,11 @@ unfolding walk_fault
 whole_on s w next word rest quiet to =
     ap₂ (λ (k : Kinds) (v : Walk). ended s (or_else k (walk_fault s [] v rest)) (walk_on s v rest).held) quiet to
 
-pub comes_on : (s : Shape) (name : Text) (w next : Walk) (word : Text) (rest : List Text) (o : Option Asked) → turn_fault s [] w word ≡ []
-    → walked s.rules [] w word ≡ next → Comes s name next rest o → Comes s name w (word ∷ rest) o
-comes_on s name w next word rest None quiet to c = subst IsFault (sym (whole_on s w next word rest quiet to)) c
-comes_on s name w next word rest (Some x) quiet to c =
-    (whole_on s w next word rest quiet to ∙ c.0, ap (λ (v : Walk). asked_of (name, finished s.rules (walk_on s v rest).held)) to ∙ c.1)
+pub comes_on : (s : Shape) (task : Values → Task) (w next : Walk) (word : Text) (rest : List Text) (o : Option Task) → turn_fault s [] w word ≡ []
+    → walked s.rules [] w word ≡ next → Comes s task next rest o → Comes s task w (word ∷ rest) o
+comes_on s task w next word rest None quiet to c = subst IsFault (sym (whole_on s w next word rest quiet to)) c
+comes_on s task w next word rest (Some x) quiet to c =
+    (whole_on s w next word rest quiet to ∙ c.0, ap (λ (v : Walk). task (values_in (finished s.rules (walk_on s v rest).held))) to ∙ c.1)
 
 pub fails_at : (s : Shape) (w : Walk) (word : Text) (rest : List Text) → IsFault (turn_fault s [] w word) → IsFault (whole s w (word ∷ rest))
 unfolding walk_fault
@@ -59,8 +61,8 @@ fails_at s w word rest h =
     (fault_first (turn_fault s [] w word) (walk_fault s [] (walked s.rules [] w word) rest) h)
 
 -- what comes of nothing, by a fault
-pub comes_none : (s : Shape) (name : Text) (w : Walk) (words : List Text) (o : Option Asked) → o ≡ None → IsFault (whole s w words) → Comes s name w words o
-comes_none s name w words o none h = subst (Comes s name w words) (sym none) h
+pub comes_none : (s : Shape) (task : Values → Task) (w : Walk) (words : List Text) (o : Option Task) → o ≡ None → IsFault (whole s w words) → Comes s task w words o
+comes_none s task w words o none h = subst (Comes s task w words) (sym none) h
 
 -- ---- one word
 

@@ -32,6 +32,14 @@ same_text id = (bytes_eq-Decides id id).1 refl
 pub same_id : (a b : Text) → bytes_eq a b ≡ true → a ≡ b
 same_id a b e = (bytes_eq-Decides a b).0 e
 
+pub swapped : (a b : Text) → bytes_eq a b ≡ bytes_eq b a
+swapped a b = go (bytes_eq a b) (bytes_eq b a) refl refl
+  where
+    go : (x y : Bool) → bytes_eq a b ≡ x → bytes_eq b a ≡ y → x ≡ y
+    go true y e f = sym ((bytes_eq-Decides b a).1 (sym (same_id a b e))) ∙ f
+    go false true e f = sym e ∙ (bytes_eq-Decides a b).1 (sym (same_id b a f))
+    go false false e f = refl
+
 -- ---- values at an id
 
 pub other_row : (id other : Text) (how : Reading) (source : ValueSource) (values : List Text) (rows : List Row) → bytes_eq id other ≡ false

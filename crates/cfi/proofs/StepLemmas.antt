@@ -10,9 +10,9 @@ use Rattle.clap.specs.Simple.{Shape}
 use Rattle.clap.specs.Kinds.{Kinds, or_else}
 use Rattle.clap.specs.Faults.{check_fault, defaults_fault, long_fault, positional_fault, settle_fault, step_fault, stray_fault, turn_fault, use_fault, walk_fault}
 use Rattle.clap.specs.declared.error.kind.ErrorKind.TheVariants.{ArgumentConflict}
-use Rattle.cfi.specs.CommandLine.{Asked, asked_for}
+use Rattle.cfi.specs.Tasks.{Task}
 use Rattle.cfi.specs.Forms.{Form, LongOption, format_names, has_no_value, no_value, option_named}
-use Rattle.cfi.specs.Words.{Given, Next, argument, asked_by_form, fits, given, has_character, listed, long_option, taken, value_given, values_at, with_arguments, with_long, with_no_more, with_option, with_value, word_of}
+use Rattle.cfi.specs.Words.{Given, Next, argument, asked_by_form, has_places, words_given, has_character, at_most_one, long_option, taken, value_given, values_by_form, with_arguments, with_long, with_no_more, with_option, with_option_value, word_of}
 use Rattle.cfi.proofs.FlagLemmas.{IsFault, by_word, fault_first, fault_next, flag_fails, held, is_flag, long_doomed, long_refused, short_doomed, short_refused, value_met, value_passes, waiting}
 use Rattle.cfi.proofs.GivenLemmas.{never}
 use Rattle.cfi.proofs.OptionLemmas.{by_value, flag_is, flag_takes, here, long_fault_is, long_met_is, no_use, option_word_is, rule_here, used_is}
@@ -26,15 +26,15 @@ plain a id index required now (inl h) = ap (λ (r : Rule). r.trailing_var_arg) h
 plain a id index required now (inr h) = ap (λ (r : Rule). r.trailing_var_arg) h
 
 -- what is asked for after a word that was taken
-abbrev pub then : Form → List Text → Next → Option Asked
-then f rest o = option_and_then (asked_by_form f) (option_and_then (λ x. given f.options x.0 x.1 rest) o)
+abbrev pub then : Form → List Text → Next → Option Task
+then f rest o = option_and_then (asked_by_form f) (option_and_then (λ x. words_given f.options x.0 x.1 rest) o)
 
 module _ (s : Shape) (f : Form) (names : Bor (List (Bor Text))) (are : map (λ name. name.now) names.now ≡ format_names) (leaf : Leaf s f names) where
   -- ---- the end
 
-  end_comes : (rows : List Row) (pending : Option (Text × List Text)) (w : Waiting) (position : ℕ) (is_trailing : Bool) (o : Option Asked)
-      → settle_fault s.rules s.args_override_self (held rows pending) ≡ [] → Ends s f.name (settled_rows s.rules pending rows) o
-      → Comes s f.name (at rows pending w position is_trailing) [] o
+  end_comes : (rows : List Row) (pending : Option (Text × List Text)) (w : Waiting) (position : ℕ) (is_trailing : Bool) (o : Option Task)
+      → settle_fault s.rules s.args_override_self (held rows pending) ≡ [] → Ends s f.task (settled_rows s.rules pending rows) o
+      → Comes s f.task (at rows pending w position is_trailing) [] o
   unfolding walk_fault
   end_comes rows pending w position is_trailing None quiet e =
       let end = settled_rows s.rules pending rows in
@@ -44,34 +44,34 @@ module _ (s : Shape) (f : Form) (names : Bor (List (Bor Text))) (are : map (λ n
       (ap (λ (k : Kinds). or_else k (or_else (defaults_fault end s.rules) (check_fault s (fold with_default end s.rules) false))) quiet ∙ e.0, e.1)
 
   good_ends : (g : Given) (n : ℕ) (rows : List Row) (pending : Option (Text × List Text)) (w : Waiting) (position : ℕ) (is_trailing : Bool)
-      → Good s f.arguments g n rows pending position → Comes s f.name (at rows pending w position is_trailing) [] (asked_by_form f g)
+      → Good s f.arguments g n rows pending position → Comes s f.task (at rows pending w position is_trailing) [] (asked_by_form f g)
   good_ends g n rows pending w position is_trailing good =
       end_comes rows pending w position is_trailing (asked_by_form f g) good.stands.quiet
       (leaf.ends g position (settled_rows s.rules pending rows) good.now good.places good.options good.stands.has)
 
   -- ---- arguments
 
-  refuses : (g : Given) → fits f.arguments g.arguments ≡ false → asked_by_form f g ≡ None
-  refuses g e = ap (λ (b : Bool). cond b (Some (asked_for f.name (values_at f g))) None) e
+  refuses : (g : Given) → has_places f.arguments g.arguments ≡ false → asked_by_form f g ≡ None
+  refuses g e = ap (λ (b : Bool). cond b (Some (f.task (values_by_form f g))) None) e
 
-  argument_on : (word : Text) (rest : List Text) (g : Given) (n : ℕ) (rows : List Row) (pending : Option (Text × List Text)) (several : Bool) (position : ℕ) (is_trailing : Bool) (o : Option Asked)
+  argument_on : (word : Text) (rest : List Text) (g : Given) (n : ℕ) (rows : List Row) (pending : Option (Text × List Text)) (several : Bool) (position : ℕ) (is_trailing : Bool) (o : Option Task)
       → IsValue is_trailing word → Good s f.arguments g n rows pending position → suc n ≤ usize_max
       → ((rows : List Row) (pending : Option (Text × List Text)) (several : Bool) (position : ℕ) → Good s f.arguments (with_arguments (word ∷ []) g) (suc n) rows pending position
-      → Comes s f.name (at rows pending (waiting several) position is_trailing) rest o)
-      → (((more : List Text) → suc (length g.arguments) ≤ length more → fits f.arguments more ≡ false) → o ≡ None)
-      → Comes s f.name (at rows pending (waiting several) position is_trailing) (word ∷ rest) o
+      → Comes s f.task (at rows pending (waiting several) position is_trailing) rest o)
+      → (((more : List Text) → suc (length g.arguments) ≤ length more → has_places f.arguments more ≡ false) → o ≡ None)
+      → Comes s f.task (at rows pending (waiting several) position is_trailing) (word ∷ rest) o
   argument_on word rest g n rows pending several position is_trailing o is good fits after none = go (leaf.place g.arguments position good.now good.places)
     where
-      go : Takes s.rules f.arguments g.arguments position good.now → Comes s f.name (at rows pending (waiting several) position is_trailing) (word ∷ rest) o
+      go : Takes s.rules f.arguments g.arguments position good.now → Comes s f.task (at rows pending (waiting several) position is_trailing) (word ∷ rest) o
       go (inl h) =
           let t = takes_value s word rows pending several position is_trailing is in
-          comes_none s f.name (at rows pending (waiting several) position is_trailing) (word ∷ rest) o (none h.1)
+          comes_none s f.task (at rows pending (waiting several) position is_trailing) (word ∷ rest) o (none h.1)
           (fails_at s (at rows pending (waiting several) position is_trailing) word rest
           (subst IsFault (sym (t.0 ∙ ap (λ (x : Option Rule). option_map_or (λ a. positional_fault s.rules s.args_override_self a (held rows pending)) x (stray_fault s)) h.0)) (stray_fails s)))
       go (inr h) =
           let t = takes_value s word rows pending several position is_trailing is in
           let later = next_at s n h.0 word rows pending good.now good.stands fits h.2 in
-          comes_on s f.name (at rows pending (waiting several) position is_trailing)
+          comes_on s f.task (at rows pending (waiting several) position is_trailing)
           (at later.after_rows later.after_pending (waiting (is_multiple h.0)) (next_position h.0 position) is_trailing) word rest o
           (t.0 ∙ ap (λ (x : Option Rule). option_map_or (λ a. positional_fault s.rules s.args_override_self a (held rows pending)) x (stray_fault s)) h.1
           ∙ no_fault_at s h.0 rows pending good.stands.quiet)
@@ -87,13 +87,13 @@ module _ (s : Shape) (f : Form) (names : Bor (List (Bor Text))) (are : map (λ n
 
   trailing : (rest : List Text) (g : Given) (n : ℕ) (rows : List Row) (pending : Option (Text × List Text)) (several : Bool) (position : ℕ)
       → Good s f.arguments g n rows pending position → n + length rest ≤ usize_max
-      → Comes s f.name (at rows pending (waiting several) position true) rest (asked_by_form f (with_arguments rest g))
+      → Comes s f.task (at rows pending (waiting several) position true) rest (asked_by_form f (with_arguments rest g))
   trailing [] g n rows pending several position good fits =
-      subst (λ (t : List Text). Comes s f.name (at rows pending (waiting several) position true) [] (asked_by_form f (record g { arguments = t }))) (sym (append-nil g.arguments))
+      subst (λ (t : List Text). Comes s f.task (at rows pending (waiting several) position true) [] (asked_by_form f (record g { arguments = t }))) (sym (append-nil g.arguments))
       (good_ends g n rows pending (waiting several) position true good)
   trailing (word ∷ rest) g n rows pending several position good fits =
       argument_on word rest g n rows pending several position true (asked_by_form f (with_arguments (word ∷ rest) g)) (tt {0}) good (omega arith)
-      (λ r p b m good. subst (λ (t : List Text). Comes s f.name (at r p (waiting b) m true) rest (asked_by_form f (record g { arguments = t }))) (append_assoc g.arguments (word ∷ []) rest)
+      (λ r p b m good. subst (λ (t : List Text). Comes s f.task (at r p (waiting b) m true) rest (asked_by_form f (record g { arguments = t }))) (append_assoc g.arguments (word ∷ []) rest)
       (trailing rest (with_arguments (word ∷ []) g) (suc n) r p b m good (omega arith)))
       (λ many. refuses (with_arguments (word ∷ rest) g) (many (g.arguments ++ word ∷ rest)
       (let longer : length (g.arguments ++ word ∷ rest) ≡ length g.arguments + length (word ∷ rest) = length-append g.arguments (word ∷ rest) in omega arith)))
@@ -102,7 +102,7 @@ module _ (s : Shape) (f : Form) (names : Bor (List (Bor Text))) (are : map (λ n
 
   abbrev pub Idle : List Text → Type 0
   Idle words = (g : Given) (n : ℕ) (rows : List Row) (pending : Option (Text × List Text)) (several : Bool) (position : ℕ) → Good s f.arguments g n rows pending position
-      → n + length words ≤ usize_max → Comes s f.name (at rows pending (waiting several) position false) words (option_and_then (asked_by_form f) (given f.options None g words))
+      → n + length words ≤ usize_max → Comes s f.task (at rows pending (waiting several) position false) words (option_and_then (asked_by_form f) (words_given f.options None g words))
 
   -- an option of the command, which has a value
   pub record Valued (o : LongOption) : Type 0 where
@@ -113,7 +113,7 @@ module _ (s : Shape) (f : Form) (names : Bor (List (Bor Text))) (are : map (λ n
   -- after its name
   abbrev pub Waits : List Text → Type 0
   Waits words = (o : LongOption) → Valued o → (g : Given) (n : ℕ) (rows : List Row) (position : ℕ) → Good s f.arguments g n rows None position → n + length words ≤ usize_max
-      → Comes s f.name (at rows (Some (o.name, [])) (option o.name) position false) words (option_and_then (asked_by_form f) (given f.options (Some o) g words))
+      → Comes s f.task (at rows (Some (o.name, [])) (option o.name) position false) words (option_and_then (asked_by_form f) (words_given f.options (Some o) g words))
 
   -- a long flag fails where clap finds a fault in it
   long_fails : (word : Text) (rest : List Text) (rows : List Row) (pending : Option (Text × List Text)) (several : Bool) (position : ℕ) (flag : Text × Option Text) (found : Option Rule)
@@ -133,8 +133,8 @@ module _ (s : Shape) (f : Form) (names : Bor (List (Bor Text))) (are : map (λ n
     abbrev stand : Walk
     stand = at rows pending (waiting several) position false
 
-    abbrev Goal : Option Asked → Type 0
-    Goal o = Comes s f.name stand (word ∷ rest) o
+    abbrev Goal : Option Task → Type 0
+    Goal o = Comes s f.task stand (word ∷ rest) o
 
     -- the walk after a long option that clap knows
     abbrev turn_kinds : Kinds → Held × Outcome → Kinds
@@ -144,7 +144,7 @@ module _ (s : Shape) (f : Form) (names : Bor (List (Bor Text))) (are : map (λ n
     turned m = after_step s.rules word stand (after_flag s.rules (waiting several) word m.0 m.1).0 (after_flag s.rules (waiting several) word m.0 m.1).1
 
     module _ (name : Text) (o : LongOption) (known : option_named f.options name ≡ Some o) where
-      was : good.now o.name ≡ listed (value_given o.name g.options)
+      was : good.now o.name ≡ at_most_one (value_given o.name g.options)
       was = good.options o.name (leaf.apart name o known)
 
       -- a flag
@@ -161,7 +161,7 @@ module _ (s : Shape) (f : Form) (names : Bor (List (Bor Text))) (are : map (λ n
         twice : IsFault (or_else (cond (true && not s.args_override_self) (ArgumentConflict ∷ []) []) [])
         twice = subst (λ (x : Bool). IsFault (or_else (cond (true && not x) (ArgumentConflict ∷ []) []) [])) (sym leaf.again) (tt {0})
 
-        by_given : (x : Option Text) → good.now o.name ≡ listed x → Goal (then f rest (with_no_more (cond (is_some x) None (Some (record g { options = (o.name, codes "true") ∷ g.options })))))
+        by_given : (x : Option Text) → good.now o.name ≡ at_most_one x → Goal (then f rest (with_no_more (cond (is_some x) None (Some (record g { options = (o.name, codes "true") ∷ g.options })))))
         by_given (Some t) e =
             long_fails word rest rows pending several position (name, None) (Some rule) d is found
             (subst (λ (k : Kinds). IsFault (or_else (settle_fault s.rules s.args_override_self (held rows pending)) k)) (sym (kinds true (ap is_given e)))
@@ -169,7 +169,7 @@ module _ (s : Shape) (f : Form) (names : Bor (List (Bor Text))) (are : map (λ n
         by_given None e =
             let t = long_turn s word rows pending (waiting several) position (name, None) (Some rule) (none_met several word) d is found in
             let after = record g { options = (o.name, codes "true") ∷ g.options } in
-            comes_on s f.name stand (at (used rule [] end) None (waiting false) position false) word rest (option_and_then (asked_by_form f) (given f.options None after rest))
+            comes_on s f.task stand (at (used rule [] end) None (waiting false) position false) word rest (option_and_then (asked_by_form f) (words_given f.options None after rest))
             (t.0 ∙ ap₂ (λ (k l : Kinds). or_else (or_else k l) []) good.stands.quiet (kinds false (ap is_given e))) t.1
             (idle after (suc n) (used rule [] end) None false position (record {
               now = give o.name (codes "true" ∷ []) good.now;
@@ -182,10 +182,10 @@ module _ (s : Shape) (f : Form) (names : Bor (List (Bor Text))) (are : map (λ n
         on_flag = by_given (value_given o.name g.options) was
 
       -- a flag with a value
-      on_flag_is : (v : Text) → long_of word ≡ Some (name, Some v) → has_no_value o.value ≡ true → Goal (then f rest (with_no_more (with_value o v g)))
+      on_flag_is : (v : Text) → long_of word ≡ Some (name, Some v) → has_no_value o.value ≡ true → Goal (then f rest (with_no_more (with_option_value o v g)))
       on_flag_is v is flag =
           let t = flag_takes names s.rules s.args_override_self o.name o.value v (held rows pending) flag in
-          comes_none s f.name stand (word ∷ rest) (then f rest (with_no_more (with_value o v g))) (ap (λ (b : Bool). then f rest (with_no_more (cond b (with_option o.name v g) None))) t.0)
+          comes_none s f.task stand (word ∷ rest) (then f rest (with_no_more (with_option_value o v g))) (ap (λ (b : Bool). then f rest (with_no_more (cond b (with_option o.name v g) None))) t.0)
           (long_fails word rest rows pending several position (name, Some v) (Some (here names o)) d is (leaf.found name o known) t.1)
 
       -- an option whose value is the next word
@@ -195,7 +195,7 @@ module _ (s : Shape) (f : Form) (names : Bor (List (Bor Text))) (are : map (λ n
           let met : long_met s.rules (Some (here names o)) None (held rows pending) ≡ (held end (Some (o.name, [])), waits o.name) = long_met_is names s.rules o.name o.value None (held rows pending) valued in
           let quiet : long_fault s.rules s.args_override_self (Some (here names o)) None (held rows pending) ≡ [] =
           long_fault_is names s.rules s.args_override_self o.name o.value None (held rows pending) valued ∙ good.stands.quiet in
-          comes_on s f.name stand (at end (Some (o.name, [])) (option o.name) position false) word rest (option_and_then (asked_by_form f) (given f.options (Some o) g rest))
+          comes_on s f.task stand (at end (Some (o.name, [])) (option o.name) position false) word rest (option_and_then (asked_by_form f) (words_given f.options (Some o) g rest))
           (t.0 ∙ ap₂ turn_kinds quiet met) (t.1 ∙ ap turned met)
           (waits_for o (record { name = name; is = known; valued = valued }) g (suc n) end position (record {
             now = good.now;
@@ -205,7 +205,7 @@ module _ (s : Shape) (f : Form) (names : Bor (List (Bor Text))) (are : map (λ n
           }) (omega arith))
 
       -- an option with its value
-      on_name_is : Idle rest → (v : Text) → long_of word ≡ Some (name, Some v) → has_no_value o.value ≡ false → Goal (then f rest (with_no_more (with_value o v g)))
+      on_name_is : Idle rest → (v : Text) → long_of word ≡ Some (name, Some v) → has_no_value o.value ≡ false → Goal (then f rest (with_no_more (with_option_value o v g)))
       on_name_is idle v is valued =
           let met : long_met s.rules (Some (here names o)) (Some v) (held rows pending) ≡ (held (used (here names o) (v ∷ []) end) None, done) =
           long_met_is names s.rules o.name o.value (Some v) (held rows pending) valued in
@@ -218,7 +218,7 @@ module _ (s : Shape) (f : Form) (names : Bor (List (Bor Text))) (are : map (λ n
           (λ quiet none.
           let t = long_turn s word rows pending (waiting several) position (name, Some v) (Some (here names o)) (none_met several word) d is (leaf.found name o known) in
           let after = record g { options = (o.name, v) ∷ g.options } in
-          comes_on s f.name stand (at (used (here names o) (v ∷ []) end) None (waiting false) position false) word rest (option_and_then (asked_by_form f) (given f.options None after rest))
+          comes_on s f.task stand (at (used (here names o) (v ∷ []) end) None (waiting false) position false) word rest (option_and_then (asked_by_form f) (words_given f.options None after rest))
           (t.0 ∙ ap₂ turn_kinds (faults ∙ ap₂ or_else good.stands.quiet quiet) met) (t.1 ∙ ap turned met)
           (idle after (suc n) (used (here names o) (v ∷ []) end) None false position (record {
             now = give o.name (v ∷ []) good.now;
@@ -234,7 +234,7 @@ module _ (s : Shape) (f : Form) (names : Bor (List (Bor Text))) (are : map (λ n
       on_option : Idle rest → Waits rest → (v : Option Text) → long_of word ≡ Some (name, v) → Goal (then f rest (with_long o v g))
       on_option idle waits_for (Some v) is = by_kind (has_no_value o.value) refl
         where
-          by_kind : (b : Bool) → has_no_value o.value ≡ b → Goal (then f rest (with_no_more (with_value o v g)))
+          by_kind : (b : Bool) → has_no_value o.value ≡ b → Goal (then f rest (with_no_more (with_option_value o v g)))
           by_kind true flag = on_flag_is v is flag
           by_kind false valued = on_name_is idle v is valued
       on_option idle waits_for None is = by_kind (has_no_value o.value) refl
@@ -261,7 +261,7 @@ module _ (s : Shape) (f : Form) (names : Bor (List (Bor Text))) (are : map (λ n
 
     on_argument : Idle rest → is_flag word ≡ false → Goal (then f rest (taken f.options None argument word g))
     on_argument idle is =
-        argument_on word rest g n rows pending several position false (option_and_then (asked_by_form f) (given f.options None (with_arguments (word ∷ []) g) rest)) (d, is) good (omega arith)
+        argument_on word rest g n rows pending several position false (option_and_then (asked_by_form f) (words_given f.options None (with_arguments (word ∷ []) g) rest)) (d, is) good (omega arith)
         (λ r p b m good. idle (with_arguments (word ∷ []) g) (suc n) r p b m good (omega arith))
         (λ many. never (suc (length g.arguments)) f.options (asked_by_form f) (λ h le. refuses h (many h.arguments le)) rest None (with_arguments (word ∷ []) g)
         (let longer : length (g.arguments ++ word ∷ []) ≡ length g.arguments + 1 = length-append g.arguments (word ∷ []) in omega arith))
@@ -273,11 +273,11 @@ module _ (s : Shape) (f : Form) (names : Bor (List (Bor Text))) (are : map (λ n
   idle_step word rest idle waits_for g n rows pending several position good fits = by_dashes (bytes_eq word (45 ∷ 45 ∷ [])) refl
     where
       by_dashes : (b : Bool) → bytes_eq word (45 ∷ 45 ∷ []) ≡ b
-          → Comes s f.name (at rows pending (waiting several) position false) (word ∷ rest)
-          (option_and_then (asked_by_form f) (cond b (Some (with_arguments rest g)) (option_and_then (λ x. given f.options x.0 x.1 rest) (taken f.options None (word_of word) word g))))
+          → Comes s f.task (at rows pending (waiting several) position false) (word ∷ rest)
+          (option_and_then (asked_by_form f) (cond b (Some (with_arguments rest g)) (option_and_then (λ x. words_given f.options x.0 x.1 rest) (taken f.options None (word_of word) word g))))
       by_dashes true d =
           let t = dashes_turn s word rows pending (waiting several) position (none_met several word) d in
-          comes_on s f.name (at rows pending (waiting several) position false) (at rows pending (waiting several) position true) word rest (asked_by_form f (with_arguments rest g)) t.0 t.1
+          comes_on s f.task (at rows pending (waiting several) position false) (at rows pending (waiting several) position true) word rest (asked_by_form f (with_arguments rest g)) t.0 t.1
           (trailing rest g n rows pending several position good (omega arith))
       by_dashes false d = word_step word rest d g n rows pending several position good fits idle waits_for
 
@@ -311,8 +311,8 @@ module _ (s : Shape) (f : Form) (names : Bor (List (Bor Text))) (are : map (λ n
 
     module _ (word : Text) (rest : List Text) (d : bytes_eq word (45 ∷ 45 ∷ []) ≡ false) (g : Given) (n : ℕ) (rows : List Row) (position : ℕ)
         (good : Good s f.arguments g n rows None position) (fits : n + length (word ∷ rest) ≤ usize_max) where
-      abbrev Awaited : Option Asked → Type 0
-      Awaited x = Comes s f.name (awaiting rows position) (word ∷ rest) x
+      abbrev Awaited : Option Task → Type 0
+      Awaited x = Comes s f.task (awaiting rows position) (word ∷ rest) x
 
       no_flag : is_flag word ≡ true → Awaited None
       no_flag is =
@@ -328,11 +328,11 @@ module _ (s : Shape) (f : Form) (names : Bor (List (Bor Text))) (are : map (λ n
           let settles = ap (λ (x : Option Rule). option_map_or (λ a. use_fault s.args_override_self a (word ∷ []) rows) x []) here_by_id in
           by_value names are s.args_override_self o word rows good.now g (λ x. Awaited (then f rest (with_no_more x))) leaf.again option_is.valued good.stands.has
           (good.options o.name (leaf.apart option_is.name o option_is.is))
-          (λ bad. comes_on s f.name (awaiting rows position) (at rows (Some (o.name, word ∷ [])) (waiting false) position false) word rest None t.0 t.1
+          (λ bad. comes_on s f.task (awaiting rows position) (at rows (Some (o.name, word ∷ [])) (waiting false) position false) word rest None t.0 t.1
           (doomed s rest rows (Some (o.name, word ∷ [])) false position (apart (word ∷ [])) (subst IsFault (sym settles) bad)))
           (λ quiet none.
           let after = record g { options = (o.name, word) ∷ g.options } in
-          comes_on s f.name (awaiting rows position) (at rows (Some (o.name, word ∷ [])) (waiting false) position false) word rest (option_and_then (asked_by_form f) (given f.options None after rest)) t.0 t.1
+          comes_on s f.task (awaiting rows position) (at rows (Some (o.name, word ∷ [])) (waiting false) position false) word rest (option_and_then (asked_by_form f) (words_given f.options None after rest)) t.0 t.1
           (idle after (suc n) rows (Some (o.name, word ∷ [])) false position (record {
             now = give o.name (word ∷ []) good.now;
             stands = record {
@@ -355,8 +355,8 @@ module _ (s : Shape) (f : Form) (names : Bor (List (Bor Text))) (are : map (λ n
   waits_step word rest idle o option_is g n rows position good fits = by_dashes (bytes_eq word (45 ∷ 45 ∷ [])) refl
     where
       by_dashes : (b : Bool) → bytes_eq word (45 ∷ 45 ∷ []) ≡ b
-          → Comes s f.name (awaiting o option_is rows position) (word ∷ rest)
-          (option_and_then (asked_by_form f) (cond b None (option_and_then (λ x. given f.options x.0 x.1 rest) (taken f.options (Some o) (word_of word) word g))))
+          → Comes s f.task (awaiting o option_is rows position) (word ∷ rest)
+          (option_and_then (asked_by_form f) (cond b None (option_and_then (λ x. words_given f.options x.0 x.1 rest) (taken f.options (Some o) (word_of word) word g))))
       by_dashes true d =
           let t = dashes_turn s word rows (Some (o.name, [])) (option o.name) position refl d in
           subst IsFault (sym (whole_on s (awaiting o option_is rows position) (at rows (Some (o.name, [])) (option o.name) position true) word rest t.0 t.1))

@@ -9,15 +9,18 @@ use Rattle.clap.specs.Walk.{Held, Names, Rule, Step, Text, Walk, answers_to, arg
 use Rattle.clap.specs.Simple.{App, Shape, built, built_leaf, entered, filled, help_shape, label_of, names_of, rows_at, version_rule}
 use Rattle.clap.specs.Kinds.{HasKind, Kinds, or_else}
 use Rattle.clap.specs.Values.{kind_of}
+use Rattle.clap.specs.Words.{subcommand_of}
 use Rattle.clap.specs.declared.error.Error.{Error}
 use Rattle.clap.specs.Faults.{check_fault, defaults_fault, entered_fault, fault_of, level_fault, long_fault, settle_fault, short_fault, step_fault, turn_fault, walk_fault, word_fault}
 use Rattle.clap.specs.declared.error.kind.ErrorKind.TheVariants.{DisplayVersion, InvalidSubcommand, OutOfMemory, UnknownArgument}
-use Rattle.cfi.specs.CommandLine.{Asked, asked_by, asked_of, cfi_app}
+use Rattle.cfi.specs.CommandLine.{cfi_app, task_by_matches, values_in}
+use Rattle.cfi.specs.Tasks.{Task}
+use Rattle.cfi.specs.Values.{Values}
 use Rattle.cfi.specs.Forms.{Form, form_named, format_names, forms}
 use Rattle.cfi.specs.Words.{asked, asked_in_form}
 use Rattle.cfi.proofs.FlagLemmas.{IsFault, fault_first, fault_next, flag_fails, held, help, is_flag, long_refused, no_fault, or_else-nil, plain_is_value, short_refused, value_met, value_passes}
 use Rattle.cfi.proofs.LevelLemmas.{Fine, Level, fine, is_fine, leaf, level}
-use Rattle.cfi.proofs.RowLemmas.{same_id, some≢none}
+use Rattle.cfi.proofs.RowLemmas.{same_id, some≢none, swapped}
 
 -- ---- what a search finds
 
@@ -75,10 +78,14 @@ module _ (formats : Bor (List (Bor Text))) (are : map (λ name. name.now) format
   abbrev names : Names
   names = names_of cfi_built
 
+  -- what clap's matches of the words ask for
+  abbrev pub matched : List Text → Option Task
+  matched words = option_and_then task_by_matches (subcommand_of (cfi_app formats) words)
+
   -- what the words come to, where they ask for the last
-  abbrev pub Judged : List Text → Option Asked → Type 0
+  abbrev pub Judged : List Text → Option Task → Type 0
   Judged words None = IsFault (fault_of (cfi_app formats) words)
-  Judged words (Some asked) = (fault_of (cfi_app formats) words ≡ []) × (asked_by formats words ≡ Some asked)
+  Judged words (Some asked) = (fault_of (cfi_app formats) words ≡ []) × (matched words ≡ Some asked)
 
   -- ---- a command is named
 
@@ -119,12 +126,12 @@ module _ (formats : Bor (List (Bor Text))) (are : map (λ name. name.now) format
   fault_by met w = or_else met (after_walk w)
 
   -- what is made of a command is what its level makes of the rest
-  abbrev IsOf : Shape → Text → List Text → List Text → Type 0
-  IsOf s name words rest = (fault_of (cfi_app formats) words ≡ level_fault s [] nothing_held rest false []) × (asked_by formats words ≡ Some (asked_of (name, rows_after s.rules [] rest)))
+  abbrev IsOf : Shape → (Values → Task) → List Text → List Text → Type 0
+  IsOf s task words rest = (fault_of (cfi_app formats) words ≡ level_fault s [] nothing_held rest false []) × (matched words ≡ Some (task (values_in (rows_after s.rules [] rest))))
 
-  judged : (s : Shape) (name : Text) (words rest : List Text) (o : Option Asked) → IsOf s name words rest → Level formats s name rest o → Judged words o
-  judged s name words rest None is l = subst IsFault (sym is.0) l
-  judged s name words rest (Some asked) is l = (is.0 ∙ l.0, is.1 ∙ ap Some l.1)
+  judged : (s : Shape) (task : Values → Task) (words rest : List Text) (o : Option Task) → IsOf s task words rest → Level formats s task rest o → Judged words o
+  judged s task words rest None is l = subst IsFault (sym is.0) l
+  judged s task words rest (Some asked) is l = (is.0 ∙ l.0, is.1 ∙ ap Some l.1)
 
   -- ---- the commands by their names
 
@@ -176,19 +183,25 @@ module _ (formats : Bor (List (Bor Text))) (are : map (λ name. name.now) format
       let own : form_named forms f.name ≡ Some f = ap (form_named forms) (same_id f.name word (found_test (λ x. bytes_eq x.name word) forms f e)) ∙ e in
       leaf_in forms (help_built ∷ []) f.name ∙ ap (λ (x : Option Form). option_map_or (λ (f : Form). Some (leaf formats f)) x (find (λ s. answers_to f.name (label_of s)) (help_built ∷ []))) own
 
+  by_own_name : (word : Text) (f : Form) → form_named forms word ≡ Some f → find (λ (g : Form). bytes_eq f.name g.name) forms ≡ Some f
+  by_own_name word f e =
+      (λ i. find (λ (g : Form). swapped f.name g.name i) forms)
+      ∙ (ap (form_named forms) (same_id f.name word (found_test (λ x. bytes_eq x.name word) forms f e)) ∙ e)
+
   abbrev after_found : List Text → Option Shape → Kinds
   after_found rest k =
       or_else (option_map_or (λ s. level_fault s [] nothing_held rest false []) k []) (or_else (settle_fault top.rules top.args_override_self nothing_held)
       (or_else (defaults_fault (settled top.rules nothing_held).rows top.rules)
       (check_fault top (finished top.rules nothing_held) (is_some (option_map (λ s. rows_at s rest) k)))))
 
-  form_is : (program word : Text) (rest : List Text) (f : Form) → form_named forms word ≡ Some f → IsOf (leaf formats f) f.name (program ∷ word ∷ rest) rest
+  form_is : (program word : Text) (rest : List Text) (f : Form) → form_named forms word ≡ Some f → IsOf (leaf formats f) f.task (program ∷ word ∷ rest) rest
   unfolding defaults_fault
   form_is program word rest f is =
       let e = enters f.name word rest (met_by word (Some f) is) (fine_form word f is).other in
       let found = entered_is word f is in (
         ap₂ fault_by e.0 e.1 ∙ ap (after_found rest) found ∙ or_else-nil (level_fault (leaf formats f) [] nothing_held rest false []),
-        ap (λ (w : Walk). option_map asked_of (entered cfi_built w.stopped)) e.1 ∙ ap (λ (k : Option Shape). option_map asked_of (option_map (λ s. rows_at s rest) k)) found,
+        ap (λ (w : Walk). option_and_then task_by_matches (entered cfi_built w.stopped)) e.1 ∙ ap (λ (k : Option Shape). option_and_then task_by_matches (option_map (λ s. rows_at s rest) k)) found
+            ∙ ap (option_map (λ (g : Form). g.task (values_in (rows_after (leaf formats f).rules [] rest)))) (by_own_name word f is),
       )
 
   -- ---- none is named
@@ -266,13 +279,13 @@ module _ (formats : Bor (List (Bor Text))) (are : map (λ name. name.now) format
       by_form : (o : Option Form) → form_named forms word ≡ o → Judged (program ∷ word ∷ rest) (option_and_then (asked_in_form rest) o)
       by_form None none = by_help (bytes_eq (codes "help") word) none refl
       by_form (Some f) is =
-          judged (leaf formats f) f.name (program ∷ word ∷ rest) rest (asked_in_form rest f) (form_is program word rest f is) (level formats are f (fine_form word f is) rest (omega arith))
+          judged (leaf formats f) f.task (program ∷ word ∷ rest) rest (asked_in_form rest f) (form_is program word rest f is) (level formats are f (fine_form word f is) rest (omega arith))
 
   -- where clap finds no fault, its matches ask for what the words ask for
-  pub asked_is : (words : List Text) → length words ≤ usize_max → fault_of (cfi_app formats) words ≡ [] → asked words ≡ asked_by formats words
+  pub asked_is : (words : List Text) → length words ≤ usize_max → fault_of (cfi_app formats) words ≡ [] → asked words ≡ matched words
   asked_is words fits none = go (asked words) (judge words fits)
     where
-      go : (o : Option Asked) → Judged words o → o ≡ asked_by formats words
+      go : (o : Option Task) → Judged words o → o ≡ matched words
       go None h = absurd (no_fault (fault_of (cfi_app formats) words) none h)
       go (Some x) h = sym h.1
 
@@ -280,7 +293,7 @@ module _ (formats : Bor (List (Bor Text))) (are : map (λ name. name.now) format
   pub faultless : (words : List Text) → length words ≤ usize_max → IsSome (asked words) → fault_of (cfi_app formats) words ≡ []
   faultless words fits some = go (asked words) (judge words fits) some
     where
-      go : (o : Option Asked) → Judged words o → IsSome o → fault_of (cfi_app formats) words ≡ []
+      go : (o : Option Task) → Judged words o → IsSome o → fault_of (cfi_app formats) words ≡ []
       go None h none = absurd (true≢false (sym none))
       go (Some x) h some = h.0
 

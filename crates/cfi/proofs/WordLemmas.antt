@@ -8,9 +8,11 @@ use Rattle.clap.specs.Walk.{Held, Row, Rule, Step, Text, Waiting, after_flag, af
 use Rattle.clap.specs.Simple.{Shape}
 use Rattle.clap.specs.Kinds.{or_else}
 use Rattle.clap.specs.Faults.{check_fault, defaults_fault, long_fault, step_fault, turn_fault}
-use Rattle.cfi.specs.CommandLine.{Asked, asked_of}
+use Rattle.cfi.specs.CommandLine.{values_in}
+use Rattle.cfi.specs.Tasks.{Task}
+use Rattle.cfi.specs.Values.{Values}
 use Rattle.cfi.specs.Forms.{Arguments, Form, LongOption, file_and_address, file_and_addresses, one_file, any_files, option_named}
-use Rattle.cfi.specs.Words.{Given, addresses_of, asked_by_form, files_of, fits, listed, value_given}
+use Rattle.cfi.specs.Words.{Given, address_words, asked_by_form, file_words, has_places, at_most_one, value_given}
 use Rattle.cfi.proofs.FlagLemmas.{IsFault, held, help}
 use Rattle.cfi.proofs.OptionLemmas.{here}
 use Rattle.cfi.proofs.PlaceLemmas.{Place, Stands}
@@ -54,12 +56,12 @@ Placed any_files given position = position ≡ 1
 
 pub record Places (arguments : Arguments) (given : List Text) (position : ℕ) (now : Text → List Text) : Type 0 where
   pub placed : Placed arguments given position
-  pub file : now (codes "FILE") ≡ files_of arguments given
-  pub address : now (codes "ADDRESS") ≡ addresses_of arguments given
+  pub file : now (codes "FILE") ≡ file_words arguments given
+  pub address : now (codes "ADDRESS") ≡ address_words arguments given
 
 -- the options have their values
 abbrev pub Options : Given → (Text → List Text) → Type 0
-Options g now = (id : Text) → is_place id ≡ false → now id ≡ listed (value_given id g.options)
+Options g now = (id : Text) → is_place id ≡ false → now id ≡ at_most_one (value_given id g.options)
 
 pub record Good (s : Shape) (arguments : Arguments) (g : Given) (n : ℕ) (rows : List Row) (pending : Option (Text × List Text)) (position : ℕ) : Type 0 where
   pub now : Text → List Text
@@ -71,7 +73,7 @@ pub record Good (s : Shape) (arguments : Arguments) (g : Given) (n : ℕ) (rows 
 pub options_on : (name v : Text) (g : Given) (now : Text → List Text) → now name ≡ [] → Options g now → Options (record g { options = (name, v) ∷ g.options }) (give name (v ∷ []) now)
 options_on name v g now none options id apart = go (bytes_eq name id) refl
   where
-    go : (b : Bool) → bytes_eq name id ≡ b → cond b (now id ++ v ∷ []) (now id) ≡ listed (option_map (λ o. o.1) (cond b (Some (name, v)) (find (λ o. bytes_eq o.0 id) g.options)))
+    go : (b : Bool) → bytes_eq name id ≡ b → cond b (now id ++ v ∷ []) (now id) ≡ at_most_one (option_map (λ o. o.1) (cond b (Some (name, v)) (find (λ o. bytes_eq o.0 id) g.options)))
     go true e = ap (λ (x : List Text). x ++ v ∷ []) (ap now (sym (same_id name id e)) ∙ none)
     go false e = options id apart
 
@@ -86,15 +88,15 @@ places_on name v arguments given position now none places = record {
 -- ---- a command: its options, its places, and what its arguments ask for
 
 -- what the rows come to at the end
-abbrev pub Ends : Shape → Text → List Row → Option Asked → Type 0
-Ends s name rows None = IsFault (or_else (defaults_fault rows s.rules) (check_fault s (fold with_default rows s.rules) false))
-Ends s name rows (Some asked) =
-    (or_else (defaults_fault rows s.rules) (check_fault s (fold with_default rows s.rules) false) ≡ []) × (asked_of (name, fold with_default rows s.rules) ≡ asked)
+abbrev pub Ends : Shape → (Values → Task) → List Row → Option Task → Type 0
+Ends s task rows None = IsFault (or_else (defaults_fault rows s.rules) (check_fault s (fold with_default rows s.rules) false))
+Ends s task rows (Some asked) =
+    (or_else (defaults_fault rows s.rules) (check_fault s (fold with_default rows s.rules) false) ≡ []) × (task (values_in (fold with_default rows s.rules)) ≡ asked)
 
 -- where a further argument goes, or why there may be none
 abbrev pub Takes : List Rule → Arguments → List Text → ℕ → (Text → List Text) → Type 0
 Takes c arguments given position now =
-    ((arg_by_index c position ≡ None) × ((more : List Text) → suc (length given) ≤ length more → fits arguments more ≡ false))
+    ((arg_by_index c position ≡ None) × ((more : List Text) → suc (length given) ≤ length more → has_places arguments more ≡ false))
     ⊎ ((a : Rule) × (arg_by_index c position ≡ Some a) × Place c a now × (is_place a.id ≡ true)
     × ((word : Text) → Places arguments (given ++ word ∷ []) (next_position a position) (give a.id (word ∷ []) now)))
 
@@ -108,7 +110,7 @@ pub record Leaf (s : Shape) (f : Form) (names : Bor (List (Bor Text))) : Type 0 
   pub index : (position : ℕ) (a : Rule) → arg_by_index s.rules position ≡ Some a → is_place a.id ≡ true
   pub place : (given : List Text) (position : ℕ) (now : Text → List Text) → Places f.arguments given position now → Takes s.rules f.arguments given position now
   pub ends : (g : Given) (position : ℕ) (rows : List Row) (now : Text → List Text) → Places f.arguments g.arguments position now → Options g now → Has rows now
-      → Ends s f.name rows (asked_by_form f g)
+      → Ends s f.task rows (asked_by_form f g)
 
 -- ---- a long flag
 

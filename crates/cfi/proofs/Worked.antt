@@ -1,5 +1,5 @@
 -- What some command lines ask for, computed from the definitions alone.
-use Rattle.std.proofs.Common.{◌≡◌, codes, refl, true, false, List, [], ◌∷◌, Some, None}
+use Rattle.std.proofs.Common.{◌≡◌, ℕ, Bool, codes, refl, true, false, List, Option, [], ◌∷◌, Some, None}
 use Rattle.std.specs.Borrow.{Bor}
 use Rattle.std.specs.Fmt.{digits}
 use Rattle.std.specs.Str.{chars}
@@ -8,17 +8,44 @@ use Rattle.clap.specs.declared.error.kind.ErrorKind.TheVariants.{DisplayHelp, Di
 use Rattle.clap.proofs.OnLiterals.{clap_on_literals}
 use Rattle.cfi_programs.specs.declared.style.Format.TheVariants as form
 use Rattle.hex.specs.Hex.{encode_with}
+use Rattle.cfi_programs.specs.declared.style.Format.{Format}
+use Rattle.cfi_stacks.specs.Choices.{everything}
+use Rattle.cfi_stacks.specs.declared.listing.Listing.TheVariants.{Folded}
+use Rattle.cfi.specs.Disks.{path_of}
+use Rattle.cfi.specs.Tasks.{Task, asking, checking_by, dump_of, flame, listing_for, no_files, no_times, print, report, row_of, rows_of, tell, two_namings, unwind}
 use Rattle.cfi.specs.Tasks as task
-use Rattle.cfi.specs.Tasks.{task_for}
-use Rattle.cfi.specs.Targets.{names_of, path_in}
-use Rattle.cfi.specs.CommandLine.{Samples, cfi_app, check, dump, flame, fold, report, row, rows, stack, unwind}
+use Rattle.cfi.specs.Targets.{names_listed}
+use Rattle.cfi.specs.CommandLine.{cfi_app}
 use Rattle.cfi.specs.Findings.{tally_in}
 use Rattle.cfi.specs.Folders.{Folders, copy_path, debug_path, path_below}
-use Rattle.cfi.specs.Forms.{LongOption, number_of, raw, text_option}
-use Rattle.cfi.specs.Openings.{path_of}
+use Rattle.cfi.specs.Forms.{LongOption, raw, text_option}
 use Rattle.cfi.specs.Spelled.{spelled}
 use Rattle.cfi.specs.Times.{time_of, times_of}
-use Rattle.cfi.specs.Words.{asked, given, nothing}
+use Rattle.cfi.specs.Trees.{path_in}
+use Rattle.cfi.specs.Values.{u64_of}
+use Rattle.cfi.specs.Words.{asked, words_given, none_given}
+
+-- ---- tasks by what is asked for
+
+abbrev row : Bool → Format → Text → List Text → Task
+row is_raw format file addresses = print file (asking is_raw (row_of format addresses))
+
+abbrev rows : Bool → Format → Text → Option Text → Task
+rows is_raw format file address = print file (asking is_raw (rows_of format address))
+
+abbrev dump : Bool → Text → Task
+dump is_raw file = print file (asking is_raw dump_of)
+
+abbrev check : Bool → Format → Bool → Option Text → List Text → Task
+check quiet format recursive list files =
+    checking_by (record { format = format; quiet = quiet; elf_alone = false }) recursive list files
+
+abbrev stack : Bool → Format → Option ℕ → Folders → Text → Task
+stack is_raw format thread folders file =
+    task.stack (record { raw = is_raw; format = format; thread = thread }) folders file
+
+abbrev graph : Text → Bool → ℕ → Text → Task
+graph title reverse least file = flame (record { title = title; reverse = reverse; least = least }) file
 
 two_addresses : asked (codes "cfi" ∷ codes "row" ∷ codes "a" ∷ codes "0x10" ∷ codes "main+4" ∷ []) ≡ Some (row false form.Text (codes "a") (codes "0x10" ∷ codes "main+4" ∷ []))
 two_addresses = refl
@@ -94,10 +121,10 @@ in_folders = refl
 by_a_list : asked (codes "cfi" ∷ codes "check" ∷ codes "--files0-from=-" ∷ []) ≡ Some (check false form.Text false (Some (codes "-")) [])
 by_a_list = refl
 
-both_namings : task_for (check false form.Text false (Some (codes "-")) (codes "a" ∷ [])) ≡ task.two_namings
+both_namings : asked (codes "cfi" ∷ codes "check" ∷ codes "a" ∷ codes "--files0-from=-" ∷ []) ≡ Some (tell two_namings)
 both_namings = refl
 
-no_naming : task_for (check false form.Text true None []) ≡ task.no_files
+no_naming : asked (codes "cfi" ∷ codes "check" ∷ codes "--recursive" ∷ []) ≡ Some (tell no_files)
 no_naming = refl
 
 -- a flag of one letter of `check`, before `--`
@@ -109,16 +136,16 @@ no_letter_of_rows : spelled (codes "cfi" ∷ codes "rows" ∷ codes "-r" ∷ [])
 no_letter_of_rows = refl
 
 -- a name is ended by a zero byte, the last one perhaps not
-two_names : names_of (97 ∷ 0 ∷ 98 ∷ 99 ∷ 0 ∷ []) ≡ codes "a" ∷ codes "bc" ∷ []
+two_names : names_listed (97 ∷ 0 ∷ 98 ∷ 99 ∷ 0 ∷ []) ≡ codes "a" ∷ codes "bc" ∷ []
 two_names = refl
 
-not_ended : names_of (97 ∷ 0 ∷ 98 ∷ []) ≡ codes "a" ∷ codes "b" ∷ []
+not_ended : names_listed (97 ∷ 0 ∷ 98 ∷ []) ≡ codes "a" ∷ codes "b" ∷ []
 not_ended = refl
 
-an_empty_name : names_of (97 ∷ 0 ∷ 0 ∷ []) ≡ codes "a" ∷ [] ∷ []
+an_empty_name : names_listed (97 ∷ 0 ∷ 0 ∷ []) ≡ codes "a" ∷ [] ∷ []
 an_empty_name = refl
 
-an_empty_list : names_of [] ≡ []
+an_empty_list : names_listed [] ≡ []
 an_empty_list = refl
 
 below_a_folder : path_in (codes "/usr/lib") (codes "a") ≡ codes "/usr/lib/a"
@@ -148,40 +175,40 @@ not_quiet = refl
 abbrev name : LongOption
 name = text_option (codes "comm")
 
-a_value : given (raw ∷ name ∷ []) None nothing (codes "core" ∷ codes "--comm=" ∷ codes "--raw" ∷ [])
+a_value : words_given (raw ∷ name ∷ []) None none_given (codes "core" ∷ codes "--comm=" ∷ codes "--raw" ∷ [])
     ≡ Some (record { options = (codes "raw", codes "true") ∷ (codes "comm", codes "") ∷ []; arguments = codes "core" ∷ [] })
 a_value = refl
 
-a_next_value : given (name ∷ []) None nothing (codes "--comm" ∷ codes "7" ∷ codes "core" ∷ [])
+a_next_value : words_given (name ∷ []) None none_given (codes "--comm" ∷ codes "7" ∷ codes "core" ∷ [])
     ≡ Some (record { options = (codes "comm", codes "7") ∷ []; arguments = codes "core" ∷ [] })
 a_next_value = refl
 
-two_values : given (name ∷ []) None nothing (codes "--comm=7" ∷ codes "core" ∷ codes "--comm" ∷ codes "7" ∷ []) ≡ None
+two_values : words_given (name ∷ []) None none_given (codes "--comm=7" ∷ codes "core" ∷ codes "--comm" ∷ codes "7" ∷ []) ≡ None
 two_values = refl
 
-no_value_follows : given (name ∷ []) None nothing (codes "core" ∷ codes "--comm" ∷ []) ≡ None
+no_value_follows : words_given (name ∷ []) None none_given (codes "core" ∷ codes "--comm" ∷ []) ≡ None
 no_value_follows = refl
 
-a_flag_has_no_value : given (raw ∷ []) None nothing (codes "--raw=true" ∷ codes "core" ∷ []) ≡ None
+a_flag_has_no_value : words_given (raw ∷ []) None none_given (codes "--raw=true" ∷ codes "core" ∷ []) ≡ None
 a_flag_has_no_value = refl
 
-no_option_named_so : given (raw ∷ []) None nothing (codes "--comm=7" ∷ codes "core" ∷ []) ≡ None
+no_option_named_so : words_given (raw ∷ []) None none_given (codes "--comm=7" ∷ codes "core" ∷ []) ≡ None
 no_option_named_so = refl
 
 -- a number has decimal digits, of a value below 2^64; a plus may stand before them
-a_number : number_of (codes "18446744073709551615") ≡ Some 18446744073709551615
+a_number : u64_of (codes "18446744073709551615") ≡ Some 18446744073709551615
 a_number = refl
 
-behind_a_plus : number_of (codes "+012") ≡ Some 12
+behind_a_plus : u64_of (codes "+012") ≡ Some 12
 behind_a_plus = refl
 
-too_great : number_of (codes "18446744073709551616") ≡ None
+too_great : u64_of (codes "18446744073709551616") ≡ None
 too_great = refl
 
-no_digits : number_of (codes "") ≡ None
+no_digits : u64_of (codes "") ≡ None
 no_digits = refl
 
-hexadecimal : number_of (codes "0x1f") ≡ None
+hexadecimal : u64_of (codes "0x1f") ≡ None
 hexadecimal = refl
 
 no_number : asked (codes "cfi" ∷ codes "unwind" ∷ codes "--limit=many" ∷ codes "perf.data" ∷ []) ≡ None
@@ -195,29 +222,26 @@ counted = refl
 
 -- ---- stacks
 
-abbrev all_samples : Samples
-all_samples = record { comm = None; pid = None; tid = None; event = None; time = None; limit = None }
-
 abbrev no_folders : Folders
 no_folders = record { symfs = None; debug_dir = None }
 
-a_profile : asked (codes "cfi" ∷ codes "unwind" ∷ codes "perf.data" ∷ []) ≡ Some (unwind false form.Text all_samples no_folders (codes "perf.data"))
+a_profile : asked (codes "cfi" ∷ codes "unwind" ∷ codes "perf.data" ∷ []) ≡ Some (unwind (listing_for false form.Text) everything no_folders (codes "perf.data"))
 a_profile = refl
 
 a_raw_profile : asked (codes "cfi" ∷ codes "unwind" ∷ codes "--raw" ∷ codes "perf.data" ∷ codes "--format=json" ∷ [])
-    ≡ Some (unwind true form.Json all_samples no_folders (codes "perf.data"))
+    ≡ Some (unwind (listing_for true form.Json) everything no_folders (codes "perf.data"))
 a_raw_profile = refl
 
 samples_of_a_thread : asked (codes "cfi" ∷ codes "unwind" ∷ codes "--pid" ∷ codes "7" ∷ codes "perf.data" ∷ codes "--tid=8" ∷ codes "--comm=ls" ∷ codes "--event" ∷ codes "cycles:u" ∷ [])
-    ≡ Some (unwind false form.Text (record all_samples { comm = Some (codes "ls"); pid = Some 7; tid = Some 8; event = Some (codes "cycles:u") }) no_folders (codes "perf.data"))
+    ≡ Some (unwind (listing_for false form.Text) (record everything { comm = Some (codes "ls"); pid = Some 7; tid = Some 8; event = Some (codes "cycles:u") }) no_folders (codes "perf.data"))
 samples_of_a_thread = refl
 
 samples_of_a_time : asked (codes "cfi" ∷ codes "unwind" ∷ codes "--time" ∷ codes ",1.5" ∷ codes "--limit=10" ∷ codes "perf.data" ∷ [])
-    ≡ Some (unwind false form.Text (record all_samples { time = Some (codes ",1.5"); limit = Some 10 }) no_folders (codes "perf.data"))
+    ≡ Some (unwind (listing_for false form.Text) (record everything { until = Some 1500000000; limit = Some 10 }) no_folders (codes "perf.data"))
 samples_of_a_time = refl
 
 a_profile_of_another_system : asked (codes "cfi" ∷ codes "unwind" ∷ codes "--symfs=/mnt" ∷ codes "--debug-dir" ∷ codes "debug" ∷ codes "perf.data" ∷ [])
-    ≡ Some (unwind false form.Text all_samples (record { symfs = Some (codes "/mnt"); debug_dir = Some (codes "debug") }) (codes "perf.data"))
+    ≡ Some (unwind (listing_for false form.Text) everything (record { symfs = Some (codes "/mnt"); debug_dir = Some (codes "debug") }) (codes "perf.data"))
 a_profile_of_another_system = refl
 
 a_core : asked (codes "cfi" ∷ codes "stack" ∷ codes "core" ∷ []) ≡ Some (stack false form.Text None no_folders (codes "core"))
@@ -297,10 +321,10 @@ a_debug_file_in_a_folder = refl
 
 -- ---- folded stacks
 
-folded : asked (codes "cfi" ∷ codes "flame" ∷ codes "-" ∷ []) ≡ Some (flame None false None (codes "-"))
+folded : asked (codes "cfi" ∷ codes "flame" ∷ codes "-" ∷ []) ≡ Some (graph (codes "Flame graph") false 0 (codes "-"))
 folded = refl
 
-a_title : asked (codes "cfi" ∷ codes "flame" ∷ codes "--title" ∷ codes "ls -lR" ∷ codes "-" ∷ []) ≡ Some (flame (Some (codes "ls -lR")) false None (codes "-"))
+a_title : asked (codes "cfi" ∷ codes "flame" ∷ codes "--title" ∷ codes "ls -lR" ∷ codes "-" ∷ []) ≡ Some (graph (codes "ls -lR") false 0 (codes "-"))
 a_title = refl
 
 folded_is_not_raw : asked (codes "cfi" ∷ codes "flame" ∷ codes "--raw" ∷ codes "-" ∷ []) ≡ None
@@ -312,23 +336,23 @@ folded_has_no_format = refl
 folded_report : asked (codes "cfi" ∷ codes "report" ∷ codes "-" ∷ []) ≡ Some (report form.Text (codes "-"))
 folded_report = refl
 
-by_callers : asked (codes "cfi" ∷ codes "flame" ∷ codes "-" ∷ codes "--reverse" ∷ codes "--min-width=0.1" ∷ []) ≡ Some (flame None true (Some (codes "0.1")) (codes "-"))
+by_callers : asked (codes "cfi" ∷ codes "flame" ∷ codes "-" ∷ codes "--reverse" ∷ codes "--min-width=0.1" ∷ []) ≡ Some (graph (codes "Flame graph") true 100000000 (codes "-"))
 by_callers = refl
 
-a_width : task_for (flame None true (Some (codes "0.1")) (codes "-")) ≡ task.flame (record { title = codes "Flame graph"; reverse = true; least = 100000000 }) (codes "-")
-a_width = refl
-
-no_width : task_for (flame None true (Some (codes "1px")) (codes "-")) ≡ task.no_width (codes "1px")
+no_width : asked (codes "cfi" ∷ codes "flame" ∷ codes "-" ∷ codes "--min-width=1px" ∷ []) ≡ Some (tell (task.no_width (codes "1px")))
 no_width = refl
+
+no_times_asked : asked (codes "cfi" ∷ codes "fold" ∷ codes "perf.data" ∷ codes "--time=12" ∷ []) ≡ Some (tell (no_times (codes "12")))
+no_times_asked = refl
 
 reported_objects : asked (codes "cfi" ∷ codes "report" ∷ codes "--format" ∷ codes "json" ∷ codes "-" ∷ []) ≡ Some (report form.Json (codes "-"))
 reported_objects = refl
 
-folded_profile : asked (codes "cfi" ∷ codes "fold" ∷ codes "perf.data" ∷ []) ≡ Some (fold false all_samples no_folders (codes "perf.data"))
+folded_profile : asked (codes "cfi" ∷ codes "fold" ∷ codes "perf.data" ∷ []) ≡ Some (unwind (Folded false) everything no_folders (codes "perf.data"))
 folded_profile = refl
 
 folded_by_period : asked (codes "cfi" ∷ codes "fold" ∷ codes "--period" ∷ codes "perf.data" ∷ codes "--limit" ∷ codes "3" ∷ [])
-    ≡ Some (fold true (record all_samples { limit = Some 3 }) no_folders (codes "perf.data"))
+    ≡ Some (unwind (Folded true) (record everything { limit = Some 3 }) no_folders (codes "perf.data"))
 folded_by_period = refl
 
 one_report : asked (codes "cfi" ∷ codes "report" ∷ codes "a" ∷ codes "b" ∷ []) ≡ None

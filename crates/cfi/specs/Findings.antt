@@ -1,19 +1,19 @@
 -- What a check of files found, and the line that counts it.
 use Rattle.std.specs.Prelude.{ℕ, Bool, true, false, List, ◌++◌, codes, fold, max}
 use Rattle.std.specs.Fmt.{decimal}
-use Rattle.cfi_programs.specs.JsonLines.{json_number}
+use Rattle.cfi_programs.specs.JsonTexts.{json_number}
 use Rattle.cfi_programs.specs.declared.style.Format.{Format}
 use Rattle.cfi_programs.specs.declared.style.Format.TheVariants.{Text, Json}
 use Rattle.cfi_files.specs.declared.finding.Finding.{Finding}
 use Rattle.cfi_files.specs.declared.finding.Finding.TheVariants.{Faithful, OtherFile}
 use Rattle.cfi_files.specs.Findings.{finding_status}
-use Rattle.cfi.specs.declared.files.CheckStyle.{CheckStyle}
+use Rattle.cfi.specs.declared.checks.CheckStyle.{CheckStyle}
 
 -- a file with a faithful table may have no line, and one that isn't an ELF file
-abbrev pub is_left_out : CheckStyle → Finding → Bool
-is_left_out style Faithful = style.quiet
-is_left_out style OtherFile = style.elf_alone
-is_left_out style _ = false
+abbrev pub has_no_line : CheckStyle → Finding → Bool
+has_no_line style Faithful = style.quiet
+has_no_line style OtherFile = style.elf_alone
+has_no_line style _ = false
 
 abbrev pub of_elf_alone : CheckStyle → CheckStyle
 of_elf_alone style = record style { elf_alone = true }

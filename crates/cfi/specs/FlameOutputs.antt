@@ -1,5 +1,5 @@
 -- What is printed for folded stacks: their flame graph, or their functions.
---     IsOwed summary text printed      the output for the bytes of a file
+--     IsSummaryOwed summary text printed      the output for the bytes of a file
 use Rattle.std.specs.Prelude.{◌≡◌, ◌⊎◌, ℕ, List, ◌++◌, codes}
 use Rattle.std.specs.Fmt.{decimal}
 use Rattle.cfi_flame.specs.Flames.{Drawing, IsGraphOfPlain, IsPlainRefused, as_drawn, drawing_view}
@@ -28,20 +28,20 @@ summary_view (FlameGraph drawing) = graph (drawing_view drawing)
 summary_view (Report format) = table format
 
 -- in which format it is said that there is none
-abbrev pub format_of : OfStacks → Format
-format_of (graph drawing) = Text
-format_of (table format) = format
+abbrev pub summary_format : OfStacks → Format
+summary_format (graph drawing) = Text
+summary_format (table format) = format
 
 -- with the number of the line that isn't folded, from 1
 abbrev pub not_folded : Format → ℕ → Line
 not_folded Text number = line (codes "refused NotFolded " ++ decimal number) 1
 not_folded Json number = record { text = not_folded_object number; status = 1 }
 
-abbrev pub refusal : Format → FoldedError → Line
-refusal format OutOfMemory = refusal_saying format (codes "OutOfMemory")
-refusal format (NotFolded number) = not_folded format number
-refusal format NoSamples = refusal_saying format (codes "NoSamples")
-refusal format TooManySamples = refusal_saying format (codes "TooManySamples")
+abbrev pub summary_refusal : Format → FoldedError → Line
+summary_refusal format OutOfMemory = refusal_saying format (codes "OutOfMemory")
+summary_refusal format (NotFolded number) = not_folded format number
+summary_refusal format NoSamples = refusal_saying format (codes "NoSamples")
+summary_refusal format TooManySamples = refusal_saying format (codes "TooManySamples")
 
 abbrev pub made_line : List ℕ → Line
 made_line made = record { text = made; status = 0 }
@@ -56,27 +56,27 @@ AreObjects text made =
 abbrev pub IsOfObjects : List ℕ → Line → Type 0
 IsOfObjects text printed =
     ((made : List ℕ) × AreObjects text made × (printed ≡ made_line made))
-    ⊎ ((error : FoldedError) × IsReportRefused text error × (printed ≡ refusal Json error))
+    ⊎ ((error : FoldedError) × IsReportRefused text error × (printed ≡ summary_refusal Json error))
 
 -- of the stacks of a text
-abbrev pub IsMade : OfStacks → List ℕ → List ℕ → Type 0
-IsMade (graph drawing) text made = IsGraphOfPlain (as_drawn drawing) (plain text) made
-IsMade (table Text) text made = IsReport (plain text) made
-IsMade (table Json) text made = AreObjects (plain text) made
+abbrev pub IsSummaryMade : OfStacks → List ℕ → List ℕ → Type 0
+IsSummaryMade (graph drawing) text made = IsGraphOfPlain (as_drawn drawing) (plain text) made
+IsSummaryMade (table Text) text made = IsReport (plain text) made
+IsSummaryMade (table Json) text made = AreObjects (plain text) made
 
 -- why there is none
-abbrev pub IsUnmade : OfStacks → List ℕ → FoldedError → Type 0
-IsUnmade (graph drawing) text error = IsPlainRefused drawing (plain text) error
-IsUnmade (table format) text error = IsReportRefused (plain text) error
+abbrev pub IsSummaryRefused : OfStacks → List ℕ → FoldedError → Type 0
+IsSummaryRefused (graph drawing) text error = IsPlainRefused drawing (plain text) error
+IsSummaryRefused (table format) text error = IsReportRefused (plain text) error
 
-abbrev pub IsOutput : OfStacks → List ℕ → Line → Type 0
-IsOutput summary text printed =
-    ((made : List ℕ) × IsMade summary text made × (printed ≡ made_line made))
-    ⊎ ((error : FoldedError) × IsUnmade summary text error
-    × (printed ≡ refusal (format_of summary) error))
+abbrev pub IsSummaryOutput : OfStacks → List ℕ → Line → Type 0
+IsSummaryOutput summary text printed =
+    ((made : List ℕ) × IsSummaryMade summary text made × (printed ≡ made_line made))
+    ⊎ ((error : FoldedError) × IsSummaryRefused summary text error
+    × (printed ≡ summary_refusal (summary_format summary) error))
 
 -- or the input can't be read
-abbrev pub IsOwed : OfStacks → List ℕ → Line → Type 0
-IsOwed summary text printed =
-    IsOutput summary text printed
-    ⊎ (printed ≡ reason_line (format_of summary) (codes "wrong input") 2)
+abbrev pub IsSummaryOwed : OfStacks → List ℕ → Line → Type 0
+IsSummaryOwed summary text printed =
+    IsSummaryOutput summary text printed
+    ⊎ (printed ≡ reason_line (summary_format summary) (codes "wrong input") 2)

@@ -1,14 +1,17 @@
--- The commands of `cfi` as data: the options and the arguments of each.
+-- The commands of `cfi` as data: the options, the arguments and the task of each.
 --     forms      the commands
 --     form_named forms name      the command of this name, if any
+--     task_among forms name values      the task of the command of this name, if any
 --     option_named options name      the option of this name, if any
-use Rattle.std.specs.Prelude.{ℕ, ◌^◌, ◌&&◌, Bool, true, false, List, [], ◌∷◌, ◌++◌, Option, Some}
-use Rattle.std.specs.Prelude.{None, codes, find, is_some, nat_lt, if◌then◌else◌}
+use Rattle.std.specs.Prelude.{Bool, true, false, List, [], ◌∷◌, ◌++◌, Option, codes, find, is_some}
+use Rattle.std.specs.Prelude.{option_map}
 use Rattle.std.specs.List.{list_any}
 use Rattle.std.specs.Str.{bytes_eq}
-use Rattle.std.specs.Str.Parse.{digits_value, without_leading_plus}
-use Rattle.clap.specs.ValueTests.{is_numeral}
 use Rattle.clap.specs.Words.{Text}
+use Rattle.cfi_stacks.specs.declared.listing.Listing.TheVariants.{Folded}
+use Rattle.cfi.specs.Tasks.{Task, checking, drawing, dump_of, listing_for, printing, report, row_of}
+use Rattle.cfi.specs.Tasks.{rows_of, stacks_of_threads, table_of, unwinding}
+use Rattle.cfi.specs.Values.{Values, file_in, format_in, is_asked, u64_of, value_for}
 
 -- ---- options
 
@@ -34,18 +37,10 @@ has_no_value format_name = false
 abbrev pub format_names : List Text
 format_names = codes "text" ∷ codes "json" ∷ []
 
--- decimal digits, of a value below 2^64; a plus may stand before them
-abbrev pub number_of : Text → Option ℕ
-number_of text =
-    let digits = without_leading_plus text in
-    if is_numeral digits && nat_lt (digits_value 10 digits) (2 ^ 64)
-    then Some (digits_value 10 digits)
-    else None
-
 abbrev pub takes : Value → Text → Bool
 takes no_value text = false
 takes any_text text = true
-takes number text = is_some (number_of text)
+takes number text = is_some (u64_of text)
 takes format_name text = list_any (λ name. bytes_eq name text) format_names
 
 abbrev pub option_named : List LongOption → Text → Option LongOption
@@ -65,26 +60,22 @@ pub record Form : Type 0 where
   pub name : Text
   pub options : List LongOption
   pub arguments : Arguments
+  pub task : Values → Task
 
 abbrev pub form_named : List Form → Text → Option Form
 form_named forms name = find (λ f. bytes_eq f.name name) forms
 
+abbrev pub task_among : List Form → Text → Values → Option Task
+task_among forms name values =
+    option_map (λ f. f.task values) (find (λ f. bytes_eq name f.name) forms)
+
 -- ---- the commands of `cfi`
 
+abbrev pub flag : Text → LongOption
+flag name = record { name = name; value = no_value }
+
 abbrev pub raw : LongOption
-raw = record { name = codes "raw"; value = no_value }
-
-abbrev pub quiet : LongOption
-quiet = record { name = codes "quiet"; value = no_value }
-
-abbrev pub period : LongOption
-period = record { name = codes "period"; value = no_value }
-
-abbrev pub reverse : LongOption
-reverse = record { name = codes "reverse"; value = no_value }
-
-abbrev pub recursive : LongOption
-recursive = record { name = codes "recursive"; value = no_value }
+raw = flag (codes "raw")
 
 abbrev pub format : LongOption
 format = record { name = codes "format"; value = format_name }
@@ -110,55 +101,61 @@ sample_options =
 abbrev pub folder_options : List LongOption
 folder_options = text_option (codes "symfs") ∷ text_option (codes "debug-dir") ∷ []
 
-abbrev pub form : Text → List LongOption → Arguments → Form
-form name options arguments = record { name = name; options = options; arguments = arguments }
+abbrev pub form : Text → List LongOption → Arguments → (Values → Task) → Form
+form name options arguments task =
+    record { name = name; options = options; arguments = arguments; task = task }
 
 abbrev pub row_form : Form
-row_form = form (codes "row") (raw ∷ format ∷ []) file_and_addresses
+row_form =
+    form (codes "row") (raw ∷ format ∷ []) file_and_addresses
+    (λ values. printing (row_of (format_in values) (values (codes "ADDRESS"))) values)
 
 abbrev pub rows_form : Form
-rows_form = form (codes "rows") (raw ∷ format ∷ []) file_and_address
+rows_form =
+    form (codes "rows") (raw ∷ format ∷ []) file_and_address
+    (λ values. printing (rows_of (format_in values) (value_for values (codes "ADDRESS"))) values)
 
 abbrev pub dump_form : Form
-dump_form = form (codes "dump") (raw ∷ []) one_file
+dump_form = form (codes "dump") (raw ∷ []) one_file (printing dump_of)
 
 abbrev pub check_form : Form
 check_form =
-    form (codes "check") (quiet ∷ format ∷ recursive ∷ text_option (codes "files0-from") ∷ [])
-    any_files
+    form (codes "check")
+    (flag (codes "quiet") ∷ format ∷ flag (codes "recursive") ∷ text_option (codes "files0-from")
+    ∷ []) any_files checking
 
 abbrev pub table_form : Form
-table_form = form (codes "table") (raw ∷ []) one_file
+table_form = form (codes "table") (raw ∷ []) one_file (printing table_of)
 
 abbrev pub unwind_form : Form
 unwind_form =
     form (codes "unwind") (raw ∷ format ∷ sample_options ++ folder_options) one_file
+    (λ values. unwinding (listing_for (is_asked values (codes "raw")) (format_in values)) values)
 
 abbrev pub stack_form : Form
 stack_form =
     form (codes "stack") (raw ∷ format ∷ number_option (codes "thread") ∷ folder_options) one_file
+    stacks_of_threads
 
 abbrev pub flame_form : Form
 flame_form =
     form (codes "flame")
-    (text_option (codes "title") ∷ reverse ∷ text_option (codes "min-width") ∷ []) one_file
+    (text_option (codes "title") ∷ flag (codes "reverse") ∷ text_option (codes "min-width") ∷ [])
+    one_file drawing
 
 abbrev pub report_form : Form
-report_form = form (codes "report") (format ∷ []) one_file
+report_form =
+    form (codes "report") (format ∷ []) one_file
+    (λ values. report (format_in values) (file_in values))
 
 abbrev pub fold_form : Form
-fold_form = form (codes "fold") (period ∷ sample_options ++ folder_options) one_file
+fold_form =
+    form (codes "fold") (flag (codes "period") ∷ sample_options ++ folder_options) one_file
+    (λ values. unwinding (Folded (is_asked values (codes "period"))) values)
+
+-- those that print stacks, or a graph or the functions of them
+abbrev pub forms_of_stacks : List Form
+forms_of_stacks = unwind_form ∷ stack_form ∷ flame_form ∷ report_form ∷ fold_form ∷ []
 
 abbrev pub forms : List Form
-forms =
-    row_form
-    ∷ rows_form
-    ∷ dump_form
-    ∷ check_form
-    ∷ table_form
-    ∷ unwind_form
-    ∷ stack_form
-    ∷ flame_form
-    ∷ report_form
-    ∷ fold_form
-    ∷ []
+forms = row_form ∷ rows_form ∷ dump_form ∷ check_form ∷ table_form ∷ forms_of_stacks

@@ -1,35 +1,23 @@
 -- Which files a check is of: those that are named, and with `--recursive` those in folders.
---     AreFilesOf tree recursive names targets      the files for the words FILE..
---     AreListed tree recursive list targets      the files for the bytes of a list, in which each
---         name is ended by a zero byte
+--     AreNamedFiles tree recursive names targets      the files for the words FILE..
+--     AreListedFiles tree recursive list targets      the files for the bytes of a list, in which
+--         each name is ended by a zero byte
 --     AreIn tree depth folder targets      the files in a folder, and in those in it
 use Rattle.std.specs.Prelude.{◌≡◌, ◌⊎◌, ◌==◌, ◌&&◌, ◌||◌, ℕ, zero, suc, Bool, true, false, List}
-use Rattle.std.specs.Prelude.{[], ◌∷◌, ◌++◌, Option, Some, None, codes, map, nat_eq, not}
-use Rattle.std.specs.Prelude.{string_bytes, if◌then◌else◌}
+use Rattle.std.specs.Prelude.{[], ◌∷◌, ◌++◌, Option, Some, None, codes, map, not, string_bytes}
 use Rattle.std.specs.Cmp.Lexicographic.{slice_cmp}
-use Rattle.std.specs.List.{ends_with, slice_split}
+use Rattle.std.specs.List.{slice_split}
 use Rattle.std.specs.List.Sorted.{IsPermutation, IsSorted}
 use Rattle.std.specs.Ordering.{nat_cmp}
 use Rattle.std.specs.Str.{IsUtf8, bytes_eq}
 use Rattle.clap.specs.Words.{Text}
 use Rattle.cfi.specs.declared.system.Kind.{Kind}
 use Rattle.cfi.specs.declared.system.Kind.TheVariants.{File, Folder, Other}
-use Rattle.cfi.specs.declared.targets.Entry.{Entry as EntryOfCode}
-use Rattle.cfi.specs.declared.targets.Entry.TheVariants as entries
+use Rattle.cfi.specs.declared.targets.TreeEntry.{TreeEntry as TreeEntryOfCode}
+use Rattle.cfi.specs.declared.targets.TreeEntry.TheVariants as entries
 use Rattle.cfi.specs.declared.targets.Target.{Target as TargetOfCode}
 use Rattle.cfi.specs.declared.targets.Target.TheVariants as targets
-
--- ---- the folders of a system
-
--- What may be at a path, where the last link is followed or where it isn't; and the names that a
--- folder may be listed with, each ended by a zero byte, or none where it can't be read.
-pub record Tree : Type 1 where
-  pub MayBe : Bool → Text → Kind → Type 0
-  pub MayList : Text → Option (List ℕ) → Type 0
-
-abbrev pub tree_of :
-    (Bool → Text → Kind → Type 0) → (Text → Option (List ℕ) → Type 0) → Tree
-tree_of may_be may_list = record { MayBe = may_be; MayList = may_list }
+use Rattle.cfi.specs.Trees.{Tree, path_in}
 
 -- ---- names
 
@@ -44,21 +32,17 @@ with_rest (rest ∷ []) = rest_of rest
 with_rest (name ∷ next ∷ more) = name ∷ with_rest (next ∷ more)
 
 -- the names of a list, each ended by a zero byte
-abbrev pub names_of : List ℕ → List Text
-names_of list = with_rest (slice_split (λ c. c == 0) list)
+abbrev pub names_listed : List ℕ → List Text
+names_listed list = with_rest (slice_split (λ c. c == 0) list)
 
 -- in the order of their bytes
-pub record AreInOrder (names ordered : List Text) : Type 0 where
+pub record AreNamesInOrder (names ordered : List Text) : Type 0 where
   pub same : IsPermutation names ordered
   pub rising : IsSorted (slice_cmp nat_cmp) ordered
 
 -- a folder's own name in it, and its parent's
 abbrev pub is_above : Text → Bool
 is_above name = bytes_eq name (codes ".") || bytes_eq name (codes "..")
-
-abbrev pub path_in : Text → Text → Text
-path_in folder name =
-    if ends_with nat_eq folder (codes "/") then folder ++ name else folder ++ codes "/" ++ name
 
 -- ---- the files
 
@@ -75,65 +59,66 @@ target_view (targets.Found path) = found (string_bytes path)
 target_view targets.Unread = unread
 
 -- what a name comes to: a file, a folder to look into, or nothing
-pub data Entry : Type 0 where
-  one : Target → Entry
-  folder : Text → Entry
-  passed_over : Entry
+pub data TreeEntry : Type 0 where
+  one : Target → TreeEntry
+  folder : Text → TreeEntry
+  passed_over : TreeEntry
 
-abbrev pub entry_view : EntryOfCode → Entry
-entry_view (entries.One target) = one (target_view target)
-entry_view (entries.Folder path) = folder (string_bytes path)
-entry_view entries.PassedOver = passed_over
+abbrev pub tree_entry_view : TreeEntryOfCode → TreeEntry
+tree_entry_view (entries.One target) = one (target_view target)
+tree_entry_view (entries.Folder path) = folder (string_bytes path)
+tree_entry_view entries.PassedOver = passed_over
 
 -- by what is at its path, which for a link is the link
-abbrev pub entry_of : Kind → Text → Entry
-entry_of File path = one (found path)
-entry_of Folder path = folder path
-entry_of Other path = passed_over
+abbrev pub found_entry : Kind → Text → TreeEntry
+found_entry File path = one (found path)
+found_entry Folder path = folder path
+found_entry Other path = passed_over
 
 -- a path is UTF-8, or can't be opened
-abbrev pub IsAtPath : Tree → Text → Entry → Type 0
+abbrev pub IsAtPath : Tree → Text → TreeEntry → Type 0
 IsAtPath tree path entry =
-    (IsUtf8 path × ((kind : Kind) × tree.MayBe false path kind × (entry ≡ entry_of kind path)))
+    (IsUtf8 path × ((kind : Kind) × tree.MayBe false path kind × (entry ≡ found_entry kind path)))
     ⊎ ((¬ IsUtf8 path) × (entry ≡ one unread))
 
 -- of a name in a folder, which may be one of the two above it
-abbrev pub IsBelow : Bool → Tree → Text → Entry → Type 0
+abbrev pub IsBelow : Bool → Tree → Text → TreeEntry → Type 0
 IsBelow true tree path entry = entry ≡ passed_over
 IsBelow false tree path entry = IsAtPath tree path entry
 
-abbrev pub IsEntry : Tree → Text → Text → Entry → Type 0
+abbrev pub IsEntry : Tree → Text → Text → TreeEntry → Type 0
 IsEntry tree inside name entry = IsBelow (is_above name) tree (path_in inside name) entry
 
 -- the files of an entry, by those in a folder
-abbrev pub AreOf : (Text → List Target → Type 0) → Entry → List Target → Type 0
-AreOf AreInside (one target) targets = targets ≡ target ∷ []
-AreOf AreInside (folder path) targets = AreInside path targets
-AreOf AreInside passed_over targets = targets ≡ []
+abbrev pub AreOfEntry : (Text → List Target → Type 0) → TreeEntry → List Target → Type 0
+AreOfEntry AreInside (one target) targets = targets ≡ target ∷ []
+AreOfEntry AreInside (folder path) targets = AreInside path targets
+AreOfEntry AreInside passed_over targets = targets ≡ []
 
 -- the files of names, one after the other, by what each comes to
-abbrev pub AreEach :
-    (Text → Entry → Type 0) → (Text → List Target → Type 0) → List Text → List Target → Type 0
-AreEach Is AreInside [] targets = targets ≡ []
-AreEach Is AreInside (name ∷ names) targets =
-    (entry : Entry) × (first : List Target) × (more : List Target) × Is name entry
-    × AreOf AreInside entry first × AreEach Is AreInside names more × (targets ≡ first ++ more)
+abbrev pub AreOfNames :
+    (Text → TreeEntry → Type 0) → (Text → List Target → Type 0) → List Text → List Target → Type 0
+AreOfNames Is AreInside [] targets = targets ≡ []
+AreOfNames Is AreInside (name ∷ names) targets =
+    (entry : TreeEntry) × (first : List Target) × (more : List Target) × Is name entry
+    × AreOfEntry AreInside entry first × AreOfNames Is AreInside names more
+    × (targets ≡ first ++ more)
 
 -- in the order of their names
 abbrev pub AreOfList :
     Tree → (Text → List Target → Type 0) → Text → Option (List ℕ) → List Target → Type 0
 AreOfList tree AreInside inside None targets = targets ≡ unread ∷ []
 AreOfList tree AreInside inside (Some list) targets =
-    (names : List Text) × AreInOrder (names_of list) names
-    × AreEach (IsEntry tree inside) AreInside names targets
+    (names : List Text) × AreNamesInOrder (names_listed list) names
+    × AreOfNames (IsEntry tree inside) AreInside names targets
 
 -- in a folder, where so many folders may lie one in another; the next one isn't listed, and is no
 -- file that can be opened
 unfoldable pub AreIn : Tree → ℕ → Text → List Target → Type 0
 AreIn tree zero inside targets = targets ≡ found inside ∷ []
 AreIn tree (suc depth) inside targets =
-    (listed : Option (List ℕ)) × tree.MayList inside listed
-    × AreOfList tree (AreIn tree depth) inside listed targets
+    (listing : Option (List ℕ)) × tree.MayList inside listing
+    × AreOfList tree (AreIn tree depth) inside listing targets
 
 -- as many as a path of 4,096 bytes has, the longest of Linux (`PATH_MAX`, limits.h)
 abbrev pub depth_of_paths : ℕ
@@ -142,35 +127,35 @@ depth_of_paths = 2048
 -- ---- the files that are named
 
 -- a folder that is named, or that a link leads to which is named
-abbrev pub named_entry : Kind → Text → Entry
+abbrev pub named_entry : Kind → Text → TreeEntry
 named_entry File name = one (named name)
 named_entry Folder name = folder name
 named_entry Other name = one (named name)
 
-abbrev pub IsLookedAt : Bool → Tree → Text → Entry → Type 0
+abbrev pub IsLookedAt : Bool → Tree → Text → TreeEntry → Type 0
 IsLookedAt false tree name entry = entry ≡ one (named name)
 IsLookedAt true tree name entry =
     (kind : Kind) × tree.MayBe true name kind × (entry ≡ named_entry kind name)
 
 -- a hyphen is standard input, and no folder
-abbrev pub IsNamed : Tree → Bool → Text → Entry → Type 0
-IsNamed tree recursive name entry =
+abbrev pub IsNamedEntry : Tree → Bool → Text → TreeEntry → Type 0
+IsNamedEntry tree recursive name entry =
     IsLookedAt (recursive && not (bytes_eq name (codes "-"))) tree name entry
 
-abbrev pub AreFilesOf : Tree → Bool → List Text → List Target → Type 0
-AreFilesOf tree recursive names targets =
-    AreEach (IsNamed tree recursive) (AreIn tree depth_of_paths) names targets
+abbrev pub AreNamedFiles : Tree → Bool → List Text → List Target → Type 0
+AreNamedFiles tree recursive names targets =
+    AreOfNames (IsNamedEntry tree recursive) (AreIn tree depth_of_paths) names targets
 
 -- of a list: an empty name, and one that isn't UTF-8, can't be opened
-abbrev pub IsListed : Tree → Bool → Text → Entry → Type 0
-IsListed tree recursive [] entry = entry ≡ one unread
-IsListed tree recursive (c ∷ name) entry =
-    (IsUtf8 (c ∷ name) × IsNamed tree recursive (c ∷ name) entry)
+abbrev pub IsListEntry : Tree → Bool → Text → TreeEntry → Type 0
+IsListEntry tree recursive [] entry = entry ≡ one unread
+IsListEntry tree recursive (c ∷ name) entry =
+    (IsUtf8 (c ∷ name) × IsNamedEntry tree recursive (c ∷ name) entry)
     ⊎ ((¬ IsUtf8 (c ∷ name)) × (entry ≡ one unread))
 
-abbrev pub AreListed : Tree → Bool → List ℕ → List Target → Type 0
-AreListed tree recursive list targets =
-    AreEach (IsListed tree recursive) (AreIn tree depth_of_paths) (names_of list) targets
+abbrev pub AreListedFiles : Tree → Bool → List ℕ → List Target → Type 0
+AreListedFiles tree recursive list targets =
+    AreOfNames (IsListEntry tree recursive) (AreIn tree depth_of_paths) (names_listed list) targets
 
 -- ---- as the code has them
 

@@ -32,11 +32,15 @@ abbrev pub side_of : Text → Option (Option ℕ)
 side_of [] = Some None
 side_of (c ∷ more) = option_map Some (time_of (c ∷ more))
 
-abbrev pub between : Option (Option ℕ) → Option (Option ℕ) → Option Times
-between (Some from) (Some until) = Some (record { from = from; until = until })
-between _ _ = None
+-- each is left out
+abbrev pub any_time : Times
+any_time = record { from = None; until = None }
+
+abbrev pub both_sides : Option (Option ℕ) → Option (Option ℕ) → Option Times
+both_sides (Some from) (Some until) = Some (record { from = from; until = until })
+both_sides _ _ = None
 
 abbrev pub times_of : Text → Option Times
 times_of text =
     if position_or_len is_comma text == length text then None
-    else between (side_of (before_first is_comma text)) (side_of (after_first is_comma text))
+    else both_sides (side_of (before_first is_comma text)) (side_of (after_first is_comma text))

@@ -1,7 +1,7 @@
 -- What the words of a command line ask for, word by word.
---     given options None nothing words      the options and the arguments among the words after a
---         command's name
---     asked words      the command that the words ask for, if any
+--     words_given options None none_given words      the options and the arguments among the words
+--         after a command's name
+--     asked words      what the words ask for, if anything
 use Rattle.std.specs.Prelude.{◌&&◌, Bool, true, false, List, [], ◌∷◌, ◌++◌, Option, Some, None}
 use Rattle.std.specs.Prelude.{codes, drop, find, is_some, slice_get, take, option_and_then}
 use Rattle.std.specs.Prelude.{option_map, if◌then◌else◌}
@@ -13,7 +13,8 @@ use Rattle.clap.specs.Words.{Text}
 use Rattle.cfi.specs.Forms.{Arguments, Form, LongOption, file_and_address, file_and_addresses}
 use Rattle.cfi.specs.Forms.{any_files, form_named, forms, has_no_value, one_file}
 use Rattle.cfi.specs.Forms.{option_named, takes}
-use Rattle.cfi.specs.CommandLine.{Asked, asked_for}
+use Rattle.cfi.specs.Tasks.{Task}
+use Rattle.cfi.specs.Values.{Values}
 
 -- ---- what one word is
 
@@ -43,8 +44,8 @@ pub record Given : Type 0 where
   pub options : List (Text × Text)
   pub arguments : List Text
 
-abbrev pub nothing : Given
-nothing = record { options = []; arguments = [] }
+abbrev pub none_given : Given
+none_given = record { options = []; arguments = [] }
 
 abbrev pub value_given : Text → List (Text × Text) → Option Text
 value_given name options = option_map (λ o. o.1) (find (λ o. bytes_eq o.0 name) options)
@@ -55,8 +56,8 @@ with_option name value so_far =
     if is_some (value_given name so_far.options) then None
     else Some (record so_far { options = (name, value) ∷ so_far.options })
 
-abbrev pub with_value : LongOption → Text → Given → Option Given
-with_value o value so_far =
+abbrev pub with_option_value : LongOption → Text → Given → Option Given
+with_option_value o value so_far =
     if takes o.value value then with_option o.name value so_far else None
 
 abbrev pub with_arguments : List Text → Given → Given
@@ -71,7 +72,7 @@ with_no_more = option_map (λ given. (None, given))
 
 -- an option, with the value that follows an `=` if there is one
 abbrev pub with_long : LongOption → Option Text → Given → Next
-with_long o (Some value) so_far = with_no_more (with_value o value so_far)
+with_long o (Some value) so_far = with_no_more (with_option_value o value so_far)
 with_long o None so_far =
     if has_no_value o.value then with_no_more (with_option o.name (codes "true") so_far)
     else Some (Some o, so_far)
@@ -80,49 +81,49 @@ abbrev pub taken : List LongOption → Option LongOption → Word → Text → G
 taken options None (long_option name value) word so_far =
     option_and_then (λ o. with_long o value so_far) (option_named options name)
 taken options None argument word so_far = Some (None, with_arguments (word ∷ []) so_far)
-taken options (Some o) argument word so_far = with_no_more (with_value o word so_far)
+taken options (Some o) argument word so_far = with_no_more (with_option_value o word so_far)
 taken options _ _ word so_far = None
 
 -- Options and arguments stand in any order before `--`, and all words after it are arguments.
-abbrev pub given : List LongOption → Option LongOption → Given → List Text → Option Given
-given options awaits so_far [] = if is_some awaits then None else Some so_far
-given options awaits so_far (word ∷ rest) =
+abbrev pub words_given : List LongOption → Option LongOption → Given → List Text → Option Given
+words_given options awaits so_far [] = if is_some awaits then None else Some so_far
+words_given options awaits so_far (word ∷ rest) =
     if bytes_eq word (45 ∷ 45 ∷ []) then
     (if is_some awaits then None else Some (with_arguments rest so_far))
-    else option_and_then (λ next. given options next.0 next.1 rest)
+    else option_and_then (λ next. words_given options next.0 next.1 rest)
     (taken options awaits (word_of word) word so_far)
 
 -- ---- what is read of them
 
 -- there are as many arguments as a command has
-abbrev pub fits : Arguments → List Text → Bool
-fits one_file (file ∷ []) = true
-fits file_and_address (file ∷ []) = true
-fits file_and_address (file ∷ address ∷ []) = true
-fits file_and_addresses (file ∷ address ∷ more) = true
-fits any_files files = true
-fits _ _ = false
+abbrev pub has_places : Arguments → List Text → Bool
+has_places one_file (file ∷ []) = true
+has_places file_and_address (file ∷ []) = true
+has_places file_and_address (file ∷ address ∷ []) = true
+has_places file_and_addresses (file ∷ address ∷ more) = true
+has_places any_files files = true
+has_places _ _ = false
 
-abbrev pub files_of : Arguments → List Text → List Text
-files_of one_file words = words
-files_of any_files words = words
-files_of _ words = take 1 words
+abbrev pub file_words : Arguments → List Text → List Text
+file_words one_file words = words
+file_words any_files words = words
+file_words _ words = take 1 words
 
-abbrev pub addresses_of : Arguments → List Text → List Text
-addresses_of one_file words = []
-addresses_of any_files words = []
-addresses_of _ words = drop 1 words
+abbrev pub address_words : Arguments → List Text → List Text
+address_words one_file words = []
+address_words any_files words = []
+address_words _ words = drop 1 words
 
-abbrev pub listed : Option Text → List Text
-listed None = []
-listed (Some value) = value ∷ []
+abbrev pub at_most_one : Option Text → List Text
+at_most_one None = []
+at_most_one (Some value) = value ∷ []
 
 -- the values by the name of an argument or option
-abbrev pub values_given : Arguments → Given → Text → List Text
+abbrev pub values_given : Arguments → Given → Values
 values_given arguments given name =
-    if bytes_eq (codes "FILE") name then files_of arguments given.arguments
-    else if bytes_eq (codes "ADDRESS") name then addresses_of arguments given.arguments
-    else listed (value_given name given.options)
+    if bytes_eq (codes "FILE") name then file_words arguments given.arguments
+    else if bytes_eq (codes "ADDRESS") name then address_words arguments given.arguments
+    else at_most_one (value_given name given.options)
 
 -- a flag that was not given is `false`
 abbrev pub or_false : Bool → List Text → List Text
@@ -132,22 +133,22 @@ or_false _ values = values
 abbrev pub has_flag : List LongOption → Text → Bool
 has_flag options name = list_any (λ o. has_no_value o.value && bytes_eq o.name name) options
 
-abbrev pub values_at : Form → Given → Text → List Text
-values_at form given name =
+abbrev pub values_by_form : Form → Given → Values
+values_by_form form given name =
     or_false (has_flag form.options name) (values_given form.arguments given name)
 
 -- ---- the commands
 
-abbrev pub asked_by_form : Form → Given → Option Asked
+abbrev pub asked_by_form : Form → Given → Option Task
 asked_by_form form given =
-    if fits form.arguments given.arguments then Some (asked_for form.name (values_at form given))
+    if has_places form.arguments given.arguments then Some (form.task (values_by_form form given))
     else None
 
-abbrev pub asked_in_form : List Text → Form → Option Asked
+abbrev pub asked_in_form : List Text → Form → Option Task
 asked_in_form words form =
-    option_and_then (asked_by_form form) (given form.options None nothing words)
+    option_and_then (asked_by_form form) (words_given form.options None none_given words)
 
 -- what the words ask for, of which the first is the program's name
-abbrev pub asked : List Text → Option Asked
+abbrev pub asked : List Text → Option Task
 asked (program ∷ name ∷ rest) = option_and_then (asked_in_form rest) (form_named forms name)
 asked _ = None

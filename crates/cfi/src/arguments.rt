@@ -40,14 +40,6 @@ fn marked(alloc: Global, word: &[u8]) -> Result<String, AllocError> {
     }
 }
 
-/// Returns whether these are the words of the command `check`, which has a line for each file.
-pub fn asks_for_check(words: &[String]) -> bool {
-    match words.get(1) {
-        Some(command) => command.as_str() == "check",
-        None => false,
-    }
-}
-
 /// Returns the text before the mark, where there is one.
 pub fn before_mark(text: &str) -> Option<&str> {
     text.strip_suffix(MARK)

@@ -5,8 +5,9 @@ ghost use Rattle.cfi_flame.specs.Functions.{row_view};
 ghost use Rattle.cfi_object.specs.FileInputs.{AreLeft};
 ghost use Rattle.cfi_inputs.specs.Refusals.{input_refusal};
 ghost use Rattle.cfi_programs.specs.WriterOutput.{Prints, PrintsSome};
-ghost use Rattle.cfi.specs.FlameOutputs.{IsOfObjects, IsOutput, IsOwed, format_of, graph};
-ghost use Rattle.cfi.specs.FlameOutputs.{made_line, not_folded, refusal, summary_view, table};
+ghost use Rattle.cfi.specs.FlameOutputs.{IsOfObjects, IsSummaryOutput, IsSummaryOwed, graph};
+ghost use Rattle.cfi.specs.FlameOutputs.{made_line, not_folded, summary_format};
+ghost use Rattle.cfi.specs.FlameOutputs.{summary_refusal, summary_view, table};
 ghost use Rattle.cfi.specs.FunctionObjects.{objects_text};
 
 use crate::function_objects::{write_not_folded_object, write_objects};
@@ -33,7 +34,7 @@ pub enum Summary<'w> {
 impl Summary<'_> {
     /// Returns the format in which it is said that there is none.
     fn format(&self) -> Format
-        ensures { result ≡ format_of (summary_view self.now) }
+        ensures { result ≡ summary_format (summary_view self.now) }
     {
         match self {
             Summary::FlameGraph(_) => Format::Text,
@@ -60,7 +61,7 @@ pub fn print_folded<R: Read, W: Write>(
     output: &mut W,
 ) -> io::Result<u8>
     ensures { (bytes : List ℕ) × AreLeft (R.remaining input.old) bytes
-        × PrintsSome (λ line. IsOwed (summary_view summary.entry) bytes line)
+        × PrintsSome (λ line. IsSummaryOwed (summary_view summary.entry) bytes line)
         (W.contents output.old) (W.contents output.new) result }
 {
     let read = read_all(alloc, input);
@@ -75,9 +76,9 @@ fn print_read<W: Write>(
     output: &mut W,
 ) -> io::Result<u8>
     ensures { MatchResult read
-        (λ text. PrintsSome (λ line. IsOutput (summary_view summary.entry) text.items line)
+        (λ text. PrintsSome (λ line. IsSummaryOutput (summary_view summary.entry) text.items line)
         (W.contents output.old) (W.contents output.new) result)
-        (λ error. Prints (input_refusal (format_of (summary_view summary.entry)) error)
+        (λ error. Prints (input_refusal (summary_format (summary_view summary.entry)) error)
         (W.contents output.old) (W.contents output.new) result) }
 {
     match read {
@@ -93,7 +94,7 @@ fn print_made<W: Write>(
     text: &[u8],
     output: &mut W,
 ) -> io::Result<u8>
-    ensures { PrintsSome (λ line. IsOutput (summary_view summary.entry) text.now line)
+    ensures { PrintsSome (λ line. IsSummaryOutput (summary_view summary.entry) text.now line)
         (W.contents output.old) (W.contents output.new) result }
 {
     match summary {
@@ -110,7 +111,8 @@ fn print_graph<W: Write>(
     text: &[u8],
     output: &mut W,
 ) -> io::Result<u8>
-    ensures { PrintsSome (λ line. IsOutput (graph (drawing_view drawing.entry)) text.now line)
+    ensures { PrintsSome
+        (λ line. IsSummaryOutput (graph (drawing_view drawing.entry)) text.now line)
         (W.contents output.old) (W.contents output.new) result }
 {
     match flame_of(alloc, drawing, text) {
@@ -121,7 +123,7 @@ fn print_graph<W: Write>(
 
 /// Prints the table of the functions of the folded stacks of a text.
 fn print_table<W: Write>(alloc: Global, text: &[u8], output: &mut W) -> io::Result<u8>
-    ensures { PrintsSome (λ line. IsOutput (table Format.Text) text.now line)
+    ensures { PrintsSome (λ line. IsSummaryOutput (table Format.Text) text.now line)
         (W.contents output.old) (W.contents output.new) result }
 {
     match report_of(alloc, text) {
@@ -132,7 +134,7 @@ fn print_table<W: Write>(alloc: Global, text: &[u8], output: &mut W) -> io::Resu
 
 /// Prints the functions of the folded stacks of a text as objects of JSON.
 fn print_objects<W: Write>(alloc: Global, text: &[u8], output: &mut W) -> io::Result<u8>
-    ensures { PrintsSome (λ line. IsOutput (table Format.Json) text.now line)
+    ensures { PrintsSome (λ line. IsSummaryOutput (table Format.Json) text.now line)
         (W.contents output.old) (W.contents output.new) result }
 {
     match plain_text(alloc, text) {
@@ -176,7 +178,7 @@ fn write_folded_refusal<W: Write>(
     format: Format,
     error: FoldedError,
 ) -> io::Result<u8>
-    ensures { Prints (refusal format error)
+    ensures { Prints (summary_refusal format error)
         (W.contents output.old) (W.contents output.new) result }
 {
     match error {

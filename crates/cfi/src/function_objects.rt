@@ -2,7 +2,7 @@
 ghost use Rattle.std.specs.Prelude.{◌≡◌, ◌++◌, OnOk, codes, map};
 ghost use Rattle.std.specs.List.{flat_map};
 ghost use Rattle.cfi_flame.specs.Functions.{row_view};
-ghost use Rattle.cfi_programs.specs.JsonLines.{json_number};
+ghost use Rattle.cfi_programs.specs.JsonTexts.{json_number};
 ghost use Rattle.cfi_programs.specs.WriterOutput.{Writes};
 ghost use Rattle.cfi.specs.FunctionObjects.{counts_members, function_object, objects_text};
 ghost use Rattle.cfi.specs.FunctionObjects.{not_folded_object, samples_object};

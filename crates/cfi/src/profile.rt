@@ -1,7 +1,8 @@
 //! The files that a profile or a core file names, as the system opens them.
 ghost use Rattle.std.specs.Prelude.{◌≡◌, ⊤, IfSome, string_bytes};
+ghost use Rattle.cfi.specs.Disks.{disk_of};
 ghost use Rattle.cfi.specs.Folders.{folder_of, folders_view, linked_path, path_below};
-ghost use Rattle.cfi.specs.Process.{MayOpenAt, disk_of};
+ghost use Rattle.cfi.specs.StackOutputs.{MayOpenAt};
 
 use crate::folders::{Folders, copy_path, debug_path, folder_of, linked_path, path_below};
 use crate::system::System;

@@ -1,7 +1,8 @@
 //! The file of a profile.
 ghost use Rattle.cfi.specs.declared.system.Kind.TheVariants.{Folder};
-ghost use Rattle.cfi.specs.Process.{MayOpenIn, MayOpenProfile, disk_of};
-ghost use Rattle.cfi.specs.Targets.{tree_of};
+ghost use Rattle.cfi.specs.Disks.{disk_of};
+ghost use Rattle.cfi.specs.StackOutputs.{MayOpenIn, MayOpenProfile};
+ghost use Rattle.cfi.specs.Trees.{tree_of};
 
 use crate::files::path_of;
 use crate::system::{Kind, System};

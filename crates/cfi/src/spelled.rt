@@ -22,7 +22,7 @@ pub fn spelled<'w, T: AsStr>(alloc: Global, words: &'w [T]) -> Result<Vec<&'w st
 }
 
 /// Returns whether the words are those of the command `check`.
-fn is_check<T: AsStr>(words: &[T]) -> bool
+pub fn is_check<T: AsStr>(words: &[T]) -> bool
     ensures { result ≡ is_check (map T.text words.now) }
 {
     match words.get(1) {

@@ -2,12 +2,14 @@
 ghost use Rattle.std.specs.Prelude.{◌≡◌, ◌==◌, ◌++◌, [], ◌∷◌, IfOk, IfSome, OnOk, map};
 ghost use Rattle.std.specs.Prelude.{string_bytes};
 ghost use Rattle.std.specs.List.{slice_split};
-ghost use Rattle.cfi.specs.Process.{AreTargets, IsListRead, disk_of};
-ghost use Rattle.cfi.specs.Targets.{Adds, AreFilesOf, AreIn, AreInOrder, AreListed, AreOf};
-ghost use Rattle.cfi.specs.Targets.{IsAtPath, IsEntry, IsListed, IsNamed, depth_of_paths, entry_of};
-ghost use Rattle.cfi.specs.Targets.{entry_view, is_above, named_entry, names_of, path_in, rest_of};
-ghost use Rattle.cfi.specs.Targets.{target_view, tree_of};
+ghost use Rattle.cfi.specs.Checks.{AreTargets, IsListRead};
+ghost use Rattle.cfi.specs.Disks.{disk_of};
+ghost use Rattle.cfi.specs.Targets.{Adds, AreIn, AreListedFiles, AreNamedFiles, AreNamesInOrder};
+ghost use Rattle.cfi.specs.Targets.{AreOfEntry, IsAtPath, IsEntry, IsListEntry, IsNamedEntry};
+ghost use Rattle.cfi.specs.Targets.{depth_of_paths, found_entry, is_above, named_entry};
+ghost use Rattle.cfi.specs.Targets.{names_listed, rest_of, target_view, tree_entry_view};
 ghost use Rattle.cfi.specs.Tasks.{names_view};
+ghost use Rattle.cfi.specs.Trees.{path_in, tree_of};
 
 use crate::files::open_named;
 use crate::system::{Kind, System};
@@ -33,7 +35,7 @@ pub enum Target {
 
 /// What a name comes to.
 #[derive(Drop)]
-pub enum Entry {
+pub enum TreeEntry {
     /// This file.
     One(Target),
     /// The files in this folder.
@@ -84,7 +86,7 @@ fn files_of<S: System>(
     names: &[&str],
 ) -> Result<Vec<Target>, AllocError>
     ensures { IfOk result (λ targets. Adds
-        (AreFilesOf (tree_of (S.may_be system.now) (S.may_list system.now)) recursive
+        (AreNamedFiles (tree_of (S.may_be system.now) (S.may_list system.now)) recursive
         (map (λ name. name.now) names.now)) [] targets.items) }
 {
     let mut targets = Vec::new(system.alloc());
@@ -104,10 +106,10 @@ fn files_in<S: System>(
     text: &[u8],
 ) -> Result<Vec<Target>, AllocError>
     ensures { IfOk result (λ targets. Adds
-        (AreListed (tree_of (S.may_be system.now) (S.may_list system.now)) recursive text.now)
+        (AreListedFiles (tree_of (S.may_be system.now) (S.may_list system.now)) recursive text.now)
         [] targets.items) }
 {
-    let names = names_of(system.alloc(), text)?;
+    let names = names_listed(system.alloc(), text)?;
     let mut targets = Vec::new(system.alloc());
     for name in names.as_slice() {
         let entry = entry_listed(system, recursive, list, name)?;
@@ -117,8 +119,8 @@ fn files_in<S: System>(
 }
 
 /// Returns the names of a list, each of which is ended by a zero byte.
-fn names_of<'l>(alloc: Global, list: &'l [u8]) -> Result<Vec<&'l [u8]>, AllocError>
-    ensures { IfOk result (λ names. map (λ name. name.now) names.items ≡ names_of list.now) }
+fn names_listed<'l>(alloc: Global, list: &'l [u8]) -> Result<Vec<&'l [u8]>, AllocError>
+    ensures { IfOk result (λ names. map (λ name. name.now) names.items ≡ names_listed list.now) }
 {
     let mut names = pieces_of(alloc, list)?;
     match names.pop() {
@@ -152,37 +154,37 @@ fn entry_listed<S: System>(
     recursive: bool,
     list: &str,
     name: &[u8],
-) -> Result<Entry, AllocError>
+) -> Result<TreeEntry, AllocError>
     ensures { IfOk result (λ entry.
-        IsListed (tree_of (S.may_be system.now) (S.may_list system.now)) recursive name.now
-        (entry_view entry)) }
+        IsListEntry (tree_of (S.may_be system.now) (S.may_list system.now)) recursive name.now
+        (tree_entry_view entry)) }
 {
     if name.is_empty() {
         system.tell_empty_name(list);
-        return Ok(Entry::One(Target::Unread));
+        return Ok(TreeEntry::One(Target::Unread));
     }
     match str::from_utf8(name) {
         Ok(name) => entry_named(system, recursive, name),
         Err(_) => {
             system.tell_no_text(name);
-            Ok(Entry::One(Target::Unread))
+            Ok(TreeEntry::One(Target::Unread))
         }
     }
 }
 
 /// Returns what a name comes to: a folder, if `recursive` and it is one, and else a file.
-fn entry_named<S: System>(system: &S, recursive: bool, name: &str) -> Result<Entry, AllocError>
+fn entry_named<S: System>(system: &S, recursive: bool, name: &str) -> Result<TreeEntry, AllocError>
     ensures { IfOk result (λ entry.
-        IsNamed (tree_of (S.may_be system.now) (S.may_list system.now)) recursive name.now
-        (entry_view entry)) }
+        IsNamedEntry (tree_of (S.may_be system.now) (S.may_list system.now)) recursive name.now
+        (tree_entry_view entry)) }
 {
     let text = String::from_str(system.alloc(), name)?;
     if !recursive || name == "-" {
-        return Ok(Entry::One(Target::Named(text)));
+        return Ok(TreeEntry::One(Target::Named(text)));
     }
     Ok(match system.kind(name, true) {
-        Kind::Folder => Entry::Folder(text),
-        _ => Entry::One(Target::Named(text)),
+        Kind::Folder => TreeEntry::Folder(text),
+        _ => TreeEntry::One(Target::Named(text)),
     })
 }
 
@@ -191,17 +193,17 @@ fn entry_named<S: System>(system: &S, recursive: bool, name: &str) -> Result<Ent
 fn push_entry<S: System>(
     system: &S,
     depth: usize,
-    entry: Entry,
+    entry: TreeEntry,
     targets: &mut Vec<Target>,
 ) -> Result<(), AllocError>
     ensures { OnOk result (Adds
-        (AreOf (AreIn (tree_of (S.may_be system.now) (S.may_list system.now)) depth)
-        (entry_view entry)) targets.old.items targets.new.items) }
+        (AreOfEntry (AreIn (tree_of (S.may_be system.now) (S.may_list system.now)) depth)
+        (tree_entry_view entry)) targets.old.items targets.new.items) }
 {
     match entry {
-        Entry::One(target) => push(targets, target),
-        Entry::Folder(path) => push_folder(system, depth, path.as_str(), targets),
-        Entry::PassedOver => Ok(()),
+        TreeEntry::One(target) => push(targets, target),
+        TreeEntry::Folder(path) => push_folder(system, depth, path.as_str(), targets),
+        TreeEntry::PassedOver => Ok(()),
     }
 }
 
@@ -244,21 +246,21 @@ fn push(targets: &mut Vec<Target>, target: Target) -> Result<(), AllocError>
 /// Returns the names of a list in the order of their bytes.
 fn names_in_order<'l>(alloc: Global, list: &'l [u8]) -> Result<Vec<&'l [u8]>, AllocError>
     ensures { IfOk result (λ names.
-        AreInOrder (names_of list.now) (map (λ name. name.now) names.items)) }
+        AreNamesInOrder (names_listed list.now) (map (λ name. name.now) names.items)) }
 {
-    let mut names = names_of(alloc, list)?;
+    let mut names = names_listed(alloc, list)?;
     names.sort_by_key(|name| *name)?;
     Ok(names)
 }
 
 /// Returns what a name in a folder comes to. One that isn't UTF-8 is told.
-fn entry_in<S: System>(system: &S, folder: &str, name: &[u8]) -> Result<Entry, AllocError>
+fn entry_in<S: System>(system: &S, folder: &str, name: &[u8]) -> Result<TreeEntry, AllocError>
     ensures { IfOk result (λ entry.
         IsEntry (tree_of (S.may_be system.now) (S.may_list system.now)) folder.now name.now
-        (entry_view entry)) }
+        (tree_entry_view entry)) }
 {
     if is_above(name) {
-        return Ok(Entry::PassedOver);
+        return Ok(TreeEntry::PassedOver);
     }
     let path = path_in(system.alloc(), folder, name)?;
     entry_at(system, path.as_slice())
@@ -284,30 +286,30 @@ pub fn path_in(alloc: Global, folder: &str, name: &[u8]) -> Result<Vec<u8>, Allo
 }
 
 /// Returns what is at a path in a folder.
-fn entry_at<S: System>(system: &S, path: &[u8]) -> Result<Entry, AllocError>
+fn entry_at<S: System>(system: &S, path: &[u8]) -> Result<TreeEntry, AllocError>
     ensures { IfOk result (λ entry.
         IsAtPath (tree_of (S.may_be system.now) (S.may_list system.now)) path.now
-        (entry_view entry)) }
+        (tree_entry_view entry)) }
 {
     match str::from_utf8(path) {
         Ok(path) => {
             let text = String::from_str(system.alloc(), path)?;
-            Ok(entry_of(system.kind(path, false), text))
+            Ok(found_entry(system.kind(path, false), text))
         }
         Err(_) => {
             system.tell_no_text(path);
-            Ok(Entry::One(Target::Unread))
+            Ok(TreeEntry::One(Target::Unread))
         }
     }
 }
 
 /// Returns what a path in a folder comes to, where this is at it.
-fn entry_of(kind: Kind, path: String) -> Entry
-    ensures { entry_view result ≡ entry_of kind (string_bytes path) }
+fn found_entry(kind: Kind, path: String) -> TreeEntry
+    ensures { tree_entry_view result ≡ found_entry kind (string_bytes path) }
 {
     match kind {
-        Kind::File => Entry::One(Target::Found(path)),
-        Kind::Folder => Entry::Folder(path),
-        Kind::Other => Entry::PassedOver,
+        Kind::File => TreeEntry::One(Target::Found(path)),
+        Kind::Folder => TreeEntry::Folder(path),
+        Kind::Other => TreeEntry::PassedOver,
     }
 }

@@ -1,19 +1,24 @@
-//! What a command is to do.
-ghost use Rattle.std.specs.Prelude.{◌≡◌, map};
-ghost use Rattle.cfi_stacks.specs.Choices.{choice_view};
-ghost use Rattle.cfi.specs.CommandLine.{command_view, samples_view, text_view};
-ghost use Rattle.cfi.specs.Folders.{folders_view};
-ghost use Rattle.cfi.specs.Tasks.{asking, between, checking, drawing, drawn, listing_for, of_file};
-ghost use Rattle.cfi.specs.Tasks.{print, task_for, task_view, unwinding};
+//! What a command is to do, by the values of its options and arguments.
+ghost use Rattle.std.specs.Prelude.{◌≡◌, map, option_and_then, option_map};
+ghost use Rattle.clap.specs.Words.{found_of, rows_of, subcommand_rows_of};
+ghost use Rattle.cfi.specs.CommandLine.{task_by_matches, values_in};
+ghost use Rattle.cfi.specs.Forms.{forms, forms_of_stacks, task_among};
+ghost use Rattle.cfi.specs.Tasks.{checking, checking_by, drawing, drawing_from, listing_for};
+ghost use Rattle.cfi.specs.Tasks.{of_file, printing, stacks_of_threads, task_view, unwinding};
+ghost use Rattle.cfi.specs.Tasks.{unwinding_at};
+ghost use Rattle.cfi.specs.Values.{text_view};
 
-use crate::command::{Command, Samples};
-use crate::files::CheckStyle;
+use crate::checks::CheckStyle;
 use crate::folders::Folders;
-use crate::times::{Times, time_of, times_of};
+use crate::times::{ANY_TIME, Times, time_of, times_of};
+use crate::values::{
+    choice_in, file_in, folders_in, format_in, is_asked, u64_at, value_for, values_at,
+};
 use cfi_files::{Printed, Request};
 use cfi_flame::Drawing;
 use cfi_programs::style::Format;
 use cfi_stacks::{Choice, Listing, ThreadListing};
+use clap::ArgMatches;
 
 /// The files that a check is of.
 #[derive(Clone, Copy)]
@@ -25,128 +30,134 @@ pub enum Names<'c> {
     List(&'c str),
 }
 
-/// What a command is to do.
+/// What is wrong with words that clap takes.
+#[derive(Clone, Copy)]
+pub enum Mistake<'c> {
+    /// No file to check is named.
+    NoFiles,
+    /// Files to check are named, and a list of such.
+    TwoNamings,
+    /// This text isn't two times.
+    NoTimes(&'c str),
+    /// This text isn't a width.
+    NoWidth(&'c str),
+}
+
+/// What a command is to do. A file `-` is standard input.
 #[derive(Clone, Copy)]
 pub enum Task<'c> {
     /// Print this of a file.
     Print(&'c str, Request<'c>),
     /// Check these files, if asked those in folders too, and print what was found in a style.
     Check(Names<'c>, bool, CheckStyle),
-    /// Say that no file to check is named.
-    NoFiles,
-    /// Say that files to check are named, and a list of such.
-    TwoNamings,
     /// Print the stacks of these samples of this profile so.
     Unwind(&'c str, Listing, Choice<'c>, Folders<'c>),
     /// Print the stacks of threads of this core file so.
     Stack(&'c str, ThreadListing, Folders<'c>),
-    /// Say that this text isn't two times.
-    NoTimes(&'c str),
-    /// Say that this text isn't a width.
-    NoWidth(&'c str),
-    /// Print the flame graph, drawn so, of the folded stacks of this file; `-` is standard input.
-    Flame(Drawing<'c>, &'c str),
-    /// Print the functions of the folded stacks of this file in a format; `-` is standard input.
-    Report(Format, &'c str),
+    /// Print the flame graph, drawn so, of the folded stacks of this file.
+    Flame(&'c str, Drawing<'c>),
+    /// Print the functions of the folded stacks of this file in a format.
+    Report(&'c str, Format),
+    /// Say that the words have this mistake.
+    Tell(Mistake<'c>),
 }
 
-/// Returns what the command is to do.
-pub fn task_of<'c>(command: &'c Command<'c>) -> Task<'c>
-    ensures { task_view result ≡ task_for (command_view command.now) }
+/// Returns what the command is to do that clap matched; `None` where no command was matched.
+pub fn task_in<'c>(matches: &'c ArgMatches<'_>) -> Option<Task<'c>>
+    ensures { option_map task_view result
+        ≡ option_and_then task_by_matches (subcommand_rows_of matches.now) }
 {
-    match command {
-        Command::Row {
-            raw,
-            format,
-            file,
-            addresses,
-        } => printed_of(file, Printed::Row(addresses.as_slice(), *format), *raw),
-        Command::Rows {
-            raw,
-            format,
-            file,
-            address,
-        } => printed_of(file, Printed::Rows(*address, *format), *raw),
-        Command::Dump { raw, file } => printed_of(file, Printed::Dump, *raw),
-        Command::Check {
-            quiet,
-            format,
-            recursive,
-            list,
-            files,
-        } => checking(
-            CheckStyle {
-                format: *format,
-                quiet: *quiet,
-                elf_alone: false,
-            },
-            *recursive,
-            *list,
-            files.as_slice(),
-        ),
-        Command::Table { raw, file } => printed_of(file, Printed::Table, *raw),
-        Command::Unwind {
-            raw,
-            format,
-            samples,
-            folders,
-            file,
-        } => unwinding(file, listing_for(*raw, *format), *samples, *folders),
-        Command::Stack {
-            raw,
-            format,
-            thread,
-            folders,
-            file,
-        } => Task::Stack(
-            file,
-            ThreadListing {
-                raw: *raw,
-                format: *format,
-                thread: *thread,
-            },
-            *folders,
-        ),
-        Command::Flame {
-            title,
-            reverse,
-            min_width,
-            file,
-        } => drawing(*title, *reverse, *min_width, file),
-        Command::Report { format, file } => Task::Report(*format, file),
-        Command::Fold {
-            period,
-            samples,
-            folders,
-            file,
-        } => unwinding(file, Listing::Folded(*period), *samples, *folders),
+    match matches.subcommand() {
+        Some((name, arguments)) => task_named(name, arguments),
+        None => None,
     }
 }
 
-/// Returns the task to check these files or those of this list, or to say that none are named, or
-/// that both are given.
-fn checking<'c>(
+/// Returns what the command of this name is to do; `None` where there is none.
+fn task_named<'c>(name: &str, arguments: &'c ArgMatches<'_>) -> Option<Task<'c>>
+    ensures { option_map task_view result
+        ≡ task_among forms name.now (values_in (rows_of (found_of arguments.now))) }
+{
+    if name == "row" {
+        let addresses = values_at(arguments, "ADDRESS");
+        Some(printing(arguments, Printed::Row(addresses, format_in(arguments))))
+    } else if name == "rows" {
+        let address = value_for(arguments, "ADDRESS");
+        Some(printing(arguments, Printed::Rows(address, format_in(arguments))))
+    } else if name == "dump" {
+        Some(printing(arguments, Printed::Dump))
+    } else if name == "check" {
+        Some(checking(arguments))
+    } else if name == "table" {
+        Some(printing(arguments, Printed::Table))
+    } else {
+        task_of_stacks(name, arguments)
+    }
+}
+
+/// Returns what the command of this name is to do, if it is one that prints stacks, or a graph or
+/// the functions of them.
+fn task_of_stacks<'c>(name: &str, arguments: &'c ArgMatches<'_>) -> Option<Task<'c>>
+    ensures { option_map task_view result
+        ≡ task_among forms_of_stacks name.now (values_in (rows_of (found_of arguments.now))) }
+{
+    if name == "unwind" {
+        let listing = listing_for(is_asked(arguments, "raw"), format_in(arguments));
+        Some(unwinding(arguments, listing))
+    } else if name == "stack" {
+        Some(stacks_of_threads(arguments))
+    } else if name == "flame" {
+        Some(drawing(arguments))
+    } else if name == "report" {
+        Some(Task::Report(file_in(arguments), format_in(arguments)))
+    } else if name == "fold" {
+        let by_period = is_asked(arguments, "period");
+        Some(unwinding(arguments, Listing::Folded(by_period)))
+    } else {
+        None
+    }
+}
+
+/// Returns the task to print this of the file that is named.
+fn printing<'c>(arguments: &'c ArgMatches<'_>, printed: Printed<'c>) -> Task<'c>
+    ensures { task_view result
+        ≡ printing (of_file printed.entry) (values_in (rows_of (found_of arguments.now))) }
+{
+    let raw = is_asked(arguments, "raw");
+    Task::Print(file_in(arguments), Request { printed, raw })
+}
+
+/// Returns the task to check the files that are named, or those of a list, or to say that none are
+/// named, or that both are given.
+fn checking<'c>(arguments: &'c ArgMatches<'_>) -> Task<'c>
+    ensures { task_view result ≡ checking (values_in (rows_of (found_of arguments.now))) }
+{
+    let style = CheckStyle {
+        format: format_in(arguments),
+        quiet: is_asked(arguments, "quiet"),
+        elf_alone: false,
+    };
+    let list = value_for(arguments, "files0-from");
+    let files = values_at(arguments, "FILE");
+    checking_by(style, is_asked(arguments, "recursive"), list, files)
+}
+
+/// The same, for these files and this list.
+fn checking_by<'c>(
     style: CheckStyle,
     recursive: bool,
     list: Option<&'c str>,
     files: &'c [&'c str],
 ) -> Task<'c>
-    ensures { task_view result ≡ checking style recursive (text_view list.entry)
+    ensures { task_view result ≡ checking_by style recursive (text_view list.entry)
         (map (λ file. file.now) files.entry.now) }
 {
     match list {
-        None if files.is_empty() => Task::NoFiles,
+        None if files.is_empty() => Task::Tell(Mistake::NoFiles),
         None => Task::Check(Names::Files(files), recursive, style),
         Some(list) if files.is_empty() => Task::Check(Names::List(list), recursive, style),
-        Some(_) => Task::TwoNamings,
+        Some(_) => Task::Tell(Mistake::TwoNamings),
     }
-}
-
-/// Returns the task to print this of a file.
-fn printed_of<'c>(file: &'c str, printed: Printed<'c>, raw: bool) -> Task<'c>
-    ensures { task_view result ≡ print file.entry.now (asking raw (of_file printed.entry)) }
-{
-    Task::Print(file, Request { printed, raw })
 }
 
 /// Returns how the stacks of a profile are listed in a format.
@@ -161,72 +172,64 @@ fn listing_for(raw: bool, format: Format) -> Listing
 
 /// Returns the task to print the stacks of the samples that are asked for, or to say that no times
 /// are asked for.
-fn unwinding<'c>(
-    file: &'c str,
-    listing: Listing,
-    samples: Samples<'c>,
-    folders: Folders<'c>,
-) -> Task<'c>
+fn unwinding<'c>(arguments: &ArgMatches<'c>, listing: Listing) -> Task<'c>
     ensures { task_view result
-        ≡ unwinding listing (samples_view samples.entry) (folders_view folders.entry) file.now }
+        ≡ unwinding listing (values_in (rows_of (found_of arguments.now))) }
 {
-    let Some(text) = samples.time else {
-        let times = Times {
-            from: None,
-            until: None,
-        };
-        return Task::Unwind(file, listing, between(samples, times), folders);
-    };
-    match times_of(text) {
-        Some(times) => Task::Unwind(file, listing, between(samples, times), folders),
-        None => Task::NoTimes(text),
+    match value_for(arguments, "time") {
+        None => unwinding_at(arguments, listing, ANY_TIME),
+        Some(text) => match times_of(text) {
+            Some(times) => unwinding_at(arguments, listing, times),
+            None => Task::Tell(Mistake::NoTimes(text)),
+        },
     }
 }
 
-/// Returns the task to draw a flame graph, or to say that no width is asked for.
-fn drawing<'c>(
-    title: Option<&'c str>,
-    reverse: bool,
-    min_width: Option<&'c str>,
-    file: &'c str,
-) -> Task<'c>
+/// Returns the task to print the stacks of the samples that are asked for, between two times.
+fn unwinding_at<'c>(arguments: &ArgMatches<'c>, listing: Listing, times: Times) -> Task<'c>
     ensures { task_view result
-        ≡ drawing (text_view title.entry) reverse (text_view min_width.entry) file.entry.now }
+        ≡ unwinding_at listing (values_in (rows_of (found_of arguments.now))) times }
 {
-    let Some(text) = min_width else {
-        return drawn(title, reverse, 0, file);
+    let choice = choice_in(arguments, times);
+    Task::Unwind(file_in(arguments), listing, choice, folders_in(arguments))
+}
+
+/// Returns the task to print the stacks of the threads that are asked for.
+fn stacks_of_threads<'c>(arguments: &ArgMatches<'c>) -> Task<'c>
+    ensures { task_view result
+        ≡ stacks_of_threads (values_in (rows_of (found_of arguments.now))) }
+{
+    let listing = ThreadListing {
+        raw: is_asked(arguments, "raw"),
+        format: format_in(arguments),
+        thread: u64_at(arguments, "thread"),
     };
-    match time_of(text) {
-        Some(least) => drawn(title, reverse, least, file),
-        None => Task::NoWidth(text),
+    Task::Stack(file_in(arguments), listing, folders_in(arguments))
+}
+
+/// Returns the task to draw a flame graph, or to say that no width is asked for.
+fn drawing<'c>(arguments: &ArgMatches<'c>) -> Task<'c>
+    ensures { task_view result ≡ drawing (values_in (rows_of (found_of arguments.now))) }
+{
+    match value_for(arguments, "min-width") {
+        None => drawing_from(arguments, 0),
+        Some(text) => match time_of(text) {
+            Some(least_width) => drawing_from(arguments, least_width),
+            None => Task::Tell(Mistake::NoWidth(text)),
+        },
     }
 }
 
 /// Returns the task to draw a flame graph with boxes of this width at least.
-fn drawn<'c>(title: Option<&'c str>, reverse: bool, least_width: u64, file: &'c str) -> Task<'c>
+fn drawing_from<'c>(arguments: &ArgMatches<'c>, least_width: u64) -> Task<'c>
     ensures { task_view result
-        ≡ drawn (text_view title.entry) reverse least_width file.entry.now }
+        ≡ drawing_from (values_in (rows_of (found_of arguments.now))) least_width }
 {
-    let title = title.unwrap_or("Flame graph").as_bytes();
+    let title = value_for(arguments, "title").unwrap_or("Flame graph");
     let drawing = Drawing {
-        title,
-        reverse,
+        title: title.as_bytes(),
+        reverse: is_asked(arguments, "reverse"),
         least_width,
     };
-    Task::Flame(drawing, file)
-}
-
-/// Returns the choice of these samples, between two times.
-fn between<'c>(samples: Samples<'c>, times: Times) -> Choice<'c>
-    ensures { choice_view result ≡ between (samples_view samples.entry) times }
-{
-    Choice {
-        comm: samples.comm,
-        pid: samples.pid,
-        tid: samples.tid,
-        from: times.from,
-        until: times.until,
-        event: samples.event,
-        limit: samples.limit,
-    }
+    Task::Flame(file_in(arguments), drawing)
 }

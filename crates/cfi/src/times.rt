@@ -1,7 +1,8 @@
 //! The times of `--time`, and numbers with decimals.
 ghost use Rattle.std.specs.Prelude.{◌≡◌};
-ghost use Rattle.cfi_flame.specs.Decimals.{decimal_from, with_digit};
 ghost use Rattle.cfi.specs.Times.{nanoseconds, side_of, time_of, times_of};
+
+use cfi_flame::decimal::decimal_from;
 
 /// The decimals of a time that has none.
 const ZEROS: &[u8] = b"000000000";
@@ -12,6 +13,12 @@ pub struct Times {
     pub from: Option<u64>,
     pub until: Option<u64>,
 }
+
+/// No times.
+pub const ANY_TIME: Times = Times {
+    from: None,
+    until: None,
+};
 
 /// Parses `FROM,UNTIL`, of which each may be empty: seconds, and behind a dot at most nine
 /// decimals. `None` for other texts, and where a time isn't below 2^64 nanoseconds.
@@ -53,28 +60,7 @@ fn nanoseconds(seconds: &[u8], decimals: &[u8]) -> Option<u64>
     if seconds.is_empty() || decimals.len() > 9 {
         return None;
     }
-    let whole = with_digits(0, seconds)?;
-    let tenths = with_digits(whole, decimals)?;
-    with_digits(tenths, ZEROS.split_at(decimals.len()).1)
-}
-
-/// Returns the number with more digits, `None` where one is no digit or the number 2^64 or more.
-fn with_digits(number: u64, digits: &[u8]) -> Option<u64>
-    ensures { result ≡ decimal_from number digits.now }
-{
-    let mut so_far = number;
-    for digit in digits {
-        so_far = with_digit(so_far, *digit)?;
-    }
-    Some(so_far)
-}
-
-/// Returns the number with one more digit, `None` where it is no digit or the number 2^64 or more.
-fn with_digit(number: u64, digit: u8) -> Option<u64>
-    ensures { result ≡ with_digit number digit }
-{
-    if !digit.is_ascii_digit() {
-        return None;
-    }
-    number.checked_mul(10)?.checked_add((digit - b'0') as u64)
+    let whole = decimal_from(0, seconds)?;
+    let tenths = decimal_from(whole, decimals)?;
+    decimal_from(tenths, ZEROS.split_at(decimals.len()).1)
 }

@@ -1,5 +1,5 @@
 use Rattle.std.proofs.Common.{ℕ, List, subst}
-use Rattle.cfi.specs.Openings.{of_any_kind}
+use Rattle.cfi.specs.Disks.{of_any_kind}
 use Rattle.cfi.proofs.files.open_named.Goals as goal
 
 pub returns : goal.returns

@@ -1,6 +1,6 @@
 use Rattle.std.proofs.Common.{◌++◌, codes}
 use Rattle.cfi_flame.specs.Functions.{row_view}
-use Rattle.cfi_programs.specs.JsonLines.{json_escaped}
+use Rattle.cfi_programs.specs.JsonTexts.{json_escaped}
 use Rattle.cfi_programs.proofs.DumpSectionWritten.{first_refused, last_written}
 use Rattle.cfi.specs.FunctionObjects.{counts_members}
 use Rattle.cfi.proofs.function_objects.write_function.Goals as goal

@@ -1,6 +1,6 @@
 use Rattle.std.proofs.Common.{◌≡◌, ◌++◌, drop, map}
 use Rattle.cfi.specs.Spelled.{spelled, spelled_by}
-use Rattle.cfi.proofs.ProcessLemmas.{text_of}
+use Rattle.cfi.proofs.NameLemmas.{text_of}
 use Rattle.cfi.proofs.spelled.spelled.Given as goal
 
 abbrev pub invariant-loop-word : goal.invariant-loop-word

@@ -2,20 +2,18 @@ use Rattle.std.proofs.Common.{◌≡◌, ◌-◌, [], ◌∷◌, ℕ, List, Bor,
 use Rattle.std.proofs.lemmas.List.{take_all}
 use Rattle.std.proofs.lemmas.Result.{on_ok_weaker}
 use Rattle.clap.specs.Words.{Text}
-use Rattle.cfi.specs.Targets.{Adds, AreEach, AreIn, AreOf, IsEntry, entry_view, found, target_view, tree_of, unread}
-use Rattle.cfi.proofs.ProcessLemmas.{names_more, text_of}
-use Rattle.cfi.proofs.TargetLemmas.{adds_one, listed_folder, one_more, too_deep}
+use Rattle.cfi.specs.Targets.{AreOfNames, AreIn, AreOfEntry, IsEntry, tree_entry_view, found, target_view, unread}
+use Rattle.cfi.specs.Trees.{tree_of}
+use Rattle.cfi.proofs.NameLemmas.{text_of}
+use Rattle.cfi.proofs.TargetLemmas.{adds_one, listed_folder, next_name, too_deep}
 use Rattle.cfi.proofs.targets.+walk.Goals as goal
-
-no_name : Bor (List ℕ)
-no_name = record { ref_ptr = (0, 0); now = [] }
 
 pub push_entry-returns-in-One : goal.push_entry-returns-in-One
 push_entry-returns-in-One g t c =
     let tree = tree_of (g.S.System.may_be c.args.system.now) (g.S.System.may_list c.args.system.now) in
     let target = c.in-One.target in
-    let same : AreOf (AreIn tree c.args.depth) (entry_view c.args.entry) (target_view target ∷ []) = subst (λ e. AreOf (AreIn tree c.args.depth) (entry_view e) (target_view target ∷ [])) (sym c.in-One.is) refl in
-    on_ok_weaker c.push.result (adds_one target (AreOf (AreIn tree c.args.depth) (entry_view c.args.entry)) c.args.targets.now.items c.push.new.targets.items same) c.push.ensures
+    let same : AreOfEntry (AreIn tree c.args.depth) (tree_entry_view c.args.entry) (target_view target ∷ []) = subst (λ e. AreOfEntry (AreIn tree c.args.depth) (tree_entry_view e) (target_view target ∷ [])) (sym c.in-One.is) refl in
+    on_ok_weaker c.push.result (adds_one target (AreOfEntry (AreIn tree c.args.depth) (tree_entry_view c.args.entry)) c.args.targets.now.items c.push.new.targets.items same) c.push.ensures
 
 pub push_folder-returns-then-depth-eq0 : goal.push_folder-returns-then-depth-eq0
 push_folder-returns-then-depth-eq0 g t c =
@@ -34,15 +32,10 @@ push_folder-returns-in_default g t c =
     on_ok_weaker c.push-in_default.result (adds_one _ (AreIn tree c.args.depth c.args.folder.now) c.args.targets.now.items c.push-in_default.new.targets.items unreadable) c.push-in_default.ensures
 
 pub push_folder-loop-name-preserved : goal.push_folder-loop-name-preserved
-unfolding no_name
 push_folder-loop-name-preserved g t c =
     let tree = tree_of (g.S.System.may_be c.args.system.now) (g.S.System.may_list c.args.system.now) in
-    let names = c.as_slice-name-items.result.now in
-    let i = c.loop-name.name-index in
-    let Is = IsEntry tree c.args.folder.now in
-    let In = AreIn tree (c.args.depth - 1) in
-    subst (λ (front : List Text). Adds (AreEach Is In front) c.args.targets.now.items c.push_entry.new.targets.items) (sym (names_more text_of names i no_name c.loop-name-test.true))
-    (one_more Is In (map text_of (take i names)) (text_of (get_or names i no_name)) (entry_view c.in_ok-entry.entry) c.args.targets.now.items c.loop-name.targets.items c.push_entry.new.targets.items c.loop-name.invariant c.in_ok-entry.ensures c.in_ok-push_entry.ensures)
+    next_name (IsEntry tree c.args.folder.now) (AreIn tree (c.args.depth - 1)) c.as_slice-name-items.result.now c.loop-name.name-index (tree_entry_view c.in_ok-entry.entry) c.args.targets.now.items c.loop-name.targets.items
+    c.push_entry.new.targets.items c.loop-name-test.true c.loop-name.invariant c.in_ok-entry.ensures c.in_ok-push_entry.ensures
 
 pub push_folder-returns : goal.push_folder-returns
 push_folder-returns g t c =
@@ -54,7 +47,7 @@ push_folder-returns g t c =
       listed_folder tree c.args.depth c.args.folder.now (Some c.in-Some.list.items) more (omega (arith, c.if-depth-eq0.false)) c.in-Some.ensures (
         map text_of names,
         search rules,
-        subst (λ (front : List (Bor (List ℕ))). AreEach (IsEntry tree c.args.folder.now) (AreIn tree (c.args.depth - 1)) (map text_of front) more) all each,
+        subst (λ (front : List (Bor (List ℕ))). AreOfNames (IsEntry tree c.args.folder.now) (AreIn tree (c.args.depth - 1)) (map text_of front) more) all each,
       ),
       are,
     )

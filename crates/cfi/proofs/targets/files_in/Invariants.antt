@@ -1,9 +1,10 @@
 use Rattle.std.proofs.Common.{[], map, take}
-use Rattle.cfi.specs.Targets.{Adds, AreEach, AreIn, IsListed, depth_of_paths, tree_of}
-use Rattle.cfi.proofs.ProcessLemmas.{text_of}
+use Rattle.cfi.specs.Targets.{Adds, AreOfNames, AreIn, IsListEntry, depth_of_paths}
+use Rattle.cfi.specs.Trees.{tree_of}
+use Rattle.cfi.proofs.NameLemmas.{text_of}
 use Rattle.cfi.proofs.targets.files_in.Given as goal
 
 abbrev pub invariant-loop-name : goal.invariant-loop-name
 invariant-loop-name g l =
     let tree = tree_of (g.S.System.may_be l.system) (g.S.System.may_list l.system) in
-    Adds (AreEach (IsListed tree l.recursive) (AreIn tree depth_of_paths) (map text_of (take l.name-index l.name-items))) [] l.targets.items
+    Adds (AreOfNames (IsListEntry tree l.recursive) (AreIn tree depth_of_paths) (map text_of (take l.name-index l.name-items))) [] l.targets.items

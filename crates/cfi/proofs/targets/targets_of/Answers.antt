@@ -1,8 +1,8 @@
 use Rattle.std.proofs.Common.{ap, map}
-use Rattle.cfi.specs.Process.{disk_of}
-use Rattle.cfi.specs.Targets.{tree_of}
+use Rattle.cfi.specs.Disks.{disk_of}
 use Rattle.cfi.specs.Tasks.{names_view}
-use Rattle.cfi.proofs.ProcessLemmas.{text_of}
+use Rattle.cfi.specs.Trees.{tree_of}
+use Rattle.cfi.proofs.NameLemmas.{text_of}
 use Rattle.cfi.proofs.TargetLemmas.{files_found, list_found}
 use Rattle.cfi.proofs.targets.targets_of.Goals as goal
 

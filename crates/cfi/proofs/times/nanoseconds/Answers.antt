@@ -26,5 +26,5 @@ returns c =
     let decimals = c.args.decimals.now in
     let whole : decimal_from 0 seconds ≡ Some c.in_ok-whole.whole = search rules in
     let tenths : decimal_from c.in_ok-whole.whole decimals ≡ Some c.in_ok-tenths.tenths = search rules in
-    let last : c.with_digits-3.result ≡ decimal_from c.in_ok-tenths.tenths (zeros decimals) = search rules in
+    let last : c.decimal_from-3.result ≡ decimal_from c.in_ok-tenths.tenths (zeros decimals) = search rules in
     last ∙ sym (by_parts seconds decimals (search rules) (search rules) (search rules) ∙ all_parts seconds decimals (zeros decimals) c.in_ok-whole.whole c.in_ok-tenths.tenths whole tenths)
