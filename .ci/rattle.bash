@@ -63,7 +63,8 @@ build_library() {
     local library=$PWD/crates/$1/out/lib$1.a said jobs
     jobs=$(nproc)
     if has_statements "$1"; then
-        said=$(build_static "$1" "$library" --jobs "$((jobs < 4 ? jobs : 4))" 2>&1)
+        # (mutations are tried beside it)
+        said=$(build_static "$1" "$library" --jobs "$((jobs < 2 ? jobs : 2))" 2>&1)
     else
         said=$(cd "crates/$1" && rt lib 2>&1)
     fi || { printf '%s\n' "$said" && return 1; }

@@ -1,6 +1,6 @@
-//! Tests of expressions, of the module of an address, of the unwinder, of profiles, of what is
-//! mapped in processes, and of the stacks of a profile. The expected values are those of the
-//! standard, of Linux or of `perf script`, or were worked out by hand.
+//! Tests of expressions, of the module of an address, of the unwinder, of profiles, and of what is
+//! mapped in processes. The expected values are those of the standard, of Linux or of `perf
+//! script`, or were worked out by hand.
 #![tactic(auto)]
 
 #[cfg(test)]
@@ -17,5 +17,3 @@ mod mappings;
 mod modules;
 #[cfg(test)]
 mod profiles;
-#[cfg(test)]
-mod stacks;
