@@ -11,8 +11,6 @@
 mod compiled;
 mod passes;
 mod sums;
-#[cfg(test)]
-mod tests;
 
 use compiled::of_compiled;
 use gimli_cfi::{BigEndian, LittleEndian, RunTimeEndian};
