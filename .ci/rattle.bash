@@ -3,7 +3,6 @@
 
 kit=$(dirname "$(rt doc)")
 toolchain=$kit/toolchain
-mapfile -t crates_of_c < <(awk -v crate=cfi_c -f tools/crates_below.awk crates.txt)
 
 # is_newer FILE CRATE..: whether the file exists and no source of these crates is newer.
 is_newer() {
