@@ -69,8 +69,7 @@ build_library() {
     fi || { printf '%s\n' "$said" && return 1; }
 }
 
-# worked_rows: the worked rows of the program's tests, a case a line. WORKED_ROWS says where they are in a copy without them.
+# worked_rows: the worked rows of the program's tests, a case a line.
 worked_rows() {
-    local rows=${WORKED_ROWS:-crates/cfi_tests_programs/src/rows}
-    .ci/worked_rows.py "$rows.rt" "$rows/header.rt"
+    .ci/worked_rows.py crates/cfi_tests_programs/src/rows.rt crates/cfi_tests_programs/src/rows/header.rt
 }
