@@ -8,13 +8,8 @@
 //! of the fixed storage, and free it at their end.
 #![tactic(auto)]
 
-mod compiled;
-mod passes;
-mod sums;
-
-use compiled::of_compiled;
+use cfi_passes::{of_compiled, of_header, of_section};
 use gimli_cfi::{BigEndian, LittleEndian, RunTimeEndian};
-use passes::{of_header, of_section};
 use std::alloc::Global;
 
 /// One pass over `.eh_frame`, the least significant byte first, of 8-byte addresses, that lies at

@@ -7,24 +7,8 @@
 //! one; those with rows make one context, and free it at their end.
 #![tactic(auto)]
 
-mod answers;
-mod asked;
-mod check;
-mod entries;
-mod expression;
-mod header;
-mod rows;
-mod storage;
-
-use answers::Answers;
-use asked::{Asked, bases_of, endian_of, size_of, vendor_of};
-use expression::{AskedFrame, put_value};
-use gimli_cfi::{
-    BaseAddresses, DebugFrame, EhFrame, EhFrameHdr, EndianSlice, Reader, StoreGrowing, StoreOnHeap,
-    UnwindContextStorage, UnwindSection,
-};
+use cfi_answers::{Asked, AskedFrame, of_expression, of_header, of_section};
 use std::alloc::Global;
-use storage::Small;
 
 /// The answers of a section.
 ///
@@ -38,10 +22,7 @@ pub extern "C" fn cfi_fuzz_section(
     addresses: &[u64],
     room: &mut [u64],
 ) -> usize {
-    let mut answers = Answers::new(room);
-    let reader = EndianSlice::new(section, endian_of(asked));
-    in_section(alloc, asked, reader, addresses, &mut answers);
-    answers.count()
+    of_section(alloc, asked, section, addresses, room)
 }
 
 /// The answers of a header, and of its section.
@@ -59,12 +40,7 @@ pub extern "C" fn cfi_fuzz_header(
     numbers: &[u64],
     room: &mut [u64],
 ) -> usize {
-    let mut answers = Answers::new(room);
-    let endian = endian_of(asked);
-    let frame = EndianSlice::new(section, endian);
-    let header = EndianSlice::new(header, endian);
-    in_header(alloc, asked, frame, header, numbers, &mut answers);
-    answers.count()
+    of_header(alloc, asked, section, header, numbers, room)
 }
 
 /// The value of an expression in a frame, or the error.
@@ -79,113 +55,5 @@ pub extern "C" fn cfi_fuzz_expression(
     memory: &[u8],
     room: &mut [u64],
 ) -> usize {
-    let mut answers = Answers::new(room);
-    put_value(asked, expression, registers, memory, &mut answers);
-    answers.count()
-}
-
-fn in_section<R: Reader<Offset = usize>>(
-    alloc: Global,
-    asked: &Asked,
-    reader: R,
-    addresses: &[u64],
-    answers: &mut Answers<'_>,
-) {
-    let bases = bases_of(asked);
-    if asked.debug_frame {
-        let mut frame = DebugFrame::from(reader);
-        frame.set_address_size(size_of(asked));
-        frame.set_vendor(vendor_of(asked));
-        over_section(alloc, asked, &frame, &bases, addresses, answers);
-    } else {
-        let mut frame = EhFrame::from(reader);
-        frame.set_address_size(size_of(asked));
-        frame.set_vendor(vendor_of(asked));
-        over_section(alloc, asked, &frame, &bases, addresses, answers);
-    }
-}
-
-fn over_section<R: Reader<Offset = usize>, S: UnwindSection<R>>(
-    alloc: Global,
-    asked: &Asked,
-    section: &S,
-    bases: &BaseAddresses,
-    addresses: &[u64],
-    answers: &mut Answers<'_>,
-) {
-    if asked.what == 0 {
-        entries::put_entries(section, bases, answers);
-        return;
-    }
-    match asked.storage {
-        0 => by_context::<R, S, StoreOnHeap>(alloc, asked, section, bases, addresses, answers),
-        1 => by_context::<R, S, StoreGrowing>(alloc, asked, section, bases, addresses, answers),
-        _ => by_context::<R, S, Small>(alloc, asked, section, bases, addresses, answers),
-    }
-}
-
-fn by_context<R: Reader<Offset = usize>, Section: UnwindSection<R>, S: UnwindContextStorage<usize>>(
-    alloc: Global,
-    asked: &Asked,
-    section: &Section,
-    bases: &BaseAddresses,
-    addresses: &[u64],
-    answers: &mut Answers<'_>,
-) {
-    match asked.what {
-        1 => rows::put_rows::<R, Section, S>(alloc, section, bases, answers),
-        _ => rows::put_scans::<R, Section, S>(alloc, section, bases, addresses, answers),
-    }
-}
-
-fn in_header<R: Reader<Offset = usize>>(
-    alloc: Global,
-    asked: &Asked,
-    frame: R,
-    header: R,
-    numbers: &[u64],
-    answers: &mut Answers<'_>,
-) {
-    let bases = bases_of(asked);
-    let mut frame = EhFrame::from(frame);
-    frame.set_address_size(size_of(asked));
-    frame.set_vendor(vendor_of(asked));
-    let header = EhFrameHdr::from(header);
-    match asked.storage {
-        0 => over_header::<R, StoreOnHeap>(alloc, asked, &header, &frame, &bases, numbers, answers),
-        1 => over_header::<R, StoreGrowing>(
-            alloc, asked, &header, &frame, &bases, numbers, answers,
-        ),
-        _ => over_header::<R, Small>(alloc, asked, &header, &frame, &bases, numbers, answers),
-    }
-}
-
-fn over_header<R: Reader<Offset = usize>, S: UnwindContextStorage<usize>>(
-    alloc: Global,
-    asked: &Asked,
-    header: &EhFrameHdr<R>,
-    frame: &EhFrame<R>,
-    bases: &BaseAddresses,
-    numbers: &[u64],
-    answers: &mut Answers<'_>,
-) {
-    if asked.what == 5 {
-        let size = size_of(asked);
-        rows::put_rows_by_header::<R, S>(alloc, header, size, frame, bases, numbers, answers);
-        return;
-    }
-    let parsed = match header.parse(bases, size_of(asked)) {
-        Ok(parsed) => parsed,
-        Err(error) => return answers.put_error(error),
-    };
-    answers.put_header(&parsed);
-    let Some(table) = parsed.table() else {
-        return;
-    };
-    match asked.what {
-        3 => header::put_steps(&table, bases, numbers, answers),
-        4 => header::put_lookups(&table, bases, numbers, answers),
-        6 => check::put_check(&table, frame, bases, answers),
-        _ => check::put_rows::<R, S>(alloc, &table, frame, bases, numbers, answers),
-    }
+    of_expression(asked, expression, registers, memory, room)
 }

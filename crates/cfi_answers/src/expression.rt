@@ -23,8 +23,22 @@ pub struct AskedFrame {
     pub big_endian: bool,
 }
 
-/// The value of the expression, or the error.
-pub fn put_value(
+/// The value of the expression, or the error, and how many numbers it takes.
+///
+/// `values` has the values of the registers from 0 on, and `memory` the bytes from `asked.base` on.
+pub fn of_expression(
+    asked: &AskedFrame,
+    expression: &[u8],
+    values: &[u64],
+    memory: &[u8],
+    room: &mut [u64],
+) -> usize {
+    let mut answers = Answers::new(room);
+    put_value(asked, expression, values, memory, &mut answers);
+    answers.count()
+}
+
+fn put_value(
     asked: &AskedFrame,
     expression: &[u8],
     values: &[u64],
