@@ -8,11 +8,11 @@ use Rattle.cfi_programs.specs.Lines.{Line}
 use Rattle.cfi_processes.specs.CodeMaps.{map_name}
 use Rattle.cfi_processes.specs.Wanted.{FilePlace, at_path, code_map, copy_of, debug_of}
 use Rattle.cfi_processes.specs.Wanted.{kernel_symbols, linked}
-use Rattle.cfi_stacks.specs.CoreOutputs.{IsCoreOwed as IsOwedOfCore}
+use Rattle.cfi_core_stacks.specs.CoreOutputs.{IsCoreOwed as IsOwedOfCore}
 use Rattle.cfi_stacks.specs.ProfileOutputs.{IsListingOwed as IsOwedOfProfile}
 use Rattle.cfi_stacks.specs.Choices.{Choice}
 use Rattle.cfi_stacks.specs.declared.listing.Listing.{Listing}
-use Rattle.cfi_stacks.specs.declared.listing.ThreadListing.{ThreadListing}
+use Rattle.cfi_core_stacks.specs.declared.listing.ThreadListing.{ThreadListing}
 use Rattle.cfi.specs.Disks.{Disk, of_any_kind, path_of, regular}
 use Rattle.cfi.specs.Folders.{Folders, copy_path, debug_path, folder_of, linked_path, path_below}
 use Rattle.cfi.specs.OpenedFiles.{IsFileOutput, IsOutputOfNamed}

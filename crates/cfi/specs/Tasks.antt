@@ -14,7 +14,7 @@ use Rattle.cfi_programs.specs.declared.style.Format.TheVariants as form
 use Rattle.cfi_stacks.specs.Choices.{Choice, choice_view}
 use Rattle.cfi_stacks.specs.declared.listing.Listing.{Listing}
 use Rattle.cfi_stacks.specs.declared.listing.Listing.TheVariants.{Frames, Json}
-use Rattle.cfi_stacks.specs.declared.listing.ThreadListing.{ThreadListing}
+use Rattle.cfi_core_stacks.specs.declared.listing.ThreadListing.{ThreadListing}
 use Rattle.cfi.specs.declared.checks.CheckStyle.{CheckStyle}
 use Rattle.cfi.specs.declared.task.Mistake.{Mistake as MistakeOfCode}
 use Rattle.cfi.specs.declared.task.Mistake.TheVariants.{NoFiles, NoTimes, NoWidth, TwoNamings}

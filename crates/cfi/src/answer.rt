@@ -22,8 +22,9 @@ use crate::system::System;
 use crate::tally::{count_findings, write_tally};
 use crate::targets::{Target, targets_of};
 use crate::task::{Names, Task};
+use cfi_core_stacks::{ThreadListing, print_core};
 use cfi_files::{Request, run_on_file};
-use cfi_stacks::{Choice, Listing, ThreadListing, list_profile, print_core};
+use cfi_stacks::{Choice, Listing, list_profile};
 use std::io;
 use std::io::Write;
 

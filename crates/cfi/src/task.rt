@@ -14,10 +14,11 @@ use crate::times::{ANY_TIME, Times, time_of, times_of};
 use crate::values::{
     choice_in, file_in, folders_in, format_in, is_asked, u64_at, value_for, values_at,
 };
+use cfi_core_stacks::ThreadListing;
 use cfi_files::{Printed, Request};
 use cfi_flame::Drawing;
 use cfi_programs::style::Format;
-use cfi_stacks::{Choice, Listing, ThreadListing};
+use cfi_stacks::{Choice, Listing};
 use clap::ArgMatches;
 
 /// The files that a check is of.

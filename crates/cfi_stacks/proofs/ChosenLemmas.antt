@@ -8,7 +8,7 @@ use Rattle.std.proofs.Common.{inl, inr}
 use Rattle.cfi_stacks.specs.Choices.{Choice, limited}
 use Rattle.cfi_stacks.specs.Turns.{IsKnownAfter, IsTurn, is_not_chosen, left_after}
 use Rattle.cfi_stacks.specs.KnownSamples.{Known, KnownSample, chosen, chosen_of, is_chosen, known_after, sample_at}
-use Rattle.cfi_stacks.specs.Sequences.{AreOfAll}
+use Rattle.cfi_frames.specs.Sequences.{AreOfAll}
 
 follows : (files : List KnownFile) (event : Event) (before now : Known) → IsKnownAfter files event before now → now ≡ known_after files event before
 follows files event before now is_after = λ i. record { mapped = λ pid. is_after.0 pid i; names = λ tid. is_after.1 tid i }

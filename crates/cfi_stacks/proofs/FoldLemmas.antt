@@ -28,14 +28,9 @@ use Rattle.cfi_stacks.specs.Turns.{AddsAll, IsFollowed, IsNotFollowed, IsTurn}
 use Rattle.cfi_stacks.specs.Choices.{Choice}
 use Rattle.cfi_stacks.specs.ProfileOutputs.{AreFolded, HasTooMany, IsFolded, IsUnfolded, profile_ended}
 use Rattle.cfi_stacks.specs.KnownSamples.{Known, KnownSample, in_kernel_of}
-use Rattle.cfi_stacks.specs.Sequences.{AreOfAll}
+use Rattle.cfi_frames.specs.Sequences.{AreOfAll}
 use Rattle.cfi_stacks.specs.ChosenStacks.{AreSamples, IsFoldedText, IsSampleOf, sample_weight}
 use Rattle.cfi_stacks.proofs.ChosenLemmas.{GoesOn, none_gone, so_far, so_many, turned}
-
--- one more part of a text, and then the others
-pub then_more : {T E : Type 0} (r : Result T E) (text start next part more : List ℕ) → next ≡ start ++ part → OnOk r (text ≡ next ++ more) → OnOk r (text ≡ start ++ (part ++ more))
-then_more (Ok done) text start next part more e h = h ∙ ap (λ (front : List ℕ). front ++ more) e ∙ append_assoc start part more
-then_more (Err why) text start next part more e h = tt
 
 -- ---- names, byte by byte, and frame by frame
 

@@ -1,9 +1,8 @@
 -- The records of a profile, read one after the other.
-use Rattle.std.proofs.Common.{◌≡◌, ◌∙◌, ℕ, List, [], ◌∷◌, ◌++◌, Option, Some, None, Result, Ok, Err, map, refl, sym, ap, ap₂, append_assoc, append-nil, unwrap_or}
+use Rattle.std.proofs.Common.{◌≡◌, ◌∙◌, List, [], ◌∷◌, ◌++◌, Option, Some, None, Result, Ok, Err, map, refl, sym, ap, ap₂, append_assoc, append-nil}
 use Rattle.cfi_perf.specs.declared.error.PerfError.{PerfError}
 use Rattle.cfi_perf.specs.Events.{Record}
 use Rattle.cfi_perf.specs.Records.{Records, error_item, record_items, no_records, with_record}
-use Rattle.cfi_object.specs.FileInputs.{AreLeft}
 
 -- records before the others
 abbrev pub behind_these : List Record → Records → Records
@@ -60,12 +59,3 @@ error_read first old new whole error before e =
 pub all_read : (first : List Record) (old whole : Records) → behind_these first old ≡ whole → record_items old ≡ [] → all_of first None ≡ whole
 all_read first old whole before e =
     ap (λ (records : List Record). all_of records None) (sym (append-nil first)) ∙ (ap (behind_these first) (sym (none_are old e)) ∙ before)
-
--- ---- what holds of all bytes holds of those that a reader has left, known or not
-
-left_is : (known : Option (List ℕ)) → AreLeft known (unwrap_or known [])
-left_is None = tt
-left_is (Some bytes) = refl
-
-pub for_input : (known : Option (List ℕ)) (P : List ℕ → Type 0) → ((bytes : List ℕ) → P bytes) → (bytes : List ℕ) × AreLeft known bytes × P bytes
-for_input known P each = (unwrap_or known [], left_is known, each (unwrap_or known []))

@@ -21,7 +21,7 @@ use Rattle.cfi_stacks.specs.declared.listing.StackStyle.{StackStyle}
 use Rattle.cfi_stacks.specs.Choices.{Choice}
 use Rattle.cfi_stacks.specs.Turns.{AreTexts, IsTurn}
 use Rattle.cfi_stacks.specs.KnownSamples.{Known, KnownSample}
-use Rattle.cfi_stacks.specs.Sequences.{AreOfAll}
+use Rattle.cfi_frames.specs.Sequences.{AreOfAll}
 use Rattle.cfi_stacks.specs.ChosenStacks.{AreStackTexts, IsTextOf}
 use Rattle.cfi_stacks.specs.ProfileOutputs.{AreStacksPrinted, after_text, profile_ended}
 use Rattle.cfi_stacks.proofs.ChosenLemmas.{GoesOn, limited_none, none_gone, so_far, so_many, turned}

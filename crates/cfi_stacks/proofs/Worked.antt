@@ -1,26 +1,17 @@
--- Lines of stacks, worked out from the definitions alone: those before the frames of samples as perf script prints them.
-use Rattle.std.proofs.Common.{◌≡◌, ℕ, List, [], ◌∷◌, ◌++◌, Option, Some, None, codes, map, refl, false, true}
+-- Lines of samples, worked out from the definitions alone: those before the frames of samples as perf script prints them.
+use Rattle.std.proofs.Common.{◌≡◌, ℕ, List, [], ◌∷◌, ◌++◌, Option, Some, None, codes, refl, false, true}
 use Rattle.std.specs.Prelude.{nat_le}
 use Rattle.std.specs.Fmt.{digits}
 use Rattle.std.specs.List.{filter}
 use Rattle.cfi_perf.specs.Samples.{Sample}
-use Rattle.cfi_read_core.specs.declared.error.Error.TheVariants.{NoUnwindInfoForAddress}
-use Rattle.cfi_expression.specs.declared.error.FrameError.TheVariants.{NoRow}
-use Rattle.cfi_step.specs.declared.walk.End.TheVariants.{Failed}
 use Rattle.cfi_processes.specs.declared.mappings.MappedCode.{MappedCode}
 use Rattle.cfi_processes.specs.KnownFiles.{KnownFile}
 use Rattle.cfi_processes.specs.KernelSites.{kernel_site}
-use Rattle.cfi_programs.specs.JsonTexts.{separated}
 use Rattle.cfi_stacks.specs.Choices.{chooses, everything, limited}
 use Rattle.cfi_stacks.specs.FoldedTexts.{chain_names}
 use Rattle.cfi_stacks.specs.SampleOutputs.{chain_text}
-use Rattle.cfi_stacks.specs.Reasons.{end_line, reason_of}
-use Rattle.cfi_stacks.specs.Signals.{signal_name}
-use Rattle.cfi_stacks.specs.FrameObjects.{chain_frame}
 use Rattle.cfi_stacks.specs.SampleMembers.{sample_head}
-use Rattle.cfi_stacks.specs.FrameLines.{address_column, site_line}
 use Rattle.cfi_stacks.specs.SampleHeads.{head_line, pid_and_tid, time_text}
-use Rattle.cfi_stacks.specs.ThreadHeads.{thread_line}
 
 abbrev of_thread : ℕ → Option ℕ → ℕ → List ℕ → Sample
 of_thread tid cpu period event = record { pid = 17261; tid = tid; ip = 0; cpu = cpu; period = period; event = event; in_kernel = false; call_chain = None; copies_stack = true; user = record { registers = None; stack = [] } }
@@ -73,44 +64,12 @@ where_nothing_is = refl
 folded_kernel : chain_names (kernel_site (kernel_file ∷ []) (kernel_code ∷ [])) (0xffffffff81000130 ∷ 0xffffffffb0000123 ∷ []) ≡ codes ";[unknown];[[kernel.kallsyms]]"
 folded_kernel = refl
 
--- ---- reasons
-
-without_a_row : end_line (reason_of (Failed (NoRow NoUnwindInfoForAddress))) ≡ codes "# the call frames have no row for this address (NoRow NoUnwindInfoForAddress)" ++ 10 ∷ []
-without_a_row = refl
-
--- ---- core files
-
-some_signals : map signal_name (0 ∷ 1 ∷ 6 ∷ 11 ∷ 31 ∷ 32 ∷ []) ≡ None ∷ Some (codes "SIGHUP") ∷ Some (codes "SIGABRT") ∷ Some (codes "SIGSEGV") ∷ Some (codes "SIGSYS") ∷ None ∷ []
-some_signals = refl
-
-a_thread : thread_line 17121 6 None (Some (codes "sorter")) ≡ codes "thread 17121 signal 6 SIGABRT of sorter" ++ 10 ∷ []
-unfolding digits
-a_thread = refl
-
-in_real_time : thread_line 7 34 None None ≡ codes "thread 7 signal 34" ++ 10 ∷ []
-unfolding digits
-in_real_time = refl
-
-without_signal : thread_line 7 0 None (Some (codes "sorter")) ≡ codes "thread 7 of sorter" ++ 10 ∷ []
-unfolding digits
-without_signal = refl
-
-a_frame : address_column true 0x7ff0000000c6 ++ site_line true (record { place = 0xc6; function = None; file = Some (codes "[vdso]") }) ≡ codes "\t    7ff0000000c6\t              c6 ([vdso])" ++ 10 ∷ []
-unfolding digits
-a_frame = refl
-
 -- ---- samples as objects of JSON
 
 with_quote : sample_head (Some (codes "a\"b")) 1000001999 (of_thread 8 (Some 2) 3 (codes "cpu-clock"))
     ≡ codes "{\"comm\":\"a\\\"b\",\"pid\":17261,\"tid\":8,\"cpu\":2,\"time\":\"1.000001999\",\"period\":3,\"event\":\"cpu-clock\",\"frames\":["
 unfolding digits
 with_quote = refl
-
-two_objects : separated true ((codes "," ++ chain_frame false true (record { place = 0x12; function = None; file = None }))
-    ++ (codes "," ++ chain_frame false false (record { place = 0x34; function = Some (record { name = codes "f"; offset = 18 }); file = Some (codes "/a") })))
-    ≡ codes "{\"place\":\"0x12\",\"kernel\":true},{\"place\":\"0x34\",\"function\":\"f\",\"offset\":18,\"file\":\"/a\"}"
-unfolding digits
-two_objects = refl
 
 -- ---- chosen samples
 

@@ -19,10 +19,10 @@ use Rattle.cfi_flame.specs.FoldedStacks.{Stack}
 use Rattle.cfi_stacks.specs.declared.listing.StackStyle.{StackStyle}
 use Rattle.cfi_stacks.specs.Choices.{Choice}
 use Rattle.cfi_stacks.specs.FoldedTexts.{folded_text}
-use Rattle.cfi_stacks.specs.StackWalks.{IsSampleWalked}
+use Rattle.cfi_stacks.specs.SampleWalks.{IsSampleWalked}
 use Rattle.cfi_stacks.specs.SampleOutputs.{sample_in_format}
 use Rattle.cfi_stacks.specs.KnownSamples.{KnownSample, chosen, in_kernel_of}
-use Rattle.cfi_stacks.specs.Sequences.{AreOfAll}
+use Rattle.cfi_frames.specs.Sequences.{AreOfAll}
 use Rattle.cfi_stacks.specs.TakenSamples.{Taken}
 
 -- ---- the frames of a sample

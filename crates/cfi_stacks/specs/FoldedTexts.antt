@@ -19,7 +19,7 @@ use Rattle.cfi_processes.specs.KnownFiles.{KnownFile}
 use Rattle.cfi_processes.specs.Sites.{site_of}
 use Rattle.cfi_processes.specs.Sites.{Site}
 use Rattle.cfi_stacks.specs.SampleHeads.{thread_name_text}
-use Rattle.cfi_stacks.specs.FrameLines.{unknown}
+use Rattle.cfi_frames.specs.FrameLines.{unknown}
 use Rattle.cfi_stacks.specs.TakenSamples.{Taken}
 
 -- ---- names

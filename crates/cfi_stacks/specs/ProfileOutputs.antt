@@ -10,7 +10,6 @@
 use Rattle.std.specs.Prelude.{◌≡◌, ◌⊎◌, ◌<◌, ◌^◌, ℕ, Bool, true, List, ◌++◌, Option, Some, None}
 use Rattle.std.specs.Prelude.{Result, Ok, Err, codes, not, take, unwrap_or}
 use Rattle.std.specs.List.{flat_map}
-use Rattle.cfi_read_core.specs.declared.error.Error.TheVariants as errors
 use Rattle.cfi_perf.specs.declared.error.PerfError.{PerfError}
 use Rattle.cfi_perf.specs.Events.{Record}
 use Rattle.cfi_perf.specs.Indexes.{IsInTimeOrder}
@@ -21,7 +20,7 @@ use Rattle.cfi_object.specs.declared.input.InputError.{InputError}
 use Rattle.cfi_programs.specs.declared.style.Format.{Format}
 use Rattle.cfi_programs.specs.declared.style.Format.TheVariants as formats
 use Rattle.cfi_programs.specs.Lines.{Line, line}
-use Rattle.cfi_programs.specs.Refusals.{reason_line as why_line, refusal_in}
+use Rattle.cfi_programs.specs.Refusals.{reason_line as why_line}
 use Rattle.cfi_processes.specs.declared.registers.SampleMachine.{SampleMachine}
 use Rattle.cfi_processes.specs.KnownFiles.{KnownFile}
 use Rattle.cfi_processes.specs.OpenedFiles.{Opened}
@@ -42,9 +41,6 @@ use Rattle.cfi_stacks.specs.Choices.{Choice, everything}
 use Rattle.cfi_stacks.specs.ChosenStacks.{AreSamples, AreStackTexts}
 
 -- ---- all samples
-
-abbrev pub no_memory : Format → Line
-no_memory format = refusal_in format errors.OutOfMemory
 
 -- memory was refused, or the input can't be read
 abbrev pub IsInputRefused : Format → Line → Type 0

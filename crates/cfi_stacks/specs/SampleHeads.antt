@@ -6,7 +6,7 @@ use Rattle.std.specs.Prelude.{codes, length, take, if◌then◌else◌}
 use Rattle.std.specs.Fmt.{decimal}
 use Rattle.cfi_names.specs.Names.{shown}
 use Rattle.cfi_perf.specs.Samples.{Sample}
-use Rattle.cfi_stacks.specs.FrameLines.{filled}
+use Rattle.cfi_frames.specs.FrameLines.{filled}
 
 -- nanoseconds as seconds, with six digits after the point
 abbrev pub seconds_text : ℕ → List ℕ

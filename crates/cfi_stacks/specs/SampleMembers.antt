@@ -4,7 +4,7 @@ use Rattle.std.specs.Prelude.{ℕ, ◌/◌, ◌%◌, List, [], ◌++◌, Option,
 use Rattle.std.specs.Fmt.{decimal}
 use Rattle.cfi_perf.specs.Samples.{Sample}
 use Rattle.cfi_programs.specs.JsonTexts.{json_name, json_number}
-use Rattle.cfi_stacks.specs.FrameLines.{filled}
+use Rattle.cfi_frames.specs.FrameLines.{filled}
 use Rattle.cfi_stacks.specs.SampleHeads.{thread_name_text}
 
 -- ---- what comes before the frames of a sample

@@ -13,17 +13,16 @@ use Rattle.cfi_processes.specs.declared.sample_stack.NoFrames.{NoFrames}
 use Rattle.cfi_processes.specs.KnownFiles.{KnownFile}
 use Rattle.cfi_processes.specs.Sites.{site_of}
 use Rattle.cfi_processes.specs.Sites.{Site}
-use Rattle.cfi_programs.specs.declared.style.Format.{Format}
-use Rattle.cfi_programs.specs.declared.style.Format.TheVariants.{Json, Text}
 use Rattle.cfi_programs.specs.JsonTexts.{separated}
 use Rattle.cfi_stacks.specs.declared.listing.StackStyle.{StackStyle}
-use Rattle.cfi_stacks.specs.Reasons.{Reason, reason_for}
-use Rattle.cfi_stacks.specs.FrameObjects.{chain_frame, object_end}
+use Rattle.cfi_frames.specs.Outputs.{in_format}
+use Rattle.cfi_frames.specs.Reasons.{Reason, reason_for}
+use Rattle.cfi_frames.specs.FrameObjects.{chain_frame, object_end}
 use Rattle.cfi_stacks.specs.SampleMembers.{sample_head}
 use Rattle.cfi_stacks.specs.SampleHeads.{head_line}
-use Rattle.cfi_stacks.specs.FrameLines.{site_line}
-use Rattle.cfi_stacks.specs.WalkLines.{walk_text}
-use Rattle.cfi_stacks.specs.WalkObjects.{walk_objects}
+use Rattle.cfi_frames.specs.FrameLines.{site_line}
+use Rattle.cfi_frames.specs.WalkLines.{walk_text}
+use Rattle.cfi_frames.specs.WalkObjects.{walk_objects}
 
 -- ---- a sample
 
@@ -90,10 +89,6 @@ sample_object raw in_kernel files list name time s result room =
     ++ object_end (sample_reason s result))
 
 -- ---- a sample in either form
-
-abbrev pub in_format : Format → List ℕ → List ℕ → List ℕ
-in_format Text text object = text
-in_format Json text object = object
 
 abbrev pub sample_in_format :
     StackStyle → (ℕ → Site) → List KnownFile → List MappedCode → Option (List ℕ) → ℕ → Sample →

@@ -30,7 +30,7 @@ use Rattle.cfi_stacks.specs.declared.listing.StackStyle.{StackStyle}
 use Rattle.cfi_stacks.specs.Choices.{Choice}
 use Rattle.cfi_stacks.specs.ProfileIndexes.{IsReadAt}
 use Rattle.cfi_stacks.specs.KnownSamples.{Known, KnownSample, is_chosen, sample_at}
-use Rattle.cfi_stacks.specs.Sequences.{AreOfAll}
+use Rattle.cfi_frames.specs.Sequences.{AreOfAll}
 use Rattle.cfi_stacks.specs.ProfileOutputs.{HasTooMany}
 use Rattle.cfi_stacks.specs.ChosenStacks.{IsSampleOf, IsTextOf}
 

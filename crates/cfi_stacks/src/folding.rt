@@ -16,6 +16,7 @@ ghost use Rattle.cfi_processes.specs.Replays.{AreModulesFor, HasOwnModules, repl
 ghost use Rattle.cfi_processes.specs.Replays.{replay_files};
 ghost use Rattle.cfi_processes.specs.SampleStacks.{HasRoom};
 ghost use Rattle.cfi_programs.specs.declared.style.Format.TheVariants.{Text};
+ghost use Rattle.cfi_frames.specs.Rooms.{IsRoomFor, KeepsNoRows};
 ghost use Rattle.cfi_stacks.specs.Choices.{choice_view};
 ghost use Rattle.cfi_stacks.specs.Turns.{CountsRecord, CountsTurn, IsFollowed, IsNotFollowed};
 ghost use Rattle.cfi_stacks.specs.ProfileIndexes.{HoldsOf, IsIndex};
@@ -23,15 +24,15 @@ ghost use Rattle.cfi_stacks.specs.ProfileOutputs.{AreFolded, IsFolded, IsUnfolde
 ghost use Rattle.cfi_stacks.specs.ProfileOutputs.{profile_ended};
 ghost use Rattle.cfi_stacks.specs.ChosenStacks.{IsFoldedOf, sample_weight};
 ghost use Rattle.cfi_stacks.specs.KnownSamples.{known_in};
-ghost use Rattle.cfi_stacks.specs.Rooms.{IsRoomFor, KeepsNoRows};
 ghost use Rattle.cfi_stacks.specs.TakenSamples.{taken_view};
 
 use crate::folded_text::push_stack;
 use crate::profile_errors::write_end;
-use crate::room::Room;
+use crate::sample_walk::walk_sample;
 use crate::taken_sample::TakenSample;
 use crate::turns::{ChosenSamples, Walker, follow_other, is_left_out, left_after, load_for};
 use cfi_flame::{FoldedError, StackCounts};
+use cfi_frames::room::Room;
 use cfi_inputs::write_input_refusal;
 use cfi_object::input::{FileInput, InputError};
 use cfi_perf::{Event, PerfError, PlaceKind, Record, RecordPlace, Sample};
@@ -295,7 +296,7 @@ fn fold_sample(
         (IsFoldedOf machine (taken_view taken.now) room.new.line.items) }
     ensures cached { IsRoomFor taken.now.code.files.now room.new }
 {
-    let found = room.walk_sample(machine, &taken.code, modules, &taken.sample.user);
+    let found = walk_sample(room, machine, &taken.code, modules, &taken.sample.user);
     room.line.clear();
     let addresses = &mut room.addresses;
     let frames = room.frames.as_slice();

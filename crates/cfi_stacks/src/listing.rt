@@ -1,4 +1,4 @@
-//! How stacks are printed.
+//! How the stacks of a profile are printed.
 use cfi_programs::style::Format;
 
 /// How the stacks of a profile are printed.
@@ -13,17 +13,6 @@ pub enum Listing {
     Folded(bool),
 }
 
-/// How the stacks of a core file are printed, and of which threads.
-#[derive(Clone, Copy, Debug)]
-pub struct ThreadListing {
-    /// Whether functions are left out.
-    pub raw: bool,
-    /// A line for each frame, or an object of JSON in a line for each thread.
-    pub format: Format,
-    /// The number of the only thread that is printed (`pr_pid`); all are where it is `None`.
-    pub thread: Option<u64>,
-}
-
 /// How the stack of a sample is printed.
 #[derive(Clone, Copy, Debug)]
 pub struct StackStyle {
@@ -31,15 +20,6 @@ pub struct StackStyle {
     pub raw: bool,
     /// A line for each frame, or an object of JSON in a line.
     pub format: Format,
-}
-
-/// How the frames of a walk are printed.
-#[derive(Clone, Copy)]
-pub(crate) struct FrameStyle {
-    /// Whether functions are left out.
-    pub(crate) raw: bool,
-    /// Whether the address in the process comes first.
-    pub(crate) with_address: bool,
 }
 
 impl Listing {

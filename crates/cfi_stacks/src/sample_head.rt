@@ -7,8 +7,8 @@ ghost use Rattle.cfi_stacks.specs.SampleHeads.{cpu_text, head_line, left_aligned
 ghost use Rattle.cfi_stacks.specs.SampleHeads.{pid_and_tid, right_aligned, seconds_text};
 ghost use Rattle.cfi_stacks.specs.SampleHeads.{thread_name_text, time_text};
 
-use crate::frame_lines::push_filled;
-use crate::names::write_known_name;
+use cfi_frames::frame_lines::push_filled;
+use cfi_frames::names::write_known_name;
 use cfi_perf::Sample;
 use cfi_processes::Name;
 use cfi_programs::lines::write_text;

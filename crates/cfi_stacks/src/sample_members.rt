@@ -6,8 +6,8 @@ ghost use Rattle.cfi_programs.specs.WriterOutput.{Writes};
 ghost use Rattle.cfi_stacks.specs.SampleMembers.{comm_text, cpu_member, nanoseconds_text};
 ghost use Rattle.cfi_stacks.specs.SampleMembers.{number_members, sample_head};
 
-use crate::frame_lines::push_filled;
 use crate::sample_head::write_without_name;
+use cfi_frames::frame_lines::push_filled;
 use cfi_perf::Sample;
 use cfi_processes::Name;
 use cfi_programs::json::push_number;

@@ -8,19 +8,21 @@ ghost use Rattle.cfi_processes.specs.KernelSites.{chain_site};
 ghost use Rattle.cfi_processes.specs.ProcessModules.{modules_in};
 ghost use Rattle.cfi_processes.specs.Mappings.{AreMappedInOrder};
 ghost use Rattle.cfi_processes.specs.Modules.{loaded_module_view};
+ghost use Rattle.cfi_frames.specs.Rooms.{IsRoomFor};
 ghost use Rattle.cfi_stacks.specs.ChosenStacks.{IsStackOf};
 ghost use Rattle.cfi_stacks.specs.SampleOutputs.{chain_text, frames_text, sample_in_format};
 ghost use Rattle.cfi_stacks.specs.SampleOutputs.{sample_text, user_text};
-ghost use Rattle.cfi_stacks.specs.Rooms.{IsRoomFor};
 ghost use Rattle.cfi_stacks.specs.TakenSamples.{of_taken, taken_view};
 
-use crate::frame_lines::{LineRoom, write_site_line};
-use crate::listing::{FrameStyle, StackStyle};
-use crate::room::Room;
+use crate::listing::StackStyle;
 use crate::sample_head::write_head;
 use crate::sample_object::write_sample_object;
+use crate::sample_walk::walk_sample;
 use crate::taken_sample::TakenSample;
-use crate::walk_lines::print_walk;
+use cfi_frames::frame_lines::{LineRoom, write_site_line};
+use cfi_frames::frame_style::FrameStyle;
+use cfi_frames::room::Room;
+use cfi_frames::walk_lines::print_walk;
 use cfi_perf::Addresses;
 use cfi_processes::process_code::ProcessCode;
 use cfi_processes::process_modules::FileModule;
@@ -59,7 +61,7 @@ pub fn print_sample<W: Write>(
         × IsStackOf style machine (taken_view taken.now) text }
     ensures cached { IsRoomFor taken.now.code.files.now room.new }
 {
-    let found = room.walk_sample(machine, &taken.code, modules, &taken.sample.user);
+    let found = walk_sample(room, machine, &taken.code, modules, &taken.sample.user);
     print_found(style, taken, found, room.frames.as_slice(), output)
 }
 

@@ -12,7 +12,7 @@ ghost use Rattle.cfi_stacks.specs.KnownSamples.{known_in};
 
 use crate::choice::Choice;
 use crate::profile_index::ProfileIndex;
-use crate::room::Room;
+use cfi_frames::room::Room;
 use cfi_object::input::InputError;
 use cfi_perf::{Event, PlaceKind, Record, RecordPlace};
 use cfi_processes::registers::SampleMachine;

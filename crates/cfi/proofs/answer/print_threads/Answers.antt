@@ -1,7 +1,7 @@
 use Rattle.std.proofs.Common.{ℕ, List, Option, subst, sym}
 use Rattle.cfi_object.specs.FileInputs.{AreLeft}
 use Rattle.cfi_programs.specs.Lines.{Line}
-use Rattle.cfi_stacks.specs.CoreOutputs.{IsCoreOwed}
+use Rattle.cfi_core_stacks.specs.CoreOutputs.{IsCoreOwed}
 use Rattle.cfi.specs.Disks.{Disk, MayOpenNamed, disk_of}
 use Rattle.cfi.specs.Folders.{folders_view}
 use Rattle.cfi.specs.StackOutputs.{AreThreads, MayOpenAt}

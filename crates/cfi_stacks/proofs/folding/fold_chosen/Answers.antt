@@ -6,7 +6,7 @@ use Rattle.cfi_processes.specs.declared.profile_files.ProfileFile.{ProfileFile}
 use Rattle.cfi_processes.specs.KnownFiles.{known_view}
 use Rattle.cfi_stacks.specs.Turns.{IsFollowed, IsNotFollowed, left_after}
 use Rattle.cfi_stacks.specs.KnownSamples.{known_in}
-use Rattle.cfi_stacks.proofs.RoomLemmas.{still_room_for}
+use Rattle.cfi_frames.proofs.RoomLemmas.{still_room_for}
 use Rattle.cfi_stacks.proofs.SampleTurns.{none_added}
 use Rattle.cfi_stacks.proofs.folding.fold_chosen.Goals as goal
 

@@ -7,7 +7,7 @@ use Rattle.cfi_stacks.specs.ChosenStacks.{IsFoldedOf}
 use Rattle.cfi_stacks.specs.KnownSamples.{known_in}
 use Rattle.cfi_stacks.specs.TakenSamples.{Taken}
 use Rattle.cfi_stacks.proofs.FoldLemmas.{sample_added, sample_refused}
-use Rattle.cfi_stacks.proofs.RoomLemmas.{still_room_for}
+use Rattle.cfi_frames.proofs.RoomLemmas.{still_room_for}
 use Rattle.cfi_stacks.proofs.TakenLemmas.{taken_as}
 use Rattle.cfi_stacks.proofs.folding.fold_followed.Goals as goal
 

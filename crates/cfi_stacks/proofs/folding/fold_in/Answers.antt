@@ -7,8 +7,8 @@ use Rattle.cfi_processes.specs.declared.profile_files.ProfileFile.{ProfileFile}
 use Rattle.cfi_processes.specs.KnownFiles.{known_view}
 use Rattle.cfi_stacks.specs.Choices.{choice_view}
 use Rattle.cfi_stacks.specs.KnownSamples.{known_in}
-use Rattle.cfi_stacks.specs.Rooms.{IsRoomFor}
-use Rattle.cfi_stacks.proofs.RoomLemmas.{room_for_all}
+use Rattle.cfi_frames.specs.Rooms.{IsRoomFor}
+use Rattle.cfi_frames.proofs.RoomLemmas.{room_for_all}
 use Rattle.cfi_stacks.proofs.TurnLemmas.{after_count, all_counted, count_of, many_counted, none_counted, place_at, place_inside, places_passed, refused_count}
 use Rattle.cfi_stacks.proofs.folding.fold_in.Goals as goal
 

@@ -3,7 +3,7 @@ use Rattle.cfi_flame.specs.FoldedCounts.{counted_in}
 use Rattle.cfi_processes.specs.Replays.{replay_known}
 use Rattle.cfi_stacks.specs.Choices.{choice_view}
 use Rattle.cfi_stacks.specs.KnownSamples.{known_in}
-use Rattle.cfi_stacks.proofs.RoomLemmas.{still_room_for}
+use Rattle.cfi_frames.proofs.RoomLemmas.{still_room_for}
 use Rattle.cfi_stacks.proofs.SampleTurns.{counts_other}
 use Rattle.cfi_stacks.proofs.folding.fold_place.Goals as goal
 

@@ -3,7 +3,7 @@ use Rattle.cfi_inputs.specs.Refusals.{input_refusal}
 use Rattle.cfi_stacks.specs.Choices.{choice_view}
 use Rattle.cfi_stacks.specs.ProfileIndexes.{IsReadAround}
 use Rattle.cfi_stacks.specs.ProfileOutputs.{listing_format}
-use Rattle.cfi_stacks.proofs.ReadLemmas.{for_input}
+use Rattle.cfi_frames.proofs.InputLemmas.{for_input}
 use Rattle.cfi_stacks.proofs.ShownLemmas.{IsOfFile}
 use Rattle.cfi_stacks.proofs.run.list_profile.Goals as goal
 

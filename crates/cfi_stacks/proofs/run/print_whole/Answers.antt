@@ -1,7 +1,7 @@
 use Rattle.std.proofs.Common.{inr, refl}
 use Rattle.cfi_inputs.specs.Refusals.{input_refusal}
 use Rattle.cfi_stacks.specs.ProfileOutputs.{listing_format}
-use Rattle.cfi_stacks.proofs.ReadLemmas.{for_input}
+use Rattle.cfi_frames.proofs.InputLemmas.{for_input}
 use Rattle.cfi_stacks.proofs.run.print_whole.Goals as goal
 
 pub returns-in-Err : goal.returns-in-Err

@@ -3,7 +3,7 @@ use Rattle.cfi_names.specs.Names.{shown}
 use Rattle.cfi_programs.proofs.DumpSectionWritten.{first_refused, last_written}
 use Rattle.cfi_processes.specs.ThreadNames.{name_bytes}
 use Rattle.cfi_stacks.specs.SampleHeads.{numbers_text, thread_name_text}
-use Rattle.cfi_stacks.proofs.StackLemmas.{colon, from_event, from_numbers}
+use Rattle.cfi_stacks.proofs.HeadLemmas.{colon, from_event, from_numbers}
 use Rattle.cfi_stacks.proofs.sample_head.write_head.Goals as goal
 
 pub returns-in_err-write_thread_name : goal.returns-in_err-write_thread_name

@@ -1,4 +1,4 @@
-use Rattle.cfi_stacks.proofs.FoldLemmas.{then_more}
+use Rattle.cfi_frames.proofs.StackLemmas.{then_more}
 use Rattle.std.proofs.Common.{◌++◌, codes}
 use Rattle.cfi_programs.specs.JsonTexts.{json_number}
 use Rattle.cfi_perf.specs.Samples.{sample_view}

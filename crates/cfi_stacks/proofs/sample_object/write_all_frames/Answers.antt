@@ -6,8 +6,8 @@ use Rattle.cfi_programs.proofs.DumpSectionWritten.{first_refused, last_written}
 use Rattle.cfi_processes.specs.KnownFiles.{known_view}
 use Rattle.cfi_processes.specs.KernelSites.{kernel_site}
 use Rattle.cfi_stacks.specs.SampleOutputs.{user_objects}
-use Rattle.cfi_stacks.specs.FrameObjects.{chain_frame, is_nil}
-use Rattle.cfi_stacks.proofs.ObjectLemmas.{led, two_lists}
+use Rattle.cfi_frames.specs.FrameObjects.{chain_frame, is_nil}
+use Rattle.cfi_frames.proofs.ObjectLemmas.{led, two_lists}
 use Rattle.cfi_stacks.proofs.sample_object.write_all_frames.Goals as goal
 
 pub returns-in_err-write_chain : goal.returns-in_err-write_chain

@@ -3,8 +3,8 @@ use Rattle.cfi_programs.proofs.WrittenLemmas.{beginning_then, given_all, given_t
 use Rattle.cfi_processes.specs.KernelSites.{chain_site}
 use Rattle.cfi_processes.specs.KnownFiles.{known_view}
 use Rattle.cfi_processes.specs.Sites.{Site, site_view}
-use Rattle.cfi_stacks.specs.FrameObjects.{chain_frame, closing, comma_before, frame_object}
-use Rattle.cfi_stacks.proofs.ObjectLemmas.{next_object, none_left, opened}
+use Rattle.cfi_frames.specs.FrameObjects.{chain_frame, closing, comma_before, frame_object}
+use Rattle.cfi_frames.proofs.ObjectLemmas.{next_object, none_left, opened}
 use Rattle.cfi_stacks.proofs.sample_object.write_chain.Goals as goal
 
 pub returns-in_err-write_frame_object : goal.returns-in_err-write_frame_object

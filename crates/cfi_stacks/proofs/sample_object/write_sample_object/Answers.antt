@@ -6,7 +6,7 @@ use Rattle.cfi_processes.specs.KernelSites.{kernel_site}
 use Rattle.cfi_processes.specs.ThreadNames.{name_bytes}
 use Rattle.cfi_programs.specs.JsonTexts.{separated}
 use Rattle.cfi_stacks.specs.SampleOutputs.{all_objects, sample_reason}
-use Rattle.cfi_stacks.specs.FrameObjects.{object_end}
+use Rattle.cfi_frames.specs.FrameObjects.{object_end}
 use Rattle.cfi_stacks.specs.SampleMembers.{sample_head}
 use Rattle.cfi_stacks.proofs.sample_object.write_sample_object.Goals as goal
 

@@ -7,7 +7,7 @@ use Rattle.cfi_processes.specs.Replays.{replay_known}
 use Rattle.cfi_stacks.specs.Choices.{choice_view}
 use Rattle.cfi_stacks.specs.Turns.{AreTexts, left_after}
 use Rattle.cfi_stacks.specs.KnownSamples.{known_in}
-use Rattle.cfi_stacks.proofs.RoomLemmas.{still_room_for}
+use Rattle.cfi_frames.proofs.RoomLemmas.{still_room_for}
 use Rattle.cfi_stacks.proofs.SampleTurns.{broken_record}
 use Rattle.cfi_stacks.proofs.sample_stacks.print_chosen.Goals as goal
 

@@ -7,8 +7,8 @@ use Rattle.cfi_processes.specs.KnownFiles.{known_view}
 use Rattle.cfi_stacks.specs.Choices.{choice_view}
 use Rattle.cfi_stacks.specs.Turns.{PrintsTurn}
 use Rattle.cfi_stacks.specs.KnownSamples.{known_in}
-use Rattle.cfi_stacks.specs.Rooms.{IsRoomFor}
-use Rattle.cfi_stacks.proofs.RoomLemmas.{room_for_all}
+use Rattle.cfi_frames.specs.Rooms.{IsRoomFor}
+use Rattle.cfi_frames.proofs.RoomLemmas.{room_for_all}
 use Rattle.cfi_stacks.proofs.TurnLemmas.{after_turn, all_shown, broken_turn, many_shown, none_shown, place_at, place_inside, places_passed, refused_turn, turn_of}
 use Rattle.cfi_stacks.proofs.sample_stacks.print_in.Goals as goal
 

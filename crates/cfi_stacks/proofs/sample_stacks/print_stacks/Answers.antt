@@ -3,7 +3,7 @@ use Rattle.cfi_object.specs.declared.input.InputError.TheVariants.{OutOfMemory}
 use Rattle.cfi_processes.specs.KnownFiles.{known_view}
 use Rattle.cfi_stacks.specs.Choices.{choice_view}
 use Rattle.cfi_stacks.specs.ProfileIndexes.{record_of}
-use Rattle.cfi_stacks.specs.ProfileOutputs.{no_memory}
+use Rattle.cfi_frames.specs.Outputs.{no_memory}
 use Rattle.cfi_stacks.proofs.RunLemmas.{before_all}
 use Rattle.cfi_stacks.proofs.sample_stacks.print_stacks.Goals as goal
 

@@ -3,7 +3,7 @@ use Rattle.cfi_programs.proofs.WrittenLemmas.{beginning_then, given_all, given_t
 use Rattle.cfi_processes.specs.KernelSites.{chain_site}
 use Rattle.cfi_processes.specs.KnownFiles.{known_view}
 use Rattle.cfi_processes.specs.Sites.{site_view}
-use Rattle.cfi_stacks.specs.FrameLines.{site_line}
+use Rattle.cfi_frames.specs.FrameLines.{site_line}
 use Rattle.cfi_stacks.proofs.ChainLemmas.{line_then, no_line}
 use Rattle.cfi_stacks.proofs.sample_text.print_chain.Goals as goal
 

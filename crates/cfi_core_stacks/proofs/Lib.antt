@@ -1,0 +1,14 @@
+mod ThreadLemmas
+mod CoreLemmas
+mod CoreRunLemmas
+mod MissingLemmas
+mod NullLemmas
+mod SignalLemmas
+mod QuickLemmas
+mod Worked
+mod WorkedSignals
+mod WorkedNullCalls
+mod SortedWindows
+mod FileWindows
+mod VdsoFiles
+mod ThreadWalks

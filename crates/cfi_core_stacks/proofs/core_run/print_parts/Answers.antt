@@ -1,0 +1,14 @@
+use Rattle.std.proofs.Common.{subst, sym}
+use Rattle.cfi_elf.specs.Images.{Image, IsImageOf}
+use Rattle.cfi_cores.specs.PartialCores.{IsPartial}
+use Rattle.cfi_object.specs.FileParts.{image_of}
+use Rattle.cfi_core_stacks.proofs.QuickLemmas.{refused_of_parts, some_is}
+use Rattle.cfi_core_stacks.proofs.core_run.print_parts.Goals as goal
+
+pub print_partial-requires-clause-partial : goal.print_partial-requires-clause-partial
+print_partial-requires-clause-partial g c = λ bytes of.
+    some_is c.in-Ok-Some.field-0 c.in-Ok-Some.partial (IsPartial bytes) c.in-Ok-Some.field-0-is (c.in-Ok-Some.ensures bytes (subst (λ (image : Image). IsImageOf image bytes) (sym c.image.ensures) of))
+
+pub returns-in-Err : goal.returns-in-Err
+returns-in-Err g c =
+    refused_of_parts c.args.listing (g.O.Opener.may_open c.args.opener.now) g.O.File.Read.remaining (image_of c.args.parts.now) (g.I.FileInput.bytes c.args.input.now) _ _ c.write_refusal_in.result c.requires c.write_refusal_in.ensures

@@ -1,0 +1,14 @@
+pub mod Signals
+pub mod ThreadHeads
+pub mod ThreadMembers
+pub mod MissingFrames
+pub mod NullCalls
+pub mod SignalTrampolines
+pub mod ThreadStacks
+pub mod AskedThreads
+pub mod CoreCode
+pub mod CoreWindows
+pub mod ThreadOutputs
+pub mod CoreOutputs
+pub mod QuickStacks
+pub mod ThreadWalks

@@ -1,0 +1,22 @@
+use Rattle.cfi_programs.proofs.DumpSectionWritten.{first_refused, last_written}
+use Rattle.std.proofs.Common.{◌++◌, codes}
+use Rattle.cfi_programs.specs.JsonTexts.{json_name}
+use Rattle.cfi_frames.specs.FrameObjects.{offset_member}
+use Rattle.cfi_frames.proofs.frame_objects.write_function.Goals as goal
+
+pub returns-in_err-write_text : goal.returns-in_err-write_text
+returns-in_err-write_text g c =
+    let name = json_name c.args.place.name.now in
+    first_refused _ _ _ (codes ",\"function\":\"") (name ++ ((offset_member c.args.place.offset))) c.from_residual.ensures.0 c.in_err-write_text.ensures
+
+pub returns-in_err-write_json_name : goal.returns-in_err-write_json_name
+returns-in_err-write_json_name g c =
+    let name = json_name c.args.place.name.now in
+    last_written _ _ _ _ (codes ",\"function\":\"") (name ++ ((offset_member c.args.place.offset))) c.in_ok-write_text.ensures
+    (first_refused _ _ _ name ((offset_member c.args.place.offset)) c.from_residual-in_err-write_json_name.ensures.0 c.in_err-write_json_name.ensures)
+
+pub returns : goal.returns
+returns g c =
+    let name = json_name c.args.place.name.now in
+    last_written _ _ _ _ (codes ",\"function\":\"") (name ++ ((offset_member c.args.place.offset))) c.in_ok-write_text.ensures
+    (last_written _ _ _ _ name ((offset_member c.args.place.offset)) c.in_ok-write_json_name.ensures c.write_offset_member.ensures)
