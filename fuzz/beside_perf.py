@@ -12,6 +12,7 @@ was a difference without a rule. Needs perf 6.1.
 """
 import argparse
 import collections
+import operator
 import os
 import random
 import re
@@ -24,19 +25,27 @@ from beside_readelf import TOP, changed, output_of, processor_time
 
 KEPT = TOP / "fuzz" / "out" / "perf"
 DATA = TOP / "crates" / "cfi" / "data"
-FIELDS = "comm,pid,tid,time,period,event,ip"
+# without the address, which perf prints behind the event where a sample has no chain
+FIELDS = "comm,pid,tid,time,period,event"
 # the thread's name, the process, the thread, the time, the period and the event
-HEAD = re.compile(r"^ *(\S.*?|) +(-?\d+)/(-?\d+) +(?:\[\d+\] +)?(\d+\.\d{6}): +(\d+) (?:(\S.*?|)): ?$")
+HEAD = re.compile(r"^ *(\S.*?|) +(-?\d+)/(-?\d+) +(?:\[\d+\] +)?(\d+\.\d{6}): +(\d+) +(\S.*?|): ?$")
 LOST = re.compile(r"PERF_RECORD_LOST: id:\d+: lost:(\d+)|PERF_RECORD_LOST_SAMPLES: id:\d+: lost samples :(\d+)")
+UNORDERED = "No sample_id_all support, falling back to unordered processing"
+# the time, where samples have one, and the mode
+SAMPLE = re.compile(r"(?:(\d+) )?0x[0-9a-f]+ \[0x[0-9a-f]+\]: PERF_RECORD_SAMPLE\(IP, 0x([0-9a-f]+)\)")
 MODIFIERS = re.compile(":[uknHGpPhDIe]*$")
 Head = collections.namedtuple("Head", "comm pid tid time period event")
 
 # ---- changed profiles
 
 
+def order_of(data):
+    return "<" if data[:8] == b"PERFILE2" else ">"
+
+
 def parts_of(data):
     """The header, the attributes, and each record: from where to where."""
-    order = "<" if data[:8] == b"PERFILE2" else ">"
+    order = order_of(data)
     size, = struct.unpack_from(order + "Q", data, 8)
     if size == 16:
         return [(0, 16), *records(data, order, 16, len(data))]
@@ -55,6 +64,42 @@ def records(data, order, at, end):
         found += [(at, at + 8), (at, min(at + 48, at + size)), (at, at + size)]
         at += size
     return found
+
+
+def attributes_of(data):
+    """Where the attributes of each event are."""
+    order = order_of(data)
+    size, each = struct.unpack_from(order + "2Q", data, 8)
+    if size == 16:
+        heads = [start for start, end in records(data, order, 16, len(data)) if end == start + 8]
+        return [at + 8 for at in heads if struct.unpack_from(order + "I", data, at)[0] == 64]
+    start, length = struct.unpack_from(order + "2Q", data, 24)
+    return range(start, start + length, each)
+
+
+def without_times(data):
+    """The same but for a bit of the attributes, sample_id_all: no record but samples has a time then."""
+    data = bytearray(data)
+    for at in attributes_of(data):
+        data[at + 42] &= ~(4 if order_of(data) == "<" else 0x20)
+    return bytes(data)
+
+
+def named_twice(data):
+    """The same with a record between its samples, by which their thread gets another name."""
+    (name, _), *_, (sample, _) = [part for part in parts_of(data) if part[1] == part[0] + 8 and data[part[0]] in (3, 9)]
+    record = bytearray(data[name : name + 40])
+    record[16:24] = b"another\0"
+    # its time, before that of the last sample
+    record[32:40] = (int.from_bytes(data[sample + 24 : sample + 32], "little") - 1).to_bytes(8, "little")
+    longer = bytearray(data[:sample] + record + data[sample:])
+    start, count = struct.unpack_from("<2Q", data, 40)
+    struct.pack_into("<Q", longer, 48, count + len(record))
+    # where the features are, behind the records
+    for k in range(int.from_bytes(data[72:104], "little").bit_count()):
+        place = start + count + len(record) + 16 * k
+        struct.pack_into("<Q", longer, place, struct.unpack_from("<Q", longer, place)[0] + len(record))
+    return bytes(longer)
 
 
 # ---- what the programs print
@@ -86,7 +131,7 @@ def printed_by_cfi(text, errors):
 
 
 def printed_by_perf(text, errors):
-    found = Printed()
+    found, times, time, names = Printed(), [], 0, {}
     for line in text.split("\n"):
         if line[:1] in (".", "\t"):
             continue
@@ -95,13 +140,21 @@ def printed_by_perf(text, errors):
             found.lost[1] += int(lost[2] or 0)
         elif fork := re.search(r"PERF_RECORD_FORK\((-?\d+):(-?\d+)\):\((-?\d+):(-?\d+)\)", line):
             found.forks.append(fork.groups())
+            names[fork[2]] = names.get(fork[4])
+        elif comm := re.search(r"PERF_RECORD_COMM(?: exec)?: (.*):-?\d+/(-?\d+)$", line):
+            names[comm[2]] = comm[1]
         elif head := HEAD.match(line):
             found.heads.append(Head(*(field or "" for field in head.groups())))
+            times.append(time)
         elif "PERF_RECORD_EVENT_UPDATE" in line:
             found.has_updates = True
-        elif mode := re.search(r"PERF_RECORD_SAMPLE\(IP, 0x([0-9a-f]+)\)", line):
-            found.guests += int(mode[1], 16) & 7 not in (0, 1, 2)
+        elif mode := SAMPLE.search(line):
+            time = int(mode[1] or 0)
+            found.guests += int(mode[2], 16) & 7 not in (0, 1, 2)
             found.are_lacking |= ": -1/-1: " in line
+    if UNORDERED in text:
+        # perf reads records in the order of the file then; for cfi those without a time stand before all samples
+        found.heads = [head._replace(comm=names.get(head.tid) or head.comm) for _, head in sorted(zip(times, found.heads), key=operator.itemgetter(0))]
     complaints = [line for line in errors.split("\n") if line.strip() and not re.match("Warning:|Processed |Check |$", line)]
     found.said = complaints[0] if complaints else None
     return found
@@ -203,6 +256,8 @@ def main():
     asked = parser.parse_intermixed_args()
     program = str(Path(asked.program).resolve())
     originals = [path.read_bytes() for path in [*sorted(DATA.glob("*.perf")), *map(Path, asked.files)]]
+    named = named_twice((DATA / "names.perf").read_bytes())
+    originals += [named, without_times(named)]
     originals = [(data, parts_of(data)) for data in originals if len(data) < 1 << 16]
     KEPT.mkdir(parents=True, exist_ok=True)
     path, rules, counts = KEPT / f"input{os.getpid()}", collections.Counter(), collections.Counter()
@@ -211,7 +266,7 @@ def main():
     while seed < asked.seed + asked.inputs and processor_time() < asked.seconds:
         random_ = random.Random(seed)
         data, parts = random_.choice(originals)
-        data = changed(random_, data, parts)
+        data = changed(random_, without_times(data) if random_.random() < 0.1 else data, parts)
         differences = list(compare(program, data, path, counts))
         for rule, what in differences:
             rules[rule or "no rule"] += 1

@@ -162,7 +162,7 @@ def rows_of_readelf(text):
 
 
 # the name, the kind, the address, the offset, the size and the flags of a section
-SECTION = re.compile(r"^  \[ *(\d+)\] (\S*) +([A-Z]\S*|[0-9a-f]+: <unknown>) +([0-9a-f]{8,16}) ([0-9a-f]+) ([0-9a-f]+) [0-9a-f]+ ([A-Za-z ]{0,8})")
+SECTION = re.compile(r"^  \[ *(\d+)\] (.*?) +([A-Z]\S*|[0-9a-f]+: <unknown>) +([0-9a-f]{8,16}) ([0-9a-f]+) ([0-9a-f]+) [0-9a-f]+ ([A-Za-z ]{0,8})")
 SYMBOL = re.compile(r"^ +\d+: ([0-9a-f]+) +\S+ ([A-Z]+|<[^>]*>: \S+) +.* +(\d+|[A-Z]{2,3} *(?:\[\w+\])?|bad section index\[\d+\]) (\S+)$")
 SIMPLE = re.compile(r"[A-Za-z_.][\w.$]*", re.ASCII)
 Section = collections.namedtuple("Section", "name kind address offset size flags")
@@ -180,16 +180,20 @@ def sections_of(text):
 
 def symbols_of(text):
     """The symbols of the first section of type SHT_SYMTAB, or else SHT_DYNSYM: value, section and name."""
-    tables = []
+    tables, sections = [], sections_of(text)
     for line in text.split("\n"):
         match = SYMBOL.match(line)
         if line.startswith("Symbol table "):
             tables.append([])
-        # readelf prints the names of their sections for these
-        elif match and tables and match[2] != "SECTION":
+        elif match and tables and not (match[2] == "SECTION" and has_name_of_section(match, sections)):
             tables[-1].append((int(match[1], 16), match[3], match[4]))
-    kinds = [section.kind for section in sections_of(text).values() if section.kind in ("SYMTAB", "DYNSYM") and section.size]
+    kinds = [section.kind for section in sections.values() if section.kind in ("SYMTAB", "DYNSYM") and section.size]
     return next((table for kind in ("SYMTAB", "DYNSYM") for found, table in zip(kinds, tables) if found == kind), [])
+
+
+def has_name_of_section(match, sections):
+    """Whether readelf prints the name of its section for a symbol of type STT_SECTION, as it does where that has none."""
+    return match[3].isdigit() and int(match[3]) in sections and match[4] == sections[int(match[3])].name
 
 
 def address_in(section, length, is_object):
@@ -300,7 +304,9 @@ def compare_section(run, section, ours, theirs, said, complaint, is_object, thei
             run.counts["rows that are equal"] += len(mine.rows)
             continue
         refused = refusal_in(mine or (ours or [None])[-1])
-        if refused and (mine is None or other is None or is_equal(*until_refusal(mine, other), is_object)):
+        if refused and mine and other:
+            mine, other = until_refusal(mine, other)
+        if refused and (mine is None or other is None or is_equal(mine, other, is_object)):
             rule = f"rows: cfi refuses {refused}"
         elif said and said != "no call frames":
             rule = f"rows: cfi refuses {said}"
@@ -312,6 +318,8 @@ def compare_section(run, section, ours, theirs, said, complaint, is_object, thei
             rule = "rows: the number of addresses is signed by its encoding, and readelf reads it without a sign"
         elif is_moved(run, mine, other):
             rule = "rows: readelf has no base of the text or the data"
+        elif has_lost_expression(mine, other, is_object):
+            rule = "rows: readelf loses a CFA of the CIE that is an expression"
         elif "cie=invalid" in theirs_text:
             rule = "rows: a CIE is read where its pointer leads, by readelf only where an entry begins"
         elif not theirs and section == ".eh_frame" and not re.search(r"\] \.eh_frame ", run.readelf("-S")[0]):
@@ -329,6 +337,14 @@ def is_moved(run, mine, other):
         return False
     bases = {section.address for section in sections_of(run.readelf("-S")[0]).values() if section.name in (".text", ".got", ".got.plt")}
     return (mine.start - other.start) % (1 << 64) in bases
+
+
+def has_lost_expression(mine, other, is_object):
+    """Whether only the CFA of the CIE differs: an expression, of which readelf's FDE has the register and the offset from before."""
+    if not mine or not other or not other.cie or other.cie[0] != "exp" or len(mine.rows) != len(other.rows):
+        return False
+    rows = [(row[0], "exp", *row[2:]) if own[1] == "exp" else row for own, row in zip(mine.rows, other.rows)]
+    return is_equal(mine, other._replace(rows=rows), is_object)
 
 
 def refusal_in(fde):
