@@ -33,6 +33,7 @@ LOST = re.compile(r"PERF_RECORD_LOST: id:\d+: lost:(\d+)|PERF_RECORD_LOST_SAMPLE
 UNORDERED = "No sample_id_all support, falling back to unordered processing"
 # the time, where samples have one, and the mode
 SAMPLE = re.compile(r"(?:(\d+) )?0x[0-9a-f]+ \[0x[0-9a-f]+\]: PERF_RECORD_SAMPLE\(IP, 0x([0-9a-f]+)\)")
+SIGNS = "perf prints the numbers of processes and threads with a sign"
 MODIFIERS = re.compile(":[uknHGpPhDIe]*$")
 Head = collections.namedtuple("Head", "comm pid tid time period event")
 
@@ -110,8 +111,8 @@ class Printed:
 
     def __init__(self):
         self.heads, self.lost, self.said, self.guests = [], [0, 0], None, 0
-        # of each thread that begins, its process and number, and those of its parent
-        self.forks, self.are_lacking, self.has_updates = [], False, False
+        # of each thread that begins, its number and its parent's; and the threads that perf removes
+        self.forks, self.removed, self.are_lacking, self.has_updates = [], set(), False, False
 
 
 def printed_by_cfi(text, errors):
@@ -138,9 +139,11 @@ def printed_by_perf(text, errors):
         if lost := LOST.search(line):
             found.lost[0] += int(lost[1] or 0)
             found.lost[1] += int(lost[2] or 0)
-        elif fork := re.search(r"PERF_RECORD_FORK\((-?\d+):(-?\d+)\):\((-?\d+):(-?\d+)\)", line):
+        elif fork := re.search(r"PERF_RECORD_FORK\(-?\d+:(-?\d+)\):\(-?\d+:(-?\d+)\)", line):
             found.forks.append(fork.groups())
-            names[fork[2]] = names.get(fork[4])
+            names[fork[1]] = names.get(fork[2])
+        elif removed := re.match(r"removing erroneous parent thread -?\d+/(-?\d+)$", line):
+            found.removed.add(removed[1])
         elif comm := re.search(r"PERF_RECORD_COMM(?: exec)?: (.*):-?\d+/(-?\d+)$", line):
             names[comm[2]] = comm[1]
         elif head := HEAD.match(line):
@@ -186,28 +189,33 @@ def rule_of(ours, theirs):
 
 
 def head_rule(mine, other, theirs):
-    """Why one field of two heads differs, or None."""
-    if other._replace(event=mine.event) == mine and theirs.has_updates:
-        return "head: perf names events by PERF_RECORD_EVENT_UPDATE, which cfi doesn't read"
-    forks = any(fork[2] != fork[3] for fork in theirs.forks)
-    if other._replace(comm=mine.comm) == mine and other.comm == f":{other.tid}" and forks:
-        return "head: perf has no name of a thread that another process than its parent's began"
-    rules = {
-        "a name is printed escaped": lambda head: head._replace(comm=printable(head.comm)),
-        "perf puts modifiers behind a name that isn't stored": lambda head: head._replace(event=MODIFIERS.sub("", head.event)),
-        "an event without a name is unknown": lambda head: head._replace(event=re.sub("^unknown.*", "unknown", head.event)),
-        "perf prints the numbers of processes and threads with a sign": unsigned,
-    }
-    for rule, change in rules.items():
-        other = change(other)
-        if mine == other:
-            return f"head: {rule}"
-    return None
+    """Why fields of two heads differ, each for its own reason, or None."""
+    reasons = {"comm": comm_rule, "event": event_rule, "pid": number_rule, "tid": number_rule}
+    differing = [field for field in Head._fields if getattr(mine, field) != getattr(other, field)]
+    rules = [reasons[field](field, mine, other, theirs) if field in reasons else None for field in differing]
+    return f"head: {'; '.join(dict.fromkeys(rules))}" if rules and all(rules) else None
 
 
-def unsigned(head):
-    numbers = {name: str(int(getattr(head, name)) % (1 << 32)) for name in ("pid", "tid")}
-    return head._replace(**numbers, comm=re.sub(r"^:-\d+$", lambda found: f":{int(found[0][1:]) % (1 << 32)}", head.comm))
+def comm_rule(_, mine, other, theirs):
+    if mine.comm == printable(other.comm):
+        return "a name is printed escaped"
+    if mine.comm == re.sub(r"^:-\d+$", lambda found: f":{int(found[0][1:]) % (1 << 32)}", other.comm):
+        return SIGNS
+    is_lost = any(other.tid in fork and fork[1] in theirs.removed for fork in theirs.forks)
+    return "perf removes a parent thread that is of another process" if is_lost and other.comm == f":{other.tid}" else None
+
+
+def event_rule(_, mine, other, theirs):
+    name = MODIFIERS.sub("", other.event)
+    if mine.event == name:
+        return "perf puts modifiers behind a name that isn't stored"
+    if mine.event == re.sub("^unknown.*", "unknown", name):
+        return "an event without a name is unknown"
+    return "perf names events by PERF_RECORD_EVENT_UPDATE, which cfi doesn't read" if theirs.has_updates else None
+
+
+def number_rule(field, mine, other, _):
+    return SIGNS if int(getattr(mine, field)) == int(getattr(other, field)) % (1 << 32) else None
 
 
 def compare(program, data, path, counts):

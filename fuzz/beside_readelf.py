@@ -314,12 +314,8 @@ def compare_section(run, section, ours, theirs, said, complaint, is_object, thei
             rule = "rows: a section of type SHT_NULL has no name"
         elif complaint:
             rule = f"rows: readelf warns: {complaint}"
-        elif mine and other and mine.rows == other.rows and (mine.end - other.end) % 0x10000 == 0:
-            rule = "rows: the number of addresses is signed by its encoding, and readelf reads it without a sign"
-        elif is_moved(run, mine, other):
-            rule = "rows: readelf has no base of the text or the data"
-        elif has_lost_expression(mine, other, is_object):
-            rule = "rows: readelf loses a CFA of the CIE that is an expression"
+        elif rule := mine and other and fde_rule(run, mine, other, is_object):
+            rule = f"rows: {rule}"
         elif "cie=invalid" in theirs_text:
             rule = "rows: a CIE is read where its pointer leads, by readelf only where an entry begins"
         elif not theirs and section == ".eh_frame" and not re.search(r"\] \.eh_frame ", run.readelf("-S")[0]):
@@ -331,20 +327,32 @@ def compare_section(run, section, ours, theirs, said, complaint, is_object, thei
             return
 
 
+def fde_rule(run, mine, other, is_object):
+    """Why the start, the number of addresses and the rows of two FDEs differ, each for its own reason; or None."""
+    rules = []
+    if mine.start != other.start and not is_object:
+        rules.append((is_moved(run, mine, other), "readelf has no base of the text or the data"))
+    length, rows = relative(mine)
+    other_length, other_rows = relative(other)
+    if length != other_length:
+        is_signed = (length - other_length) % 0x10000 == 0
+        rules.append((is_signed, "the number of addresses is signed by its encoding, and readelf reads it without a sign"))
+    if rows != other_rows:
+        rules.append((has_lost_expression(other, rows, other_rows), "readelf loses a CFA of the CIE that is an expression"))
+    return "; ".join(rule for _, rule in rules) if all(is_so for is_so, _ in rules) else None
+
+
 def is_moved(run, mine, other):
-    """Whether the FDEs differ by the address of the text or the data alone."""
-    if not mine or not other or relative(mine) != relative(other):
-        return False
+    """Whether the FDEs differ by the address of the text or the data."""
     bases = {section.address for section in sections_of(run.readelf("-S")[0]).values() if section.name in (".text", ".got", ".got.plt")}
     return (mine.start - other.start) % (1 << 64) in bases
 
 
-def has_lost_expression(mine, other, is_object):
+def has_lost_expression(other, rows, other_rows):
     """Whether only the CFA of the CIE differs: an expression, of which readelf's FDE has the register and the offset from before."""
-    if not mine or not other or not other.cie or other.cie[0] != "exp" or len(mine.rows) != len(other.rows):
+    if not other.cie or other.cie[0] != "exp" or len(rows) != len(other_rows):
         return False
-    rows = [(row[0], "exp", *row[2:]) if own[1] == "exp" else row for own, row in zip(mine.rows, other.rows)]
-    return is_equal(mine, other._replace(rows=rows), is_object)
+    return rows == [(row[0], "exp", *row[2:]) if own[1] == "exp" else row for own, row in zip(rows, other_rows)]
 
 
 def refusal_in(fde):
