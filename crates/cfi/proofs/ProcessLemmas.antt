@@ -1,23 +1,24 @@
 -- The output of a file that was opened, and the end of a run.
-use Rattle.std.proofs.Common.{◌≡◌, ℕ, List, [], ◌∷◌, Option, Some, None, Result, Ok, Err, IsSome, refl, sym, ◌∙◌, append-nil, subst, map, codes, inl, inr}
+use Rattle.std.proofs.Common.{◌≡◌, ℕ, List, [], ◌∷◌, Option, Some, None, Result, Ok, Err, IsSome, refl, sym, ap, ◌∙◌, append-nil, subst, map, codes, inl, inr}
 use Rattle.std.specs.Borrow.{Bor}
 use Rattle.std.specs.Io.KnownBytes.{Appends, Keeps}
-use Rattle.clap.specs.Words.{HasKind, Text, fault_of, kind_of}
+use Rattle.std.specs.Option.{option_and_then, option_map}
+use Rattle.clap.specs.Words.{HasKind, Row, Text, fault_of, kind_of}
 use Rattle.clap.specs.declared.error.Error.{Error}
 use Rattle.clap.specs.declared.error.kind.ErrorKind.TheVariants.{OutOfMemory}
 use Rattle.cfi_programs.specs.Lines.{Line}
 use Rattle.cfi_programs.specs.WriterOutput.{Prints, PrintsSome}
 use Rattle.cfi_programs.proofs.WrittenLemmas.{appends_then, keeps_is, none_yet}
 use Rattle.cfi_object.specs.FileInputs.{AreLeft}
-use Rattle.cfi.specs.CommandLine.{cfi_app}
-use Rattle.cfi.specs.Forms.{format_names}
-use Rattle.cfi.specs.Trees.{Tree}
-use Rattle.cfi.specs.Words.{asked}
-use Rattle.cfi.specs.Tasks.{Mistake, Task, tell}
-use Rattle.cfi.specs.Spelled.{spelled}
+use Rattle.cfi_commands.specs.CommandLine.{cfi_app, command_by_matches}
+use Rattle.cfi_commands.specs.Forms.{Command, format_names}
+use Rattle.cfi_commands.specs.Trees.{Tree}
+use Rattle.cfi_commands.specs.Words.{asked}
+use Rattle.cfi.specs.Tasks.{Mistake, Task, task_asked, task_by_matches, task_of, tell}
+use Rattle.cfi_commands.specs.Spelled.{spelled}
 use Rattle.cfi.specs.Process.{Ends, IsAnswer, IsTaskOutput, IsWordsOutput, IsStatusAfter, IsStatusOf, PrintsForWords, PrintsForTask}
-use Rattle.cfi.specs.OpenedFiles.{IsFileOutput, no_line}
-use Rattle.cfi.specs.Disks.{Disk, FileKind, disk_of}
+use Rattle.cfi_commands.specs.OpenedFiles.{IsFileOutput, no_line}
+use Rattle.cfi_commands.specs.Disks.{Disk, FileKind, disk_of}
 
 -- what is right by the bytes of a file that was opened
 pub output_of : {E : Type 0} (disk : Disk) (MayBeOpened : Option disk.Handle → Type 0) (IsRight : List ℕ → Line → Type 0) (file : disk.Handle) (old new : Option (List ℕ)) (r : Result ℕ E) → MayBeOpened (Some file) →
@@ -71,10 +72,16 @@ explained disk tree words None error old status (names, are, kinds) memory after
 explained disk tree words (Some command) error old status kinds memory after =
     (no_line, inr refl, ([], none_yet old, inl (refl, subst (λ kind. IsStatusAfter kind status) (memory refl) after)))
 
+-- words that ask for a task ask for a command
+is_asked : (command : Option Command) → IsSome (option_and_then task_of command) → IsSome command
+is_asked None some = some
+is_asked (Some command) some = refl
+
 -- where clap has no command for the words
 pub refused : (disk : Disk) (tree : Tree) (words : List Text) (error : Error) (old : Option (List ℕ)) (status : ℕ) → IsFault (spelled words) error →
     (IsSome (asked (spelled words)) → kind_of error ≡ OutOfMemory) → IsStatusAfter (kind_of error) status → PrintsForWords disk tree (Some words) old old status
-refused disk tree words error old status kinds memory after = explained disk tree (spelled words) (asked (spelled words)) error old status kinds memory after
+refused disk tree words error old status kinds memory after =
+    explained disk tree (spelled words) (task_asked (spelled words)) error old status kinds (λ some. memory (is_asked (asked (spelled words)) some)) after
 
 -- where memory is refused before there is a command
 format_texts : List (Bor Text)
@@ -89,13 +96,21 @@ words_answered : (disk : Disk) (tree : Tree) (words : List Text) (asked_for : Op
 words_answered disk tree words None printed is = subst (λ (line : Line). IsWordsOutput disk tree words None line) (sym is) (unanswered disk tree words None)
 words_answered disk tree words (Some task) printed is = inl is
 
-pub answered : (disk : Disk) (tree : Tree) (words : List Text) (asked_for : Option Task) (old new : Option (List ℕ)) (status : ℕ) → asked (spelled words) ≡ asked_for → PrintsForTask disk tree asked_for old new status →
+-- the task of the command that clap matched
+pub task_is : (words : List Text) (matched : Option (Text × List Row)) → asked words ≡ option_map command_by_matches matched → task_asked words ≡ option_and_then task_by_matches matched
+task_is words matched e = ap (option_and_then task_of) e ∙ go matched
+  where
+    go : (m : Option (Text × List Row)) → option_and_then task_of (option_map command_by_matches m) ≡ option_and_then task_by_matches m
+    go None = refl
+    go (Some m) = refl
+
+pub answered : (disk : Disk) (tree : Tree) (words : List Text) (asked_for : Option Task) (old new : Option (List ℕ)) (status : ℕ) → task_asked (spelled words) ≡ asked_for → PrintsForTask disk tree asked_for old new status →
     PrintsForWords disk tree (Some words) old new status
 answered disk tree words asked_for old new status e (printed, is, ends_so) =
     (printed, subst (λ (task : Option Task). IsWordsOutput disk tree (spelled words) task printed) (sym e) (words_answered disk tree (spelled words) asked_for printed is), ends_so)
 
 pub unspelled : (disk : Disk) (tree : Tree) (words : List Text) (old : Option (List ℕ)) → PrintsForWords disk tree (Some words) old old 2
-unspelled disk tree words old = (no_line, unanswered disk tree (spelled words) (asked (spelled words)), ([], none_yet old, inl (refl, refl)))
+unspelled disk tree words old = (no_line, unanswered disk tree (spelled words) (task_asked (spelled words)), ([], none_yet old, inl (refl, refl)))
 
 -- where the words have a mistake
 pub told : (E : Type 0) (disk : Disk) (tree : Tree) (task : Task) (mistake : Mistake) (old : Option (List ℕ)) → tell mistake ≡ task → PrintsSome {E = E} (λ line. IsTaskOutput disk tree task line) old old (Ok 2)

@@ -14,18 +14,17 @@ use Rattle.cfi_programs.specs.Lines.{Line}
 use Rattle.cfi_programs.specs.WriterOutput.{IsBeginning}
 use Rattle.cfi_files.specs.FileOutputs.{IsOwed}
 use Rattle.cfi_files.specs.declared.request.Request.{Request}
-use Rattle.cfi.specs.Checks.{AreChecked}
-use Rattle.cfi.specs.CommandLine.{cfi_app}
-use Rattle.cfi.specs.Disks.{Disk}
-use Rattle.cfi.specs.FlameOutputs.{IsSummaryOwed, OfStacks, graph, table}
-use Rattle.cfi.specs.Forms.{format_names}
-use Rattle.cfi.specs.OpenedFiles.{IsOutputOfNamed, no_line}
-use Rattle.cfi.specs.Spelled.{spelled}
+use Rattle.cfi_commands.specs.Checks.{AreChecked}
+use Rattle.cfi_commands.specs.CommandLine.{cfi_app}
+use Rattle.cfi_commands.specs.Disks.{Disk}
+use Rattle.cfi_commands.specs.FlameOutputs.{IsSummaryOwed, OfStacks, graph, table}
+use Rattle.cfi_commands.specs.Forms.{format_names}
+use Rattle.cfi_commands.specs.OpenedFiles.{IsOutputOfNamed, no_line}
+use Rattle.cfi_commands.specs.Spelled.{spelled}
 use Rattle.cfi.specs.StackOutputs.{AreProfileStacks, AreThreads}
 use Rattle.cfi.specs.Tasks.{OfRequest, Task, check, flame, of_request, print, report, stack, tell}
-use Rattle.cfi.specs.Tasks.{unwind}
-use Rattle.cfi.specs.Trees.{Tree}
-use Rattle.cfi.specs.Words.{asked}
+use Rattle.cfi.specs.Tasks.{task_asked, unwind}
+use Rattle.cfi_commands.specs.Trees.{Tree}
 
 -- ---- a task
 
@@ -79,7 +78,7 @@ IsWordsOutput disk tree words (Some task) printed =
 abbrev pub IsRunOutput : Disk → Tree → Option (List Text) → Line → Type 0
 IsRunOutput disk tree None printed = printed ≡ no_line
 IsRunOutput disk tree (Some words) printed =
-    IsWordsOutput disk tree (spelled words) (asked (spelled words)) printed
+    IsWordsOutput disk tree (spelled words) (task_asked (spelled words)) printed
 
 -- ---- what was written
 

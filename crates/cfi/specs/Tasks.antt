@@ -1,10 +1,14 @@
 -- What a command is to do, by the values of its options and arguments.
 --     Task, task_view task      a task with the bytes of its words, and that of the code
 --     printing, checking, unwinding, stacks_of_threads, drawing      the tasks of commands
-use Rattle.std.specs.Prelude.{ℕ, Bool, false, List, [], ◌∷◌, Option, Some, None, codes, map}
-use Rattle.std.specs.Prelude.{option_map, unwrap_or}
+--     tasks, task_among tasks name values      the task of the command of this name, if any
+--     task_asked words      what the words ask for, if anything
+--     task_by_matches matched      what a command that clap matched is to do
+use Rattle.std.specs.Prelude.{ℕ, Bool, false, List, [], ◌∷◌, Option, Some, None, codes, find, map}
+use Rattle.std.specs.Prelude.{option_and_then, option_map, unwrap_or}
 use Rattle.std.specs.Option.{option_map_or}
-use Rattle.clap.specs.Words.{Text}
+use Rattle.std.specs.Str.{bytes_eq}
+use Rattle.clap.specs.Words.{Row, Text}
 use Rattle.cfi_flame.specs.Flames.{Drawing, drawing_view}
 use Rattle.cfi_files.specs.declared.request.Printed.{Printed}
 use Rattle.cfi_files.specs.declared.request.Printed.TheVariants as printing_of_code
@@ -13,21 +17,24 @@ use Rattle.cfi_programs.specs.declared.style.Format.{Format}
 use Rattle.cfi_programs.specs.declared.style.Format.TheVariants as form
 use Rattle.cfi_stacks.specs.Choices.{Choice, choice_view}
 use Rattle.cfi_stacks.specs.declared.listing.Listing.{Listing}
-use Rattle.cfi_stacks.specs.declared.listing.Listing.TheVariants.{Frames, Json}
+use Rattle.cfi_stacks.specs.declared.listing.Listing.TheVariants.{Folded, Frames, Json}
 use Rattle.cfi_core_stacks.specs.declared.listing.ThreadListing.{ThreadListing}
-use Rattle.cfi.specs.declared.checks.CheckStyle.{CheckStyle}
-use Rattle.cfi.specs.declared.task.Mistake.{Mistake as MistakeOfCode}
-use Rattle.cfi.specs.declared.task.Mistake.TheVariants.{NoFiles, NoTimes, NoWidth, TwoNamings}
-use Rattle.cfi.specs.declared.task.Names.{Names as NamesOfCode}
-use Rattle.cfi.specs.declared.task.Names.TheVariants as names_of_code
+use Rattle.cfi_commands.specs.declared.checks.CheckStyle.{CheckStyle}
+use Rattle.cfi_commands.specs.declared.times.Times.{Times}
+use Rattle.cfi_commands.specs.declared.words.Mistake.{Mistake as MistakeOfCode}
+use Rattle.cfi_commands.specs.declared.words.Mistake.TheVariants.{NoFiles, NoTimes, NoWidth}
+use Rattle.cfi_commands.specs.declared.words.Mistake.TheVariants.{TwoNamings}
+use Rattle.cfi_commands.specs.CommandLine.{command_by_matches}
+use Rattle.cfi_commands.specs.Folders.{Folders, folders_view}
+use Rattle.cfi_commands.specs.Forms.{Command}
+use Rattle.cfi_commands.specs.Targets.{Names, names_view, of_files, of_list}
+use Rattle.cfi_commands.specs.Times.{any_time, time_of, times_of}
+use Rattle.cfi_commands.specs.Values.{Values, file_in, folders_in, format_in, is_asked, u64_at}
+use Rattle.cfi_commands.specs.Values.{value_for}
+use Rattle.cfi_commands.specs.Words.{asked}
 use Rattle.cfi.specs.declared.task.Task.{Task as TaskOfCode}
 use Rattle.cfi.specs.declared.task.Task.TheVariants.{Print, Check, Unwind, Stack, Flame}
 use Rattle.cfi.specs.declared.task.Task.TheVariants.{Report, Tell}
-use Rattle.cfi.specs.declared.times.Times.{Times}
-use Rattle.cfi.specs.Folders.{Folders, folders_view}
-use Rattle.cfi.specs.Times.{any_time, time_of, times_of}
-use Rattle.cfi.specs.Values.{Values, choice_in, file_in, folders_in, format_in, is_asked, u64_at}
-use Rattle.cfi.specs.Values.{value_for}
 
 -- what is printed of a file, with the bytes of the words, in a format where there is a choice
 pub data OfFile : Type 0 where
@@ -54,15 +61,6 @@ abbrev pub of_request : Request → OfRequest
 of_request request = asking request.raw (of_file request.printed)
 
 -- ---- a task
-
--- the files that a check is of: those that are named, or those of a list
-pub data Names : Type 0 where
-  of_files : List Text → Names
-  of_list : Text → Names
-
-abbrev pub names_view : NamesOfCode → Names
-names_view (names_of_code.Files names) = of_files (map (λ name. name.now) names.now)
-names_view (names_of_code.List name) = of_list name.now
 
 -- no files are named, or they are named twice; or a text isn't two times, or isn't a width
 pub data Mistake : Type 0 where
@@ -127,6 +125,18 @@ abbrev pub listing_for : Bool → Format → Listing
 listing_for raw form.Text = Frames raw
 listing_for raw form.Json = Json raw
 
+-- which samples of a profile, between two times
+abbrev pub choice_in : Values → Times → Choice
+choice_in values times = record {
+  comm = value_for values (codes "comm");
+  pid = u64_at values (codes "pid");
+  tid = u64_at values (codes "tid");
+  from = times.from;
+  until = times.until;
+  event = value_for values (codes "event");
+  limit = u64_at values (codes "limit");
+}
+
 abbrev pub unwinding_at : Listing → Values → Times → Task
 unwinding_at listing values times =
     unwind listing (choice_in values times) (folders_in values) (file_in values)
@@ -165,3 +175,48 @@ drawing values =
     option_map_or
     (λ text. option_map_or (drawing_from values) (time_of text) (tell (no_width text)))
     (value_for values (codes "min-width")) (drawing_from values 0)
+
+-- ---- the commands by their names
+
+pub record CommandTask : Type 0 where
+  pub name : Text
+  pub task : Values → Task
+
+abbrev pub command_task : Text → (Values → Task) → CommandTask
+command_task name task = record { name = name; task = task }
+
+-- those that print stacks, or a graph or the functions of them
+abbrev pub tasks_of_stacks : List CommandTask
+tasks_of_stacks =
+    command_task (codes "unwind")
+    (λ values. unwinding (listing_for (is_asked values (codes "raw")) (format_in values)) values)
+    ∷ command_task (codes "stack") stacks_of_threads
+    ∷ command_task (codes "flame") drawing
+    ∷ command_task (codes "report") (λ values. report (format_in values) (file_in values))
+    ∷ command_task (codes "fold")
+    (λ values. unwinding (Folded (is_asked values (codes "period"))) values)
+    ∷ []
+
+abbrev pub tasks : List CommandTask
+tasks =
+    command_task (codes "row")
+    (λ values. printing (row_of (format_in values) (values (codes "ADDRESS"))) values)
+    ∷ command_task (codes "rows")
+    (λ values. printing (rows_of (format_in values) (value_for values (codes "ADDRESS"))) values)
+    ∷ command_task (codes "dump") (printing dump_of)
+    ∷ command_task (codes "check") checking
+    ∷ command_task (codes "table") (printing table_of)
+    ∷ tasks_of_stacks
+
+abbrev pub task_among : List CommandTask → Text → Values → Option Task
+task_among tasks name values =
+    option_map (λ c. c.task values) (find (λ c. bytes_eq name c.name) tasks)
+
+abbrev pub task_of : Command → Option Task
+task_of command = task_among tasks command.name command.values
+
+abbrev pub task_asked : List Text → Option Task
+task_asked words = option_and_then task_of (asked words)
+
+abbrev pub task_by_matches : Text × List Row → Option Task
+task_by_matches matched = task_of (command_by_matches matched)

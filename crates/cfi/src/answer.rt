@@ -2,26 +2,22 @@
 ghost use Rattle.std.specs.Prelude.{map};
 ghost use Rattle.cfi_programs.specs.WriterOutput.{PrintsSome};
 ghost use Rattle.cfi_stacks.specs.Choices.{choice_view};
-ghost use Rattle.cfi.specs.Checks.{AreChecked, AreTalliedChecks};
-ghost use Rattle.cfi.specs.Disks.{disk_of};
-ghost use Rattle.cfi.specs.FlameOutputs.{summary_view};
-ghost use Rattle.cfi.specs.Folders.{folders_view};
+ghost use Rattle.cfi_commands.specs.Checks.{AreChecked, AreTalliedChecks};
+ghost use Rattle.cfi_commands.specs.Disks.{disk_of};
+ghost use Rattle.cfi_commands.specs.FlameOutputs.{summary_view};
+ghost use Rattle.cfi_commands.specs.Folders.{folders_view};
 ghost use Rattle.cfi.specs.Process.{IsPrint, IsSummary, IsTaskOutput};
 ghost use Rattle.cfi.specs.StackOutputs.{AreProfileStacks, AreThreads};
-ghost use Rattle.cfi.specs.Targets.{target_view};
-ghost use Rattle.cfi.specs.Tasks.{names_view, of_request, task_view};
-ghost use Rattle.cfi.specs.Trees.{tree_of};
+ghost use Rattle.cfi_commands.specs.Targets.{names_view, target_view};
+ghost use Rattle.cfi.specs.Tasks.{of_request, task_view};
+ghost use Rattle.cfi_commands.specs.Trees.{tree_of};
 
-use crate::checks::{CheckStyle, check_files, greatest_status};
-use crate::files::open_named;
-use crate::flames::{Summary, print_folded};
-use crate::folders::Folders;
-use crate::profile::ProfileOpener;
-use crate::profile_file::open_profile;
-use crate::system::System;
-use crate::tally::{count_findings, write_tally};
-use crate::targets::{Target, targets_of};
-use crate::task::{Names, Task};
+use crate::task::Task;
+use cfi_commands::{
+    CheckStyle, Folders, Names, ProfileOpener, Summary, System, Target, check_files,
+    count_findings, greatest_status, open_named, open_profile, print_folded, targets_of,
+    write_tally,
+};
 use cfi_core_stacks::{ThreadListing, print_core};
 use cfi_files::{Request, run_on_file};
 use cfi_stacks::{Choice, Listing, list_profile};

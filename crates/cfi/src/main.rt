@@ -5,43 +5,24 @@
 ghost use Rattle.std.specs.Prelude.{ℕ, List, Option, Some, map, option_and_then};
 ghost use Rattle.std.specs.Io.KnownBytes.{Keeps};
 ghost use Rattle.clap.specs.Words.{kind_of, subcommand_rows_of};
-ghost use Rattle.cfi.specs.CommandLine.{task_by_matches};
-ghost use Rattle.cfi.specs.Disks.{disk_of};
+ghost use Rattle.cfi_commands.specs.Disks.{disk_of};
+ghost use Rattle.cfi_commands.specs.Trees.{tree_of};
 ghost use Rattle.cfi.specs.Process.{IsStatusAfter, IsStatusOf, PrintsForTask, PrintsForWords};
-ghost use Rattle.cfi.specs.Trees.{tree_of};
+ghost use Rattle.cfi.specs.Tasks.{task_by_matches};
 
 mod answer;
-mod arguments;
-mod checks;
-mod command_line;
-mod files;
-mod flames;
-mod folders;
-mod function_objects;
-mod host;
-mod host_file;
-mod options;
-mod profile;
-mod profile_file;
-mod spelled;
-mod system;
-mod tally;
-mod targets;
 mod task;
-mod times;
 mod values;
 
 use answer::{WRONG, print_answer};
+use cfi_commands::spelled::spelled;
+use cfi_commands::{Host, System, matches_of};
 use clap::{ArgMatches, Error};
-use command_line::matches_of;
-use host::Host;
-use spelled::spelled;
 use std::alloc::AllocGlobal;
 use std::convert::AsStr;
 use std::io;
 use std::io::{BufWriter, IsTerminal, Write};
 use std::process::ExitCode;
-use system::System;
 use task::task_in;
 
 /// How many bytes of the output are held back before they are written.

@@ -1,48 +1,23 @@
 //! What a command is to do, by the values of its options and arguments.
 ghost use Rattle.std.specs.Prelude.{◌≡◌, map, option_and_then, option_map};
 ghost use Rattle.clap.specs.Words.{found_of, rows_of, subcommand_rows_of};
-ghost use Rattle.cfi.specs.CommandLine.{task_by_matches, values_in};
-ghost use Rattle.cfi.specs.Forms.{forms, forms_of_stacks, task_among};
+ghost use Rattle.cfi_commands.specs.CommandLine.{values_in};
+ghost use Rattle.cfi_commands.specs.Values.{text_view};
 ghost use Rattle.cfi.specs.Tasks.{checking, checking_by, drawing, drawing_from, listing_for};
-ghost use Rattle.cfi.specs.Tasks.{of_file, printing, stacks_of_threads, task_view, unwinding};
+ghost use Rattle.cfi.specs.Tasks.{of_file, printing, stacks_of_threads, task_among};
+ghost use Rattle.cfi.specs.Tasks.{task_by_matches, task_view, tasks, tasks_of_stacks, unwinding};
 ghost use Rattle.cfi.specs.Tasks.{unwinding_at};
-ghost use Rattle.cfi.specs.Values.{text_view};
 
-use crate::checks::CheckStyle;
-use crate::folders::Folders;
-use crate::times::{ANY_TIME, Times, time_of, times_of};
 use crate::values::{
     choice_in, file_in, folders_in, format_in, is_asked, u64_at, value_for, values_at,
 };
+use cfi_commands::{ANY_TIME, CheckStyle, Folders, Mistake, Names, Times, time_of, times_of};
 use cfi_core_stacks::ThreadListing;
 use cfi_files::{Printed, Request};
 use cfi_flame::Drawing;
 use cfi_programs::style::Format;
 use cfi_stacks::{Choice, Listing};
 use clap::ArgMatches;
-
-/// The files that a check is of.
-#[derive(Clone, Copy)]
-pub enum Names<'c> {
-    /// These.
-    Files(&'c [&'c str]),
-    /// Those that the list at this path names, each name ended by a zero byte; `-` is standard
-    /// input.
-    List(&'c str),
-}
-
-/// What is wrong with words that clap takes.
-#[derive(Clone, Copy)]
-pub enum Mistake<'c> {
-    /// No file to check is named.
-    NoFiles,
-    /// Files to check are named, and a list of such.
-    TwoNamings,
-    /// This text isn't two times.
-    NoTimes(&'c str),
-    /// This text isn't a width.
-    NoWidth(&'c str),
-}
 
 /// What a command is to do. A file `-` is standard input.
 #[derive(Clone, Copy)]
@@ -77,7 +52,7 @@ pub fn task_in<'c>(matches: &'c ArgMatches<'_>) -> Option<Task<'c>>
 /// Returns what the command of this name is to do; `None` where there is none.
 fn task_named<'c>(name: &str, arguments: &'c ArgMatches<'_>) -> Option<Task<'c>>
     ensures { option_map task_view result
-        ≡ task_among forms name.now (values_in (rows_of (found_of arguments.now))) }
+        ≡ task_among tasks name.now (values_in (rows_of (found_of arguments.now))) }
 {
     if name == "row" {
         let addresses = values_at(arguments, "ADDRESS");
@@ -100,7 +75,7 @@ fn task_named<'c>(name: &str, arguments: &'c ArgMatches<'_>) -> Option<Task<'c>>
 /// the functions of them.
 fn task_of_stacks<'c>(name: &str, arguments: &'c ArgMatches<'_>) -> Option<Task<'c>>
     ensures { option_map task_view result
-        ≡ task_among forms_of_stacks name.now (values_in (rows_of (found_of arguments.now))) }
+        ≡ task_among tasks_of_stacks name.now (values_in (rows_of (found_of arguments.now))) }
 {
     if name == "unwind" {
         let listing = listing_for(is_asked(arguments, "raw"), format_in(arguments));

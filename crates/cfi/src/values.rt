@@ -2,13 +2,13 @@
 ghost use Rattle.std.specs.Prelude.{◌≡◌, map};
 ghost use Rattle.clap.specs.Words.{found_of, rows_of};
 ghost use Rattle.cfi_stacks.specs.Choices.{choice_view};
-ghost use Rattle.cfi.specs.CommandLine.{values_in};
-ghost use Rattle.cfi.specs.Folders.{folders_view};
-ghost use Rattle.cfi.specs.Values.{choice_in, file_in, folders_in, format_in, has_value, is_asked};
-ghost use Rattle.cfi.specs.Values.{text_view, u64_at, value_for};
+ghost use Rattle.cfi_commands.specs.CommandLine.{values_in};
+ghost use Rattle.cfi_commands.specs.Folders.{folders_view};
+ghost use Rattle.cfi_commands.specs.Values.{file_in, folders_in, format_in, has_value, is_asked};
+ghost use Rattle.cfi_commands.specs.Values.{text_view, u64_at, value_for};
+ghost use Rattle.cfi.specs.Tasks.{choice_in};
 
-use crate::folders::Folders;
-use crate::times::Times;
+use cfi_commands::{Folders, Times};
 use cfi_programs::style::Format;
 use cfi_stacks::Choice;
 use clap::ArgMatches;

@@ -1,10 +1,9 @@
 use Rattle.std.proofs.Common.{◌∙◌, ap, option_map, sym}
 use Rattle.std.specs.Prelude.{option_and_then}
 use Rattle.clap.specs.Words.{subcommand_rows_of}
-use Rattle.cfi.specs.CommandLine.{task_by_matches}
-use Rattle.cfi.specs.Disks.{disk_of}
-use Rattle.cfi.specs.Tasks.{task_view}
-use Rattle.cfi.specs.Trees.{tree_of}
+use Rattle.cfi_commands.specs.Disks.{disk_of}
+use Rattle.cfi.specs.Tasks.{task_by_matches, task_view}
+use Rattle.cfi_commands.specs.Trees.{tree_of}
 use Rattle.cfi.proofs.ProcessLemmas.{nothing_asked, ran}
 use Rattle.cfi.proofs.run_matched.Goals as goal
 

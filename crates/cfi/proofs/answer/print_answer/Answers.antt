@@ -1,9 +1,9 @@
 use Rattle.std.proofs.Common.{ℕ, ap, sym}
 use Rattle.cfi_stacks.specs.Choices.{choice_view}
-use Rattle.cfi.specs.Disks.{disk_of}
-use Rattle.cfi.specs.Folders.{folders_view}
+use Rattle.cfi_commands.specs.Disks.{disk_of}
+use Rattle.cfi_commands.specs.Folders.{folders_view}
 use Rattle.cfi.specs.Tasks.{mistake_view, stack, task_view, unwind}
-use Rattle.cfi.specs.Trees.{tree_of}
+use Rattle.cfi_commands.specs.Trees.{tree_of}
 use Rattle.cfi.proofs.ProcessLemmas.{for_task, told}
 use Rattle.cfi.proofs.answer.print_answer.Goals as goal
 

@@ -1,9 +1,8 @@
 use Rattle.std.proofs.Common.{ℕ, map}
-use Rattle.cfi.specs.Disks.{disk_of}
-use Rattle.cfi.specs.Targets.{target_view}
-use Rattle.cfi.specs.Tasks.{names_view}
-use Rattle.cfi.specs.Trees.{tree_of}
-use Rattle.cfi.proofs.CheckLemmas.{checks_of, no_targets}
+use Rattle.cfi_commands.specs.Disks.{disk_of}
+use Rattle.cfi_commands.specs.Targets.{names_view, target_view}
+use Rattle.cfi_commands.specs.Trees.{tree_of}
+use Rattle.cfi_commands.proofs.CheckLemmas.{checks_of, no_targets}
 use Rattle.cfi.proofs.answer.print_checks.Goals as goal
 
 pub returns-in-Some : goal.returns-in-Some

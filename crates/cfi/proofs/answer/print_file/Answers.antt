@@ -1,5 +1,5 @@
 use Rattle.std.proofs.Common.{Some, ℕ, refl}
-use Rattle.cfi.specs.Disks.{MayOpenNamed, disk_of}
+use Rattle.cfi_commands.specs.Disks.{MayOpenNamed, disk_of}
 use Rattle.cfi.specs.Process.{IsRequestOwed}
 use Rattle.cfi.specs.Tasks.{of_request}
 use Rattle.cfi.proofs.ProcessLemmas.{no_output}

@@ -3,10 +3,11 @@ use Rattle.cfi_object.specs.FileInputs.{AreLeft}
 use Rattle.cfi_programs.specs.Lines.{Line}
 use Rattle.cfi_stacks.specs.Choices.{choice_view}
 use Rattle.cfi_stacks.specs.ProfileOutputs.{IsListingOwed}
-use Rattle.cfi.specs.Disks.{Disk, disk_of}
-use Rattle.cfi.specs.Folders.{folders_view}
-use Rattle.cfi.specs.StackOutputs.{AreProfileStacks, MayOpenAt, MayOpenProfile}
-use Rattle.cfi.specs.Trees.{tree_of}
+use Rattle.cfi_commands.specs.Disks.{Disk, disk_of}
+use Rattle.cfi_commands.specs.Folders.{folders_view}
+use Rattle.cfi_commands.specs.ProfileFiles.{MayOpenAt, MayOpenProfile}
+use Rattle.cfi.specs.StackOutputs.{AreProfileStacks}
+use Rattle.cfi_commands.specs.Trees.{tree_of}
 use Rattle.cfi.proofs.ProcessLemmas.{no_output, output_of, same_output}
 use Rattle.cfi.proofs.answer.print_stacks.Goals as goal
 

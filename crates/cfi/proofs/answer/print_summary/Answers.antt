@@ -1,7 +1,7 @@
 use Rattle.std.proofs.Common.{ℕ}
 use Rattle.cfi_programs.specs.Lines.{Line}
-use Rattle.cfi.specs.Disks.{Disk, MayOpenNamed, disk_of}
-use Rattle.cfi.specs.FlameOutputs.{IsSummaryOwed, summary_view}
+use Rattle.cfi_commands.specs.Disks.{Disk, MayOpenNamed, disk_of}
+use Rattle.cfi_commands.specs.FlameOutputs.{IsSummaryOwed, summary_view}
 use Rattle.cfi.specs.Process.{IsSummary}
 use Rattle.cfi.proofs.ProcessLemmas.{no_output, output_of, same_output}
 use Rattle.cfi.proofs.answer.print_summary.Goals as goal

@@ -2,9 +2,10 @@ use Rattle.std.proofs.Common.{ℕ, List, Option, subst, sym}
 use Rattle.cfi_object.specs.FileInputs.{AreLeft}
 use Rattle.cfi_programs.specs.Lines.{Line}
 use Rattle.cfi_core_stacks.specs.CoreOutputs.{IsCoreOwed}
-use Rattle.cfi.specs.Disks.{Disk, MayOpenNamed, disk_of}
-use Rattle.cfi.specs.Folders.{folders_view}
-use Rattle.cfi.specs.StackOutputs.{AreThreads, MayOpenAt}
+use Rattle.cfi_commands.specs.Disks.{Disk, MayOpenNamed, disk_of}
+use Rattle.cfi_commands.specs.Folders.{folders_view}
+use Rattle.cfi_commands.specs.ProfileFiles.{MayOpenAt}
+use Rattle.cfi.specs.StackOutputs.{AreThreads}
 use Rattle.cfi.proofs.ProcessLemmas.{no_output, output_of, same_output}
 use Rattle.cfi.proofs.answer.print_threads.Goals as goal
 

@@ -1,7 +1,7 @@
 use Rattle.std.proofs.Common.{◌∙◌, codes, rules}
 use Rattle.clap.specs.Words.{found_of, rows_of}
 use Rattle.clap.proofs.WalkLemmas.{first_value-rows}
-use Rattle.cfi.proofs.ClapLemmas.{first_of_values, text_or_empty}
+use Rattle.cfi.proofs.GetterLemmas.{first_of_values, text_or_empty}
 use Rattle.cfi.proofs.values.file_in.Goals as goal
 
 pub returns : goal.returns

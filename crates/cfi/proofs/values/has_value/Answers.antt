@@ -2,7 +2,7 @@ use Rattle.std.proofs.Common.{◌≡◌, ◌∙◌, rules}
 use Rattle.std.specs.Str.{bytes_eq}
 use Rattle.clap.specs.Words.{found_of, rows_of}
 use Rattle.clap.proofs.WalkLemmas.{first_value-rows}
-use Rattle.cfi.proofs.ClapLemmas.{first_of_values, no_value, value_tests}
+use Rattle.cfi.proofs.GetterLemmas.{first_of_values, no_value, value_tests}
 use Rattle.cfi.proofs.values.has_value.Goals as goal
 
 pub returns-in-Some : goal.returns-in-Some

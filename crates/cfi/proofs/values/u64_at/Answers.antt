@@ -1,7 +1,7 @@
 use Rattle.std.proofs.Common.{◌∙◌, ap, sym}
 use Rattle.std.specs.Option.{option_and_then}
-use Rattle.cfi.specs.Values.{text_view, u64_of}
-use Rattle.cfi.proofs.NumberLemmas.{number_read}
+use Rattle.cfi_commands.specs.Values.{text_view, u64_of}
+use Rattle.cfi_commands.proofs.NumberLemmas.{number_read}
 use Rattle.cfi.proofs.values.u64_at.Goals as goal
 
 pub returns-in-Some : goal.returns-in-Some

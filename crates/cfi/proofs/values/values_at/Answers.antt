@@ -1,7 +1,7 @@
 use Rattle.std.proofs.Common.{◌∙◌, rules}
 use Rattle.clap.specs.Words.{found_of}
 use Rattle.clap.proofs.WalkLemmas.{raw_values-rows}
-use Rattle.cfi.proofs.ClapLemmas.{values_or_none}
+use Rattle.cfi.proofs.GetterLemmas.{values_or_none}
 use Rattle.cfi.proofs.values.values_at.Goals as goal
 
 pub returns : goal.returns

@@ -1,0 +1,47 @@
+//! What the program `cfi` has without stacks.
+//!
+//! Its words: `arguments` has those of the process, `spelled` puts flags of one letter by their
+//! names, `command_line` tells clap of the commands and returns its matches, with the arguments of
+//! `options`; `words` has what they say of files and what is wrong with them, `times` reads times.
+//!
+//! What it has of the system (`system`), and that of a runtime (`host`), with its open files
+//! (`host_file`): `files` opens those that are named, `profile_file` a profile, and `profile` those
+//! that a profile or a core file names, at the paths of `folders`.
+//!
+//! What it prints: `checks` checks the files that `targets` finds, and `tally` counts what was
+//! found; `flames` prints the flame graph or the report of folded stacks, as objects of JSON by
+//! `function_objects`.
+#![tactic(auto)]
+
+mod arguments;
+pub mod checks;
+mod command_line;
+mod files;
+pub mod flames;
+pub mod folders;
+mod function_objects;
+mod host;
+mod host_file;
+mod options;
+pub mod profile;
+mod profile_file;
+pub mod spelled;
+pub mod system;
+pub mod tally;
+pub mod targets;
+pub mod times;
+pub mod words;
+
+pub use checks::{CheckStyle, check_files, greatest_status};
+pub use command_line::matches_of;
+pub use files::open_named;
+pub use flames::{Summary, print_folded};
+pub use folders::Folders;
+pub use host::Host;
+pub use profile::ProfileOpener;
+pub use profile_file::open_profile;
+pub use system::System;
+pub use tally::{count_findings, write_tally};
+pub use targets::{Target, targets_of};
+pub use times::{ANY_TIME, Times, time_of, times_of};
+pub use words::{Mistake, Names};
