@@ -81,10 +81,14 @@ def changed(random_, data, parts):
 
 
 def output_of(words, seconds=20):
-    """Status, output and errors; the status is None where it doesn't end."""
+    """Status, output and errors; the status is negative where it takes more processor time, and None where it waits for long."""
     environment = {**os.environ, "LC_ALL": "C", "ASAN_OPTIONS": "exitcode=99:detect_leaks=0"}
+
+    def limit():
+        resource.setrlimit(resource.RLIMIT_CPU, (seconds, seconds))
+
     try:
-        ran = subprocess.run(words, capture_output=True, timeout=seconds, env=environment, stdin=subprocess.DEVNULL)
+        ran = subprocess.run(words, capture_output=True, timeout=100 * seconds, env=environment, stdin=subprocess.DEVNULL, preexec_fn=limit)
     except subprocess.TimeoutExpired:
         return None, "", ""
     return ran.returncode, ran.stdout.decode("latin-1"), ran.stderr.decode("latin-1")
@@ -163,7 +167,9 @@ def rows_of_readelf(text):
 
 # the name, the kind, the address, the offset, the size and the flags of a section
 SECTION = re.compile(r"^  \[ *(\d+)\] (.*?) +([A-Z]\S*|[0-9a-f]+: <unknown>) +([0-9a-f]{8,16}) ([0-9a-f]+) ([0-9a-f]+) [0-9a-f]+ ([A-Za-z ]{0,8})")
-SYMBOL = re.compile(r"^ +\d+: ([0-9a-f]+) +\S+ ([A-Z]+|<[^>]*>: \S+) +.* +(\d+|[A-Z]{2,3} *(?:\[\w+\])?|bad section index\[\d+\]) (\S+)$")
+# the value, the type, the section and the name of a symbol; names may have spaces
+SYMBOL = re.compile(r"^ +\d+: ([0-9a-f]+) +\S+ ([A-Z]+|<[^>]*>: \S+) +(?:[A-Z]+|<[^>]*>: \S+) +[A-Z]+ +(?:<other>: \w+ +)?"
+                    r"(\d+|[A-Z]{2,3}(?: *\[\w+\])?|bad section index\[ *\d+\]) (.*)$")
 SIMPLE = re.compile(r"[A-Za-z_.][\w.$]*", re.ASCII)
 Section = collections.namedtuple("Section", "name kind address offset size flags")
 
@@ -337,7 +343,9 @@ def fde_rule(run, mine, other, is_object):
     if length != other_length:
         is_signed = (length - other_length) % 0x10000 == 0
         rules.append((is_signed, "the number of addresses is signed by its encoding, and readelf reads it without a sign"))
-    if rows != other_rows:
+    if rows != other_rows and in_32_bits(rows) == other_rows:
+        rules.append((True, "readelf prints offsets as numbers of 32 bits"))
+    elif rows != other_rows:
         rules.append((has_lost_expression(other, rows, other_rows), "readelf loses a CFA of the CIE that is an expression"))
     return "; ".join(rule for _, rule in rules) if all(is_so for is_so, _ in rules) else None
 
@@ -346,6 +354,15 @@ def is_moved(run, mine, other):
     """Whether the FDEs differ by the address of the text or the data."""
     bases = {section.address for section in sections_of(run.readelf("-S")[0]).values() if section.name in (".text", ".got", ".got.plt")}
     return (mine.start - other.start) % (1 << 64) in bases
+
+
+def in_32_bits(rows):
+    """The same with offsets as readelf prints them: their last 32 bits, with a sign."""
+
+    def narrow(rule):
+        return re.sub(r"[+-]\d+$", lambda found: f"{(int(found[0]) + (1 << 31)) % (1 << 32) - (1 << 31):+}", rule)
+
+    return [(start, narrow(cfa), {register: narrow(rule) for register, rule in rules.items()}) for start, cfa, rules in rows]
 
 
 def has_lost_expression(other, rows, other_rows):
@@ -408,6 +425,8 @@ def name_rule(data, text, name, ours, theirs, complaint):
     if not ours and all(section.kind == "NULL" for section in sections if section.name == name):
         return "names: a section of type SHT_NULL has no name"
     tables = [data[section.offset : section.offset + section.size] for section in sections if section.kind == "STRTAB"]
+    if set(ours) <= set(theirs) and any(table.split(b"\0")[0] == name.encode() for table in tables):
+        return "names: index 0 is no name, and readelf prints what its table begins with"
     if any(table.endswith(name.encode()) for table in tables):
         return "names: a name goes on to the end of its table, without a zero"
     if is_overlapped(sections):

@@ -1,396 +1,184 @@
-//! Entries one by one: the entries of a section, whole CIEs and FDEs, and the errors with their
-//! values.
-ghost use Rattle.std.specs.Prelude.{IfOk};
-ghost use Rattle.cfi_unwind.specs.FdeViews.{IsFdeOf};
-
+//! Each call on sections, entries and instructions once, where it succeeds. The reads themselves
+//! are worked out in `gimli_cfi/proofs/WorkedEntries` and `cfi_parts/proofs/Vectors`, and many more
+//! sections are test vectors of `cfi_tests_programs`.
+use crate::comparison::expect;
 use crate::readers::{OfBytes, Slice};
+use cfi_parts::instruction::CallFrameInstruction;
 use cfi_parts::pointer::{BaseAddresses, Pointer};
-use cfi_read_core::{
-    DebugFrameOffset, DwEhPe, EhFrameOffset, Error, Format, Reader, ReaderOffsetId, Register,
-};
-use cfi_tests_bytes::{bytes_of, joined};
+use cfi_read_core::{DebugFrameOffset, DwEhPe, Error, Format, Reader, Register, Vendor};
 use cfi_unwind::entry::{CommonInformationEntry, FrameDescriptionEntry};
 use cfi_unwind::unwind_section::{DebugFrame, EhFrame, UnwindSection, scan_for_fde};
-use std::process::Abort;
-use std::test::Fail;
 
-/// Some fields of a CIE: its format, length, version, size of addresses, data alignment factor and
-/// return address register.
-pub(crate) type Settings = (Format, usize, u8, u8, i64, Register);
+/// `.eh_frame` at 0x2000: a CIE with the letters `zPLRS`, and at 33 an FDE of it, from 0x1000 on,
+/// with language-specific data at 0x5050.
+const LETTERS: [u8; 58] = [
+    0x1d, 0, 0, 0, 0, 0, 0, 0, 1, 0x7a, 0x50, 0x4c, 0x52, 0x53, 0, 1, 0x78, 0x10, 0x0b, 0, 0x30,
+    0x40, 0, 0, 0, 0, 0, 0, 0, 0x1b, 0x0c, 7, 8, 0x15, 0, 0, 0, 0x25, 0, 0, 0, 0xd7, 0xef, 0xff,
+    0xff, 0x10, 0, 0, 0, 8, 0x50, 0x50, 0, 0, 0, 0, 0, 0,
+];
 
-pub(crate) fn settings_of<R: Reader<Offset = usize>>(cie: &CommonInformationEntry<R>) -> Settings {
+/// The format of a CIE, its length, version, size of addresses, factors, and return address
+/// register.
+type Settings = (Format, usize, u8, u8, (u64, i64), Register);
+
+fn settings_of<R: Reader<Offset = usize>>(cie: &CommonInformationEntry<R>) -> Settings {
+    let factors = (cie.code_alignment_factor(), cie.data_alignment_factor());
     (
         cie.encoding().format,
         cie.entry_len(),
         cie.version(),
         cie.address_size(),
-        cie.data_alignment_factor(),
+        factors,
         cie.return_address_register(),
     )
 }
 
-/// The error of reading a CIE at an offset.
-fn refusal_at<R: Reader<Offset = usize>>(reader: R, offset: usize) -> Option<Error> {
-    DebugFrame::from(reader)
-        .cie_from_offset(&BaseAddresses::default(), DebugFrameOffset(offset))
-        .err()
+/// Whether a CIE has an augmentation, language-specific data, the mark of a signal trampoline, and
+/// that of the B key.
+type Marks = [bool; 4];
+
+fn marks_of<R: Reader>(cie: &CommonInformationEntry<R>) -> Marks {
+    [
+        cie.augmentation().is_some(),
+        cie.has_lsda(),
+        cie.is_signal_trampoline(),
+        cie.uses_b_key(),
+    ]
 }
 
-/// The FDE at an offset, by the CIE to which it points.
-pub(crate) fn fde_of_debug_frame<R: Reader<Offset = usize>>(
-    section: &DebugFrame<R>,
-    offset: usize,
-) -> Result<FrameDescriptionEntry<R>, Error>
-    ensures { IfOk result (IsFdeOf R.position (R.position section.now.section)) }
-{
-    let bases = BaseAddresses::default();
-    section.fde_from_offset(
-        &bases,
-        DebugFrameOffset(offset),
-        DebugFrame::cie_from_offset,
+/// The encodings of language-specific data and of addresses, and the personality, also with its
+/// encoding.
+type Pointers = (
+    [Option<DwEhPe>; 2],
+    Option<Pointer>,
+    Option<(DwEhPe, Pointer)>,
+);
+
+fn pointers_of<R: Reader>(cie: &CommonInformationEntry<R>) -> Pointers {
+    (
+        [cie.lsda_encoding(), cie.fde_address_encoding()],
+        cie.personality(),
+        cie.personality_with_encoding(),
     )
 }
 
-fn fde_of_eh_frame<R: Reader<Offset = usize>>(
-    reader: R,
-    offset: usize,
-) -> Result<FrameDescriptionEntry<R>, Error> {
-    let bases = BaseAddresses::default().set_eh_frame(0x2000);
-    EhFrame::from(reader).fde_from_offset(&bases, EhFrameOffset(offset), EhFrame::cie_from_offset)
-}
+/// The offset and the length of an FDE, its addresses, whether it contains its end, and its
+/// language-specific data.
+type Range = ((usize, usize), (u64, u64, u64), bool, Option<Pointer>);
 
-/// How many entries there are, and the error after them.
-type Walked = (u32, Option<Error>);
-
-fn walk<R: Reader, S: UnwindSection<R>>(section: &S) -> Walked {
-    let bases = BaseAddresses::default();
-    let mut count = 0u32;
-    for entry in section.entries(&bases) {
-        match entry {
-            Ok(_) => count = count.wrapping_add(1),
-            Err(refusal) => return (count, Some(refusal)),
-        }
-    }
-    (count, None)
-}
-
-/// The entries of the same bytes in `.debug_frame` and in `.eh_frame`.
-fn walk_both<R: Reader>(reader: R) -> (Walked, Walked) {
+fn range_of<R: Reader<Offset = usize>>(fde: &FrameDescriptionEntry<R>) -> Range {
+    let end = fde.end_address();
     (
-        walk(&DebugFrame::from(reader)),
-        walk(&EhFrame::from(reader)),
-    )
-}
-
-/// Sections, and the entries of each in `.debug_frame` and in `.eh_frame`.
-const COUNTED: [(&str, &str, (Walked, Walked)); 4] = [
-    ("no bytes", "", ((0, None), (0, None))),
-    (
-        "a gap first",
-        "00000000 10000000 ffffffff 04000800 0178100c 07089001 14000000 04000000 00100000 00000000 20000000 00000000",
-        ((2, None), (0, None)),
-    ),
-    (
-        "a gap of 64 bits first",
-        "ffffffff 00000000 00000000 10000000 ffffffff 04000800 0178100c 07089001 14000000 0c000000 00100000 00000000 20000000 00000000",
-        ((2, None), (0, None)),
-    ),
-    (
-        "a CIE before the section",
-        "04000000 05000000",
-        ((1, None), (0, Some(Error::OffsetOutOfBounds(5)))),
-    ),
-];
-
-#[test]
-fn how_many_entries_there_are(rt: HostRuntime) -> Result<(), Fail> {
-    for (case, digits, walked) in &COUNTED {
-        let bytes = bytes_of(rt.alloc(), digits)?;
-        assert_eq!(rt; walk_both(Slice::of(bytes.as_slice())), *walked, "{case}");
-    }
-    Ok(())
-}
-
-/// A CIE, and an FDE at 20.
-const THREE_ROWS: &str = "10000000 ffffffff 04000800 017810 0c0708 9001 \
-    1c000000 00000000 0010000000000000 2000000000000000 41 0e10 8602 43 0d06";
-
-/// Sections, offsets, and the errors of reading a CIE there.
-const REFUSALS: [(&str, &str, usize, Error); 8] = [
-    (
-        "a length that is cut",
-        "0500",
-        0,
-        Error::UnexpectedEof(ReaderOffsetId(0)),
-    ),
-    (
-        "a reserved length",
-        "f5ffffff",
-        0,
-        Error::UnknownReservedLength(0xffff_fff5),
-    ),
-    (
-        "a length of 64 bits that is cut",
-        "ffffffff 39300000",
-        0,
-        Error::UnexpectedEof(ReaderOffsetId(4)),
-    ),
-    (
-        "a length past the section",
-        "000000ff ffffffff",
-        0,
-        Error::UnexpectedEof(ReaderOffsetId(4)),
-    ),
-    ("a gap", "00000000", 0, Error::NoEntryAtGivenOffset(0)),
-    ("an FDE", THREE_ROWS, 20, Error::NotCieId(20)),
-    (
-        "the end of the section",
-        THREE_ROWS,
-        52,
-        Error::UnexpectedEof(ReaderOffsetId(52)),
-    ),
-    (
-        "after the section",
-        THREE_ROWS,
-        53,
-        Error::UnexpectedEof(ReaderOffsetId(0)),
-    ),
-];
-
-#[test]
-fn entries_that_are_no_cie(rt: HostRuntime) -> Result<(), Fail> {
-    for (case, digits, offset, refusal) in &REFUSALS {
-        let bytes = bytes_of(rt.alloc(), digits)?;
-        let found = refusal_at(Slice::of(bytes.as_slice()), *offset);
-        assert_eq!(rt; found, Some(*refusal), "{case}");
-    }
-    Ok(())
-}
-
-/// The first address of an FDE and its end, how many addresses it has, and whether it contains
-/// 0xfffffff8 and 8.
-pub(crate) type Range = (u64, u64, u64, bool, bool);
-
-/// The range of the FDE at an offset.
-pub(crate) fn range_of<R: Reader<Offset = usize>>(
-    section: &DebugFrame<R>,
-    offset: usize,
-) -> Result<Range, Error> {
-    let fde = fde_of_debug_frame(section, offset)?;
-    Ok((
-        fde.initial_address(),
-        fde.end_address(),
-        fde.len(),
-        fde.contains(0xffff_fff8),
-        fde.contains(0x8),
-    ))
-}
-
-/// The range of the FDE after a CIE of 20 bytes.
-fn range_at_20<R: Reader<Offset = usize>>(reader: R) -> Result<Range, Error> {
-    range_of(&DebugFrame::from(reader), 20)
-}
-
-/// A CIE of addresses of four bytes, and an FDE.
-const WRAPS: [u8; 36] = [
-    0x10, 0, 0, 0, 0xff, 0xff, 0xff, 0xff, 4, 0, 4, 0, 1, 0x78, 0x10, 0x0c, 7, 8, 0x90, 1, 0x0c, 0,
-    0, 0, 0, 0, 0, 0, 0xf0, 0xff, 0xff, 0xff, 0x20, 0, 0, 0,
-];
-
-/// The offset and the format of the FDE for 0x1000.
-fn format_of_0x1000<R: Reader<Offset = usize>>(reader: R) -> Result<(usize, Format), Error> {
-    let fde = scan_for_fde(&DebugFrame::from(reader), &BaseAddresses::default(), 0x1000)?;
-    Ok((fde.offset(), fde.cie().encoding().format))
-}
-
-/// A CIE and an FDE of the 64-bit format.
-const WIDE: [u8; 68] = [
-    0xff, 0xff, 0xff, 0xff, 0x14, 0, 0, 0, 0, 0, 0, 0, 0xff, 0xff, 0xff, 0xff, 0xff, 0xff, 0xff,
-    0xff, 4, 0, 8, 0, 1, 0x78, 0x10, 0x0c, 7, 8, 0x90, 1, 0xff, 0xff, 0xff, 0xff, 0x18, 0, 0, 0, 0,
-    0, 0, 0, 0, 0, 0, 0, 0, 0, 0, 0, 0, 0x10, 0, 0, 0, 0, 0, 0, 0x20, 0, 0, 0, 0, 0, 0, 0,
-];
-
-/// An end that wraps, and 64 bits.
-fn check_ranges<'a, R: Reader<Offset = usize> + OfBytes<'a>>(rt: &impl Abort) {
-    let found = (range_at_20(R::of(&WRAPS)), format_of_0x1000(R::of(&WIDE)));
-    let wraps = (0xffff_fff0, 0x10, 0x20, false, false);
-    assert_eq!(rt; found, (Ok(wraps), Ok((32, Format::Dwarf64))));
-}
-
-#[test]
-fn ranges(rt: HostRuntime) {
-    check_ranges::<Slice<'_>>(&rt);
-}
-
-/// The addresses of an FDE, its pointer to language-specific data, and the encoding of such
-/// pointers.
-type WithData = (u64, u64, Option<Pointer>, Option<DwEhPe>);
-
-/// The FDE at an offset.
-fn with_data<R: Reader<Offset = usize>>(reader: R, offset: usize) -> Result<WithData, Error> {
-    let fde = fde_of_eh_frame(reader, offset)?;
-    Ok((
-        fde.initial_address(),
-        fde.end_address(),
+        (fde.offset(), fde.entry_len()),
+        (fde.initial_address(), end, fde.len()),
+        fde.contains(end),
         fde.lsda(),
-        fde.cie().lsda_encoding(),
+    )
+}
+
+/// The CIE and the FDE.
+type OfLetters = (Settings, Marks, Pointers, Range);
+
+fn of_letters<R: Reader<Offset = usize>>(reader: R) -> Result<OfLetters, Error> {
+    let bases = BaseAddresses::default().set_eh_frame(0x2000);
+    let fde = scan_for_fde(&EhFrame::from(reader), &bases, 0x1000)?;
+    let cie = fde.cie();
+    Ok((
+        settings_of(cie),
+        marks_of(cie),
+        pointers_of(cie),
+        range_of(&fde),
     ))
 }
 
-const ENCODING: Option<DwEhPe> = Some(DwEhPe(0x43));
+const OF_LETTERS: Result<OfLetters, Error> = Ok((
+    (Format::Dwarf32, 29, 1, 8, (1, -8), Register(16)),
+    [true, true, true, false],
+    (
+        [Some(DwEhPe(0)), Some(DwEhPe(0x1b))],
+        Some(Pointer::Direct(0x4030)),
+        Some((DwEhPe(0), Pointer::Direct(0x4030))),
+    ),
+    (
+        (33, 21),
+        (0x1000, 0x1010, 0x10),
+        false,
+        Some(Pointer::Direct(0x5050)),
+    ),
+));
 
-/// Sections and the fields of the FDE at an offset: one that is its own CIE; then after a CIE
-/// whose FDEs have a pointer to language-specific data and addresses relative to themselves, of
-/// which the second points to zero; and after one whose FDEs have addresses relative to a function.
-const WITH_DATA: [(&str, &str, usize, Result<WithData, Error>); 4] = [
-    (
-        "its own CIE",
-        "04000000 04000000",
-        0,
-        Err(Error::NotCieId(0)),
-    ),
-    (
-        "a pointer",
-        "0f000000 00000000 017a4c52 00017810 02431b11 00000017 000000e5 efffff20 00000004 10000000",
-        19,
-        Ok((0x1000, 0x1020, Some(Pointer::Direct(0x1010)), ENCODING)),
-    ),
-    (
-        "a pointer to zero",
-        "0f000000 00000000 017a4c52 00017810 02431b11 00000017 000000e5 efffff20 00000004 00000000",
-        19,
-        Ok((0x1000, 0x1020, Some(Pointer::Direct(0x1000)), ENCODING)),
-    ),
-    (
-        "addresses relative to a function",
-        "0f000000 00000000 017a4c52 00017810 02434311 00000017 000000e5 efffff20 00000004 10000000",
-        19,
-        Err(Error::FuncRelativePointerInBadContext),
-    ),
+/// `.debug_frame`: a CIE of version 1, and at 13 an FDE of addresses of two bytes, from 0x1000 on,
+/// whose one instruction is of AArch64.
+const NARROW: [u8; 26] = [
+    9, 0, 0, 0, 0xff, 0xff, 0xff, 0xff, 1, 0, 1, 0x78, 0x10, 9, 0, 0, 0, 0, 0, 0, 0, 0, 0x10, 0x20,
+    0, 0x2d,
 ];
 
-#[test]
-fn language_specific_data(rt: HostRuntime) -> Result<(), Fail> {
-    for (case, digits, offset, data) in &WITH_DATA {
-        let bytes = bytes_of(rt.alloc(), digits)?;
-        let found = with_data(Slice::of(bytes.as_slice()), *offset);
-        assert_eq!(rt; found, *data, "{case}");
-    }
-    Ok(())
+type Instruction = Result<Option<CallFrameInstruction<usize>>, Error>;
+
+/// The FDE at 13, its instruction, and that no other follows.
+type OfNarrow = (Range, [Instruction; 2]);
+
+fn of_narrow<R: Reader<Offset = usize>>(section: &DebugFrame<R>) -> Result<OfNarrow, Error> {
+    let bases = BaseAddresses::default();
+    let fde = scan_for_fde(section, &bases, 0x1000)?;
+    let mut instructions = fde.instructions(section, &bases);
+    let both = [instructions.next(), instructions.next()];
+    Ok((range_of(&fde), both))
 }
 
-/// Whether a CIE is of a signal trampoline, and whether the B key signs its return addresses.
-type Marks = Result<(bool, bool), Error>;
+const OF_NARROW: Result<OfNarrow, Error> = Ok((
+    ((13, 9), (0x1000, 0x1020, 0x20), false, None),
+    [Ok(Some(CallFrameInstruction::NegateRaState)), Ok(None)],
+));
 
-fn marks_in<R: Reader, S: UnwindSection<R>>(section: &S, offset: S::Offset) -> Marks {
-    let cie = section.cie_from_offset(&BaseAddresses::default(), offset)?;
-    Ok((cie.is_signal_trampoline(), cie.uses_b_key()))
+/// The offset of the FDE at 13, that of its CIE, and its length, before it is read whole.
+type Places = (usize, DebugFrameOffset<usize>, usize);
+
+fn places<R: Reader<Offset = usize>>(section: &DebugFrame<R>) -> Result<Places, Error> {
+    let bases = BaseAddresses::default();
+    let part = section.partial_fde_from_offset(&bases, DebugFrameOffset(13))?;
+    Ok((part.offset(), part.cie_offset(), part.entry_len()))
 }
 
-/// The marks of a CIE of `.debug_frame` and of one of `.eh_frame`.
-fn marks_of_both<R: Reader<Offset = usize>>(in_debug_frame: R, in_eh_frame: R) -> (Marks, Marks) {
-    (
-        marks_in(&DebugFrame::from(in_debug_frame), DebugFrameOffset(0)),
-        marks_in(&EhFrame::from(in_eh_frame), EhFrameOffset(0)),
-    )
+/// The CIE at 0: that its instructions have ended, and its offset.
+fn ended<R: Reader<Offset = usize>>(section: &DebugFrame<R>) -> Result<Instruction, Error> {
+    let bases = BaseAddresses::default();
+    let cie = section.cie_from_offset(&bases, DebugFrameOffset(0))?;
+    let mut instructions = cie.instructions(section, &bases);
+    Ok(instructions.next())
 }
 
-/// Letters; the length of a CIE of `.debug_frame` with these, that CIE, and one of `.eh_frame`; and
-/// the marks of both.
-const MARKS: [(&str, usize, &str, &str, Marks); 11] = [
-    (
-        "S, with a nop",
-        17,
-        "0d000000 ffffffff 04530008 00017810 00",
-        "0a000000 00000000 01530001 7810",
-        Ok((true, false)),
-    ),
-    (
-        "R",
-        17,
-        "0d000000 ffffffff 04520008 00017810 00",
-        "0a000000 00000000 01520001 7810",
-        Err(Error::UnknownAugmentation),
-    ),
-    (
-        "Sz",
-        18,
-        "0e000000 ffffffff 04537a00 08000178 1000",
-        "0b000000 00000000 01537a00 017810",
-        Err(Error::UnknownAugmentation),
-    ),
-    (
-        "B",
-        16,
-        "0c000000 ffffffff 04420008 00017810",
-        "0a000000 00000000 01420001 7810",
-        Ok((false, true)),
-    ),
-    (
-        "S",
-        16,
-        "0c000000 ffffffff 04530008 00017810",
-        "0a000000 00000000 01530001 7810",
-        Ok((true, false)),
-    ),
-    (
-        "SB",
-        17,
-        "0d000000 ffffffff 04534200 08000178 10",
-        "0b000000 00000000 01534200 017810",
-        Ok((true, true)),
-    ),
-    (
-        "zB",
-        18,
-        "0e000000 ffffffff 047a4200 08000178 1000",
-        "0c000000 00000000 017a4200 01781000",
-        Ok((false, true)),
-    ),
-    (
-        "zBR",
-        20,
-        "10000000 ffffffff 047a4252 00080001 7810011b",
-        "0e000000 00000000 017a4252 00017810 011b",
-        Ok((false, true)),
-    ),
-    (
-        "zPLRS",
-        32,
-        "1c000000 ffffffff 047a504c 52530008 00017810 0b001122 33445566 77881b1b",
-        "1a000000 00000000 017a504c 52530001 78100b00 11223344 55667788 1b1b",
-        Ok((true, false)),
-    ),
-    (
-        "BR",
-        17,
-        "0d000000 ffffffff 04425200 08000178 10",
-        "0b000000 00000000 01425200 017810",
-        Err(Error::UnknownAugmentation),
-    ),
-    (
-        "Bz",
-        17,
-        "0d000000 ffffffff 04427a00 08000178 10",
-        "0b000000 00000000 01427a00 017810",
-        Err(Error::UnknownAugmentation),
-    ),
-];
+/// The section of bytes with these settings.
+fn narrow<R: Reader>(reader: R) -> DebugFrame<R> {
+    let mut section = DebugFrame::from(reader);
+    section.set_address_size(2);
+    section.set_vendor(Vendor::AArch64);
+    section
+}
 
-/// The marks of a CIE of `.debug_frame`, and of the one of `.eh_frame` behind it.
-fn marks_in_bytes(bytes: &[u8], length: usize) -> (Marks, Marks) {
-    marks_of_both(
-        Slice::of(bytes.get(..length).unwrap_or_default()),
-        Slice::of(bytes.get(length..).unwrap_or_default()),
-    )
+/// What is read of that section.
+type OfDebugFrame = (
+    Result<OfNarrow, Error>,
+    Result<Places, Error>,
+    Result<Instruction, Error>,
+);
+
+fn of_debug_frame<R: Reader<Offset = usize>>(reader: R) -> OfDebugFrame {
+    let section = narrow(reader);
+    (of_narrow(&section), places(&section), ended(&section))
+}
+
+const OF_DEBUG_FRAME: OfDebugFrame = (OF_NARROW, Ok((13, DebugFrameOffset(0), 9)), Ok(Ok(None)));
+
+/// Both sections.
+fn both<'a, R: Reader<Offset = usize> + OfBytes<'a>>() -> (OfDebugFrame, Result<OfLetters, Error>) {
+    (of_debug_frame(R::of(&NARROW)), of_letters(R::of(&LETTERS)))
 }
 
 #[test]
-fn letters_of_cies(rt: HostRuntime) -> Result<(), Fail> {
-    for (letters, length, in_debug_frame, in_eh_frame, marks) in &MARKS {
-        let bytes = joined(rt.alloc(), in_debug_frame, in_eh_frame)?;
-        let found = marks_in_bytes(bytes.as_slice(), *length);
-        assert_eq!(rt; found, (*marks, *marks), "{letters}");
-    }
-    Ok(())
+fn each_call(rt: HostRuntime) {
+    let (narrow, letters) = both::<Slice<'_>>();
+    expect(&rt, "addresses of two bytes", &narrow, &OF_DEBUG_FRAME);
+    expect(&rt, "letters", &letters, &OF_LETTERS);
 }

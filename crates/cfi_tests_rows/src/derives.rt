@@ -1,4 +1,5 @@
 //! What can be copied, printed and compared.
+use crate::comparison::expect;
 use gimli_cfi::{
     Augmentation, BaseAddresses, BigEndian, CallFrameInstruction, CallFrameInstructionIter,
     CapacityFull, CfaRule, CfiEntriesIter, CieOffsetEncoding, CieOrFde, CommonInformationEntry,
@@ -85,8 +86,6 @@ fn values_that_stand_beside_their_body(rt: HostRuntime) {
         RegisterRule::default(),
         CfaRule::default(),
     );
-    assert_eq!(rt;
-        (defaults, orders_of_bytes()),
-        ((Pointer::Direct(0), rule, cfa), [false, true, false, true])
-    );
+    let expected = ((Pointer::Direct(0), rule, cfa), [false, true, false, true]);
+    expect(&rt, "values", &(defaults, orders_of_bytes()), &expected);
 }

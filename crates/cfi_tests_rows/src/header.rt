@@ -3,8 +3,5 @@
 
 mod asked;
 mod counted;
-mod faithful;
-mod headers;
 mod searches;
-mod sources;
 mod with_context;

@@ -2,13 +2,22 @@
 ghost use Rattle.std.specs.Prelude.{◌≡◌, ◌==◌};
 ghost use Rattle.gimli_cfi.specs.Words.{cie_id, has_sizes, id_width, width_of, zero_length_ends};
 
-use crate::rows::{R7_8, RETURNS, Shown, row_of_section, shown_if_found};
+use crate::comparison::expect;
+use crate::rows::{Range, range_of};
 use gimli_cfi::{
     _UnwindSectionPrivate, BaseAddresses, CieOffsetEncoding, CommonInformationEntry, DebugFrame,
-    Error, Format, Reader, UnwindContext, UnwindContextStorage, UnwindSection, Vendor,
+    Error, Format, Reader, UnwindContext, UnwindContextStorage, UnwindSection, Vendor, row_by_scan,
 };
 use std::cell::Cell;
 use std::process::Abort;
+
+/// Two CIEs at 0 and 20, whose CFAs are r7+8 and r7+16; FDEs of the first for 0x1000 and 0x2000.
+pub(crate) const TWO_CIES: [u8; 88] = [
+    0x10, 0, 0, 0, 0xff, 0xff, 0xff, 0xff, 4, 0, 8, 0, 1, 0x78, 0x10, 0x0c, 7, 8, 0x90, 1, 0x10, 0,
+    0, 0, 0xff, 0xff, 0xff, 0xff, 4, 0, 8, 0, 1, 0x78, 0x10, 0x0c, 7, 0x10, 0x90, 1, 0x14, 0, 0, 0,
+    0, 0, 0, 0, 0, 0x10, 0, 0, 0, 0, 0, 0, 0x20, 0, 0, 0, 0, 0, 0, 0, 0x14, 0, 0, 0, 0, 0, 0, 0, 0,
+    0x20, 0, 0, 0, 0, 0, 0, 0x20, 0, 0, 0, 0, 0, 0, 0,
+];
 
 /// A section that counts the CIEs that are read by their offsets.
 #[derive(Clone, Copy, Debug)]
@@ -85,65 +94,36 @@ impl<R: Reader, S: UnwindSection<R>> UnwindSection<R> for CountedCies<'_, S> {
 }
 
 /// A row, and how many CIEs were read by their offsets.
-type Counted = (Result<Shown, Error>, u32);
+type Counted = (Result<Range, Error>, u32);
 
-/// The row for an address by a scan, which reads a CIE once for a run of FDEs.
-fn by_scan<R: Reader<Offset = usize>, C: UnwindContextStorage<usize>>(
+/// The row for an address by a scan.
+fn by_scan<R: Reader, C: UnwindContextStorage<R::Offset>>(
     inner: DebugFrame<R>,
-    context: &mut UnwindContext<usize, C>,
-    address: u64,
-) -> Counted {
-    let cies = Cell::new(0u32);
-    let section = CountedCies { inner, cies: &cies };
-    let row = row_of_section(&section, context, address);
-    (row, cies.get())
-}
-
-/// The same with a `get_cie`, which reads the CIE of each FDE.
-fn by_cies<R: Reader<Offset = usize>, C: UnwindContextStorage<usize>>(
-    inner: DebugFrame<R>,
-    context: &mut UnwindContext<usize, C>,
+    context: &mut UnwindContext<R::Offset, C>,
     address: u64,
 ) -> Counted {
     let cies = Cell::new(0u32);
     let section = CountedCies { inner, cies: &cies };
     let bases = BaseAddresses::default();
-    let mut asked = 0u32;
-    let found = section.unwind_info_for_address(&bases, context, address, |from, bases, offset| {
-        asked = asked.saturating_add(1);
-        from.cie_from_offset(bases, offset)
-    });
-    let row = shown_if_found(found);
+    let row = range_of(row_by_scan(&section, &bases, context, address));
     (row, cies.get())
 }
 
-/// The same by both.
-fn by_both<R: Reader<Offset = usize>, C: UnwindContextStorage<usize>>(
-    reader: R,
-    context: &mut UnwindContext<usize, C>,
-    address: u64,
-) -> [Counted; 2] {
-    let section = DebugFrame::from(reader);
-    [
-        by_scan(section, context, address),
-        by_cies(section, context, address),
-    ]
-}
-
-/// Addresses and their rows; how many CIEs a scan reads for them, and a scan with a `get_cie`.
-const ROWS: [(u64, Result<Shown, Error>, u32, u32); 3] = [
-    (0x1000, Ok((0x1000, 0x1020, R7_8, None, RETURNS)), 1, 1),
-    (0x2000, Ok((0x2000, 0x2020, R7_8, None, RETURNS)), 1, 2),
-    (0x3000, Err(Error::NoUnwindInfoForAddress), 1, 2),
+/// Addresses, their rows, and that a CIE is read once for the FDEs in a row that point to it.
+const ROWS: [(u64, Counted); 3] = [
+    (0x1000, (Ok((0x1000, 0x1020)), 1)),
+    (0x2000, (Ok((0x2000, 0x2020)), 1)),
+    (0x3000, (Err(Error::NoUnwindInfoForAddress), 1)),
 ];
 
 /// Checks those rows.
-pub(crate) fn a_section_that_counts_its_cies<
-    R: Reader<Offset = usize>,
-    C: UnwindContextStorage<usize>,
->(rt: &impl Abort, reader: R, context: &mut UnwindContext<usize, C>) {
-    for (address, row, once, each) in &ROWS {
-        let found = by_both(reader, context, *address);
-        assert_eq!(rt; found, [(*row, *once), (*row, *each)], "for {address}");
+pub(crate) fn a_scan_reads_a_cie_once<R: Reader, C: UnwindContextStorage<R::Offset>>(
+    rt: &impl Abort,
+    two_cies: R,
+    context: &mut UnwindContext<R::Offset, C>,
+) {
+    for (address, counted) in &ROWS {
+        let found = by_scan(DebugFrame::from(two_cies), context, *address);
+        expect(rt, *address, &found, counted);
     }
 }

@@ -4,12 +4,13 @@ ghost use Rattle.std.specs.Vec as vec;
 ghost use Rattle.std.specs.Prelude.{◌≡◌, None, false};
 ghost use Rattle.gimli_cfi.specs.Words.{refill-same};
 
-use crate::reuse::{check_three_rows, row_in};
-use crate::rows::Shown;
-use cfi_tests_bytes::bytes_of;
+use crate::comparison::expect;
+use crate::rows::{Range, range_of};
+use cfi_tests_bytes::{THREE_ROWS, bytes_of};
 use gimli_cfi::{
-    ArrayLike, CopyList, Error, ReaderOffset, Refused, Register, RegisterRule, UnwindContext,
-    UnwindContextStorage, UnwindTableRow, Vendor, Why,
+    ArrayLike, BaseAddresses, CopyList, DebugFrame, EndianSlice, Error, LittleEndian, Reader,
+    ReaderOffset, Refused, Register, RegisterRule, StoreGrowing, UnwindContext,
+    UnwindContextStorage, UnwindTableRow, Vendor, Why, row_by_scan,
 };
 use std::alloc::{AllocFailed, Global};
 use std::cell::Cell;
@@ -17,7 +18,7 @@ use std::process::Abort;
 use std::test::Fail;
 
 /// An item that may tell the list that takes it which of its next growths fails; 0 is none of them.
-pub(crate) trait Tells {
+trait Tells {
     fn told(&self) -> Option<u32>;
 }
 
@@ -50,7 +51,7 @@ impl<T: ReaderOffset, A: ArrayLike<Item = (Register, RegisterRule<T>)>> Tells
 
 /// A list without a limit, one of whose growths fails. Each new item is a growth, and so is a copy.
 #[derive(Drop)]
-pub(crate) struct Refusing<I> {
+struct Refusing<I> {
     kept: Vec<I>,
     /// Which of the next growths fails.
     refused: Cell<u32>,
@@ -171,7 +172,7 @@ impl<I: Tells + Copy> CopyList for Refusing<I> {
 }
 
 /// The storage of such lists.
-pub(crate) struct StoreRefusing;
+struct StoreRefusing;
 
 impl<T: ReaderOffset> UnwindContextStorage<T> for StoreRefusing {
     type Rules = Refusing<(Register, RegisterRule<T>)>;
@@ -204,18 +205,32 @@ fn telling(of_rules: u8, of_rows: u8) -> [u8; 56] {
     bytes
 }
 
+fn row_of<R: Reader<Offset = usize>, S: UnwindContextStorage<usize>>(
+    reader: R,
+    context: &mut UnwindContext<usize, S>,
+    address: u64,
+) -> Result<Range, Error> {
+    let mut section = DebugFrame::from(reader);
+    section.set_vendor(Vendor::AArch64);
+    range_of(row_by_scan(&section, &BaseAddresses::default(), context, address))
+}
+
+/// The addresses of a row of a section.
+fn row_in<S: UnwindContextStorage<usize>>(
+    bytes: &[u8],
+    context: &mut UnwindContext<usize, S>,
+    address: u64,
+) -> Result<Range, Error> {
+    row_of(EndianSlice::new(bytes, LittleEndian), context, address)
+}
+
 /// Tells the lists of a context which of their growths fails in the next unwind.
 fn tell<S: UnwindContextStorage<usize>>(
     context: &mut UnwindContext<usize, S>,
     of_rules: u8,
     of_rows: u8,
-) -> Result<Shown, Error> {
-    row_in(
-        &telling(of_rules, of_rows),
-        Vendor::AArch64,
-        context,
-        0x1000,
-    )
+) -> Result<Range, Error> {
+    row_in(&telling(of_rules, of_rows), context, 0x1000)
 }
 
 /// Sections with remembered states, in a CIE, in an FDE and in both, and one whose CIE moves; the
@@ -263,13 +278,15 @@ const SECTIONS: [(&str, u64); 8] = [
     ),
 ];
 
-/// The section of a text, the address of a row, and that row.
+/// The section of a text, the address of a row, and the addresses of that row.
 #[derive(Clone, Copy)]
 struct Unwind<'a> {
     text: &'a str,
     bytes: &'a [u8],
     address: u64,
-    row: Result<Shown, Error>,
+    row: Result<Range, Error>,
+    /// The second of the three rows, as it is for a context to which nothing was refused.
+    second: Result<Range, Error>,
 }
 
 /// One more than the last of the growths that fail in turn.
@@ -278,24 +295,24 @@ const GROWTHS: u8 = 20;
 /// Whether an unwind with a fresh context reaches the growth of the rules or of the rows that
 /// fails, after which the context can be used again.
 fn meets<S: UnwindContextStorage<usize>>(
-    rt: &(impl Abort + AllocGlobal),
+    rt: &impl Abort,
     of: &Unwind<'_>,
     context: &mut UnwindContext<usize, S>,
     of_rules: u8,
     of_rows: u8,
-) -> Result<bool, Fail> {
+) -> Result<bool, Error> {
     let _told = tell(context, of_rules, of_rows)?;
-    let answer = row_in(of.bytes, Vendor::AArch64, context, of.address);
+    let answer = row_in(of.bytes, context, of.address);
     if answer == of.row {
         return Ok(false);
     }
-    assert_eq!(rt;
-        answer,
-        Err(Error::OutOfMemory),
-        "{}: growth {of_rules} of rules, {of_rows} of rows",
-        of.text
+    let again = row_in(&THREE_ROWS, context, 0x1002);
+    expect(
+        rt,
+        of.text,
+        &(answer, again),
+        &(Err(Error::OutOfMemory), of.second),
     );
-    check_three_rows(rt, context, of.text)?;
     Ok(true)
 }
 
@@ -305,7 +322,7 @@ fn meets_afresh<S: UnwindContextStorage<usize>>(
     of: &Unwind<'_>,
     of_rules: u8,
     of_rows: u8,
-) -> Result<bool, Fail> {
+) -> Result<bool, Error> {
     let mut context: UnwindContext<usize, S> = UnwindContext::new_in(rt.alloc())?;
     meets(rt, of, &mut context, of_rules, of_rows)
 }
@@ -315,7 +332,7 @@ fn growths_met<S: UnwindContextStorage<usize>>(
     rt: &(impl Abort + AllocGlobal),
     of: &Unwind<'_>,
     refuses_rows: bool,
-) -> Result<u8, Fail> {
+) -> Result<u8, Error> {
     for growth in 1..GROWTHS {
         let (of_rules, of_rows) = if refuses_rows {
             (0, growth)
@@ -331,16 +348,12 @@ fn growths_met<S: UnwindContextStorage<usize>>(
 
 /// Checks that a section has a row, and that the numbers of its growths are known.
 fn check_counts(rt: &impl Abort, of: &Unwind<'_>, of_rules: u8, of_rows: u8) {
-    assert_eq!(rt;
-        (
-            of.row.is_ok(),
-            0 < of_rules && of_rules < GROWTHS,
-            of_rows < GROWTHS
-        ),
-        (true, true, true),
-        "{}: {of_rules} growths of rules, {of_rows} of rows",
-        of.text
+    let known = (
+        of.row.is_ok(),
+        0 < of_rules && of_rules < GROWTHS,
+        of_rows < GROWTHS,
     );
+    expect(rt, of.text, &known, &(true, true, true));
 }
 
 /// Checks an unwind in which each of its growths fails in turn; returns whether one of them was of
@@ -348,7 +361,7 @@ fn check_counts(rt: &impl Abort, of: &Unwind<'_>, of_rules: u8, of_rows: u8) {
 fn check_growths<S: UnwindContextStorage<usize>>(
     rt: &(impl Abort + AllocGlobal),
     of: &Unwind<'_>,
-) -> Result<bool, Fail> {
+) -> Result<bool, Error> {
     let of_rules = growths_met::<S>(rt, of, false)?;
     let of_rows = growths_met::<S>(rt, of, true)?;
     check_counts(rt, of, of_rules, of_rows);
@@ -363,35 +376,32 @@ fn check_section<S: UnwindContextStorage<usize>, G: UnwindContextStorage<usize>>
     address: u64,
 ) -> Result<bool, Fail> {
     let bytes = bytes_of(rt.alloc(), text)?;
-    let row = row_in(bytes.as_slice(), Vendor::AArch64, growing, address);
     let of = Unwind {
         text,
         bytes: bytes.as_slice(),
         address,
-        row,
+        row: row_in(bytes.as_slice(), growing, address),
+        second: row_in(&THREE_ROWS, growing, 0x1002),
     };
-    check_growths::<S>(rt, &of)
+    Ok(check_growths::<S>(rt, &of)?)
 }
 
 /// The same for each of the sections, whose rows are those of a growing storage; some of their
 /// growths are of rows.
 fn check_sections<S: UnwindContextStorage<usize>, G: UnwindContextStorage<usize>>(
     rt: &(impl Abort + AllocGlobal),
-    growing: &mut UnwindContext<usize, G>,
 ) -> Result<(), Fail> {
+    let mut growing: UnwindContext<usize, G> = UnwindContext::new_in(rt.alloc())?;
     let mut grew_rows = false;
     for (text, address) in &SECTIONS {
         // A row that the stack once allocated is used again, so not every section grows it.
-        grew_rows |= check_section::<S, G>(rt, growing, text, *address)?;
+        grew_rows |= check_section::<S, G>(rt, &mut growing, text, *address)?;
     }
-    assert!(rt; grew_rows);
+    expect(rt, "growths of rows", &grew_rows, &true);
     Ok(())
 }
 
-/// The same with a fresh context.
-pub(crate) fn each_growth_in_turn<S: UnwindContextStorage<usize>, G: UnwindContextStorage<usize>>(
-    rt: &(impl Abort + AllocGlobal),
-) -> Result<(), Fail> {
-    let mut growing: UnwindContext<usize, G> = UnwindContext::new_in(rt.alloc())?;
-    check_sections::<S, G>(rt, &mut growing)
+#[test]
+fn each_growth_fails_in_turn(rt: HostRuntime) -> Result<(), Fail> {
+    check_sections::<StoreRefusing, StoreGrowing>(&rt)
 }

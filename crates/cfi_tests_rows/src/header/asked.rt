@@ -2,36 +2,41 @@
 //!
 //! The contracts of calls that take the closure by value say nothing of its last state, so the
 //! counts are tested here.
-use crate::header::searches::{HEADER, SECTION, Shown, read_header, shown, table_of};
-use crate::rows::{ShownIn, bases, shown_if_found};
+use crate::comparison::expect;
+use crate::header::searches::{read_header, table_of};
+use crate::rows::{Range, bases, range_of};
 use gimli_cfi::{
     BaseAddresses, CommonInformationEntry, DebugFrame, DebugFrameOffset, EhFrame, EhHdrTable,
-    EndianSlice, Error, FrameDescriptionEntry, LittleEndian, Reader, ReaderOffsetId, UnwindContext,
-    UnwindContextStorage, UnwindSection,
+    Error, FrameDescriptionEntry, Reader, ReaderOffsetId, UnwindContext, UnwindContextStorage,
+    UnwindSection,
 };
 use std::process::Abort;
 
 /// A CIE of `.debug_frame`; FDEs at 20 and 44 for 0x1000 and 0x2000, of 0x20 addresses each; at 68
 /// an FDE that ends after its first address.
-const FDES: [u8; 84] = [
+pub(crate) const FDES: [u8; 84] = [
     0x10, 0, 0, 0, 0xff, 0xff, 0xff, 0xff, 4, 0, 8, 0, 1, 0x78, 0x10, 0x0c, 7, 8, 0x90, 1, 0x14, 0,
     0, 0, 0, 0, 0, 0, 0, 0x10, 0, 0, 0, 0, 0, 0, 0x20, 0, 0, 0, 0, 0, 0, 0, 0x14, 0, 0, 0, 0, 0, 0,
     0, 0, 0x20, 0, 0, 0, 0, 0, 0, 0x20, 0, 0, 0, 0, 0, 0, 0, 0x0c, 0, 0, 0, 0, 0, 0, 0, 0, 0x30, 0,
     0, 0, 0, 0, 0,
 ];
 
-/// What a call returns, as a number that tells which entry or row it is, and how often it called
-/// the closure.
-type Asked<T> = (Result<T, Error>, u32);
-
-/// The results of a call for an FDE and of one for a row.
-type Both = (Asked<usize>, Asked<u64>);
+/// What a call returns, as the offset of the FDE or the first address of the row, and how often it
+/// called the closure.
+pub(crate) type Asked = (Result<u64, Error>, u32);
 
 fn offset_of<R: Reader<Offset = usize>>(
     found: Result<FrameDescriptionEntry<R>, Error>,
-) -> Result<usize, Error> {
+) -> Result<u64, Error> {
     match found {
-        Ok(fde) => Ok(fde.offset()),
+        Ok(fde) => Ok(fde.offset() as u64),
+        Err(refusal) => Err(refusal),
+    }
+}
+
+fn start_of(row: Result<Range, Error>) -> Result<u64, Error> {
+    match row {
+        Ok((start, _)) => Ok(start),
         Err(refusal) => Err(refusal),
     }
 }
@@ -55,7 +60,7 @@ fn parsed<R: Reader<Offset = usize>>(
     section: &DebugFrame<R>,
     offset: usize,
     refuses: bool,
-) -> Asked<usize> {
+) -> Asked {
     let bases = BaseAddresses::default();
     let mut asked = 0u32;
     let read = match section.partial_fde_from_offset(&bases, DebugFrameOffset(offset)) {
@@ -73,7 +78,7 @@ fn at_offset<R: Reader<Offset = usize>>(
     section: &DebugFrame<R>,
     offset: usize,
     refuses: bool,
-) -> Asked<usize> {
+) -> Asked {
     let bases = BaseAddresses::default();
     let mut asked = 0u32;
     let read = section.fde_from_offset(&bases, DebugFrameOffset(offset), |from, bases, offset| {
@@ -88,7 +93,7 @@ fn for_address<R: Reader<Offset = usize>>(
     section: &DebugFrame<R>,
     address: u64,
     refuses: bool,
-) -> Asked<usize> {
+) -> Asked {
     let bases = BaseAddresses::default();
     let mut asked = 0u32;
     let found = section.fde_for_address(&bases, address, |from, bases, offset| {
@@ -98,20 +103,13 @@ fn for_address<R: Reader<Offset = usize>>(
     (offset_of(found), asked)
 }
 
-fn first_address(row: Result<ShownIn<usize>, Error>) -> Result<u64, Error> {
-    match row {
-        Ok(row) => Ok(row.0),
-        Err(refusal) => Err(refusal),
-    }
-}
-
-/// `UnwindSection::unwind_info_for_address`: the start address of the row.
+/// `UnwindSection::unwind_info_for_address`.
 fn row_for_address<R: Reader<Offset = usize>, S: UnwindContextStorage<usize>>(
     context: &mut UnwindContext<usize, S>,
     section: &DebugFrame<R>,
     address: u64,
     refuses: bool,
-) -> Asked<u64> {
+) -> Asked {
     let bases = BaseAddresses::default();
     let mut asked = 0u32;
     let found = section.unwind_info_for_address(&bases, context, address, |from, bases, offset| {
@@ -121,20 +119,7 @@ fn row_for_address<R: Reader<Offset = usize>, S: UnwindContextStorage<usize>>(
         }
         from.cie_from_offset(bases, offset)
     });
-    let row = shown_if_found(found);
-    (first_address(row), asked)
-}
-
-/// Both calls for an address.
-fn both_by_scan<R: Reader<Offset = usize>, S: UnwindContextStorage<usize>>(
-    context: &mut UnwindContext<usize, S>,
-    section: R,
-    address: u64,
-    refuses: bool,
-) -> Both {
-    let section = DebugFrame::from(section);
-    let fde = for_address(&section, address, refuses);
-    (fde, row_for_address(context, &section, address, refuses))
+    (start_of(range_of(found)), asked)
 }
 
 /// `EhHdrTable::fde_for_address`.
@@ -143,7 +128,7 @@ pub(crate) fn fde_by_table<R: Reader<Offset = usize>>(
     frame: &EhFrame<R>,
     address: u64,
     refuses: bool,
-) -> Asked<usize> {
+) -> Asked {
     let mut asked = 0u32;
     let found = table.fde_for_address(frame, &bases(), address, |from, bases, offset| {
         asked = asked.saturating_add(1);
@@ -162,7 +147,7 @@ pub(crate) fn row_by_cies<R: Reader<Offset = usize>, S: UnwindContextStorage<usi
     frame: &EhFrame<R>,
     address: u64,
     refuses: bool,
-) -> Asked<Shown> {
+) -> Asked {
     let mut asked = 0u32;
     let bases = bases();
     let found = table.unwind_info_for_address(
@@ -178,84 +163,12 @@ pub(crate) fn row_by_cies<R: Reader<Offset = usize>, S: UnwindContextStorage<usi
             from.cie_from_offset(bases, offset)
         },
     );
-    (shown(found), asked)
-}
-
-/// The start address of a row.
-fn start_of(row: Asked<Shown>) -> Asked<u64> {
-    match row {
-        (Ok((start, _, _)), asked) => (Ok(start), asked),
-        (Err(refusal), asked) => (Err(refusal), asked),
-    }
-}
-
-/// Both calls for an address, by a table.
-fn both_by_table<R: Reader<Offset = usize>, S: UnwindContextStorage<usize>>(
-    context: &mut UnwindContext<usize, S>,
-    table: &EhHdrTable<'_, R>,
-    frame: &EhFrame<R>,
-    address: u64,
-    refuses: bool,
-) -> Both {
-    let fde = fde_by_table(table, frame, address, refuses);
-    let row = row_by_cies(context, table, frame, address, refuses);
-    (fde, start_of(row))
-}
-
-/// The same from a reader of the section and one of a header.
-fn both_by_header<R: Reader<Offset = usize>, S: UnwindContextStorage<usize>>(
-    context: &mut UnwindContext<usize, S>,
-    section: R,
-    header: R,
-    address: u64,
-    refuses: bool,
-) -> Result<Both, Error> {
-    let parsed = read_header(header, &bases(), 8)?;
-    let table = table_of(&parsed)?;
-    let frame = EhFrame::from(section);
-    Ok(both_by_table(context, &table, &frame, address, refuses))
-}
-
-/// The same from bytes.
-fn by_table<S: UnwindContextStorage<usize>>(
-    context: &mut UnwindContext<usize, S>,
-    section: &[u8],
-    header: &[u8],
-    address: u64,
-    refuses: bool,
-) -> Result<Both, Error> {
-    let section = EndianSlice::new(section, LittleEndian);
-    let header = EndianSlice::new(header, LittleEndian);
-    both_by_header(context, section, header, address, refuses)
-}
-
-/// The offset of the FDE and the start address of the row, or an error.
-type Found = Result<(usize, u64), Error>;
-
-/// The results of both calls.
-fn both(found: Found, asked: u32) -> Both {
-    match found {
-        Ok((offset, start)) => ((Ok(offset), asked), (Ok(start), asked)),
-        Err(refusal) => ((Err(refusal), asked), (Err(refusal), asked)),
-    }
-}
-
-/// Both calls for the FDE at an offset.
-fn read_at<R: Reader<Offset = usize>>(
-    section: R,
-    offset: usize,
-    refuses: bool,
-) -> [Asked<usize>; 2] {
-    let section = DebugFrame::from(section);
-    [
-        at_offset(&section, offset, refuses),
-        parsed(&section, offset, refuses),
-    ]
+    (start_of(range_of(found)), asked)
 }
 
 /// The offset of an FDE, and whether `get_cie` fails; the result, and how often the closure was
 /// called.
-const FDES_AT: [(usize, bool, Asked<usize>); 6] = [
+const FDES_AT: [(usize, bool, Asked); 6] = [
     (20, false, (Ok(20), 1)),
     (44, false, (Ok(44), 1)),
     (
@@ -272,11 +185,26 @@ const FDES_AT: [(usize, bool, Asked<usize>); 6] = [
     (44, true, (Err(Error::UnknownAugmentation), 1)),
 ];
 
-#[test]
-fn one_fde_asks_once(rt: HostRuntime) {
+/// Checks both calls for the FDE at an offset.
+pub(crate) fn one_fde_asks_once<R: Reader<Offset = usize>>(rt: &impl Abort, fdes: R) {
+    let section = DebugFrame::from(fdes);
     for (offset, refuses, asked) in &FDES_AT {
-        let section = EndianSlice::new(&FDES, LittleEndian);
-        assert_eq!(rt; read_at(section, *offset, *refuses), [*asked; 2]);
+        let by_both = [
+            at_offset(&section, *offset, *refuses),
+            parsed(&section, *offset, *refuses),
+        ];
+        expect(rt, *offset, &by_both, &[*asked; 2]);
+    }
+}
+
+/// The offset of the FDE and the start address of the row, or an error.
+type Found = Result<(u64, u64), Error>;
+
+/// The results of both calls.
+fn both(found: Found, asked: u32) -> [Asked; 2] {
+    match found {
+        Ok((offset, start)) => [(Ok(offset), asked), (Ok(start), asked)],
+        Err(refusal) => [(Err(refusal), asked); 2],
     }
 }
 
@@ -303,21 +231,30 @@ const SCANS: [(usize, u64, bool, Found, u32); 6] = [
     (84, 0x2008, true, Err(Error::UnknownAugmentation), 1),
 ];
 
-/// Checks those results.
-pub(crate) fn a_scan_asks_once_an_fde<S: UnwindContextStorage<usize>>(
+/// The section of the first bytes of a reader.
+fn cut<R: Reader<Offset = usize>>(reader: R, length: usize) -> DebugFrame<R> {
+    let mut whole = reader;
+    DebugFrame::from(whole.split(length).unwrap_or(reader))
+}
+
+/// Checks both calls for an address.
+pub(crate) fn a_scan_asks_once_an_fde<R: Reader<Offset = usize>, S: UnwindContextStorage<usize>>(
     rt: &impl Abort,
+    fdes: R,
     context: &mut UnwindContext<usize, S>,
 ) {
-    for (count, address, refuses, found, asked) in &SCANS {
-        let bytes = FDES.get(..*count).unwrap_or_default();
-        let section = EndianSlice::new(bytes, LittleEndian);
-        let by_scan = both_by_scan(context, section, *address, *refuses);
-        assert_eq!(rt; by_scan, both(*found, *asked), "for {address}");
+    for (length, address, refuses, found, asked) in &SCANS {
+        let section = cut(fdes, *length);
+        let by_scan = [
+            for_address(&section, *address, *refuses),
+            row_for_address(context, &section, *address, *refuses),
+        ];
+        expect(rt, *address, &by_scan, &both(*found, *asked));
     }
 }
 
 /// The section whose second FDE is longer than the rest of the section.
-const CUT: [u8; 88] = [
+pub(crate) const CUT: [u8; 88] = [
     0x14, 0, 0, 0, 0, 0, 0, 0, 1, 0x7a, 0x52, 0, 1, 0x78, 0x10, 1, 0x1b, 0x0c, 7, 8, 0x90, 1, 0, 0,
     0x10, 0, 0, 0, 0x1c, 0, 0, 0, 0xe0, 0xef, 0xff, 0xff, 0x10, 0, 0, 0, 0, 0, 0, 0, 0x10, 0, 0, 0,
     0x30, 0, 0, 0, 0xdc, 0xef, 0xff, 0xff, 0x10, 0, 0, 0, 0x20, 0x41, 0x0e, 0x10, 0x10, 0, 0, 0,
@@ -325,82 +262,71 @@ const CUT: [u8; 88] = [
 ];
 
 /// The header, whose second row leads to the CIE.
-const TO_THE_CIE: [u8; 36] = [
+pub(crate) const TO_THE_CIE: [u8; 36] = [
     1, 0x1b, 0x03, 0x3b, 0xfc, 0, 0, 0, 3, 0, 0, 0, 0, 0xf1, 0xff, 0xff, 0x18, 1, 0, 0, 0x10, 0xf1,
     0xff, 0xff, 0, 1, 0, 0, 0x20, 0xf1, 0xff, 0xff, 0x40, 1, 0, 0,
 ];
 
 /// A header of one row, which is indirect.
-const INDIRECT: [u8; 20] = [
+pub(crate) const INDIRECT: [u8; 20] = [
     1, 0x1b, 0x03, 0xbb, 0xfc, 0, 0, 0, 1, 0, 0, 0, 0, 0xf1, 0xff, 0xff, 0x18, 1, 0, 0,
 ];
 
-/// An address, and whether `get_cie` fails; the result, and how often the closure was called.
-type ByTable = (u64, bool, Found, u32);
-
 const NONE: Found = Err(Error::NoUnwindInfoForAddress);
 
-/// The section and header as they should be.
-const FAITHFUL: [ByTable; 5] = [
-    (0x1018, false, Ok((44, 0x1011)), 1),
-    (0x103f, false, Ok((64, 0x1020)), 1),
-    (0xff0, false, NONE, 1),
-    (0x1040, false, NONE, 1),
-    (0x1018, true, Err(Error::UnknownAugmentation), 1),
+/// Sections and headers: those that are as they should be, the cut section, a header that leads to
+/// the CIE, and an indirect one.
+pub(crate) type Listings<R> = [R; 5];
+
+/// Which section and header, an address, and whether `get_cie` fails; the result, and how often the
+/// closure was called.
+const BY_TABLES: [([usize; 2], u64, bool, Found, u32); 8] = [
+    ([0, 1], 0x1018, false, Ok((44, 0x1011)), 1),
+    ([0, 1], 0x103f, false, Ok((64, 0x1020)), 1),
+    ([0, 1], 0xff0, false, NONE, 1),
+    ([0, 1], 0x1040, false, NONE, 1),
+    ([0, 1], 0x1018, true, Err(Error::UnknownAugmentation), 1),
+    (
+        [2, 1],
+        0x1018,
+        false,
+        Err(Error::UnexpectedEof(ReaderOffsetId(61))),
+        1,
+    ),
+    ([0, 3], 0x1018, false, Err(Error::NotCiePointer(0)), 0),
+    (
+        [0, 4],
+        0x1000,
+        false,
+        Err(Error::UnsupportedIndirectPointer),
+        0,
+    ),
 ];
 
-const BY_THE_CIE: [ByTable; 1] = [(0x1018, false, Err(Error::NotCiePointer(0)), 0)];
-
-const BY_A_CUT_FDE: [ByTable; 1] = [(
-    0x1018,
-    false,
-    Err(Error::UnexpectedEof(ReaderOffsetId(61))),
-    1,
-)];
-
-const BY_AN_INDIRECT_ROW: [ByTable; 1] = [(
-    0x1000,
-    false,
-    Err(Error::UnsupportedIndirectPointer),
-    0,
-)];
-
-/// Checks those results for one section and header.
-fn check_tables<S: UnwindContextStorage<usize>>(
-    rt: &impl Abort,
+/// Both calls for an address, by a header's table.
+fn by_table<R: Reader<Offset = usize>, S: UnwindContextStorage<usize>>(
     context: &mut UnwindContext<usize, S>,
-    name: &str,
-    section: &[u8],
-    header: &[u8],
-    answers: &[ByTable],
-) {
-    for (address, refuses, found, asked) in answers {
-        let by_table = by_table(context, section, header, *address, *refuses);
-        assert_eq!(rt; by_table, Ok(both(*found, *asked)), "{name}: {address}");
-    }
+    section: R,
+    header: R,
+    address: u64,
+    refuses: bool,
+) -> Result<[Asked; 2], Error> {
+    let parsed = read_header(header)?;
+    let table = table_of(&parsed)?;
+    let frame = EhFrame::from(section);
+    let fde = fde_by_table(&table, &frame, address, refuses);
+    Ok([fde, row_by_cies(context, &table, &frame, address, refuses)])
 }
 
-/// The same for each section and header.
-pub(crate) fn a_table_asks_once<S: UnwindContextStorage<usize>>(
+/// Checks both calls for an address, by a table.
+pub(crate) fn a_table_asks_once<R: Reader<Offset = usize>, S: UnwindContextStorage<usize>>(
     rt: &impl Abort,
+    listings: &Listings<R>,
     context: &mut UnwindContext<usize, S>,
 ) {
-    check_tables(rt, context, "faithful", &SECTION, &HEADER, &FAITHFUL);
-    check_tables(
-        rt,
-        context,
-        "to the CIE",
-        &SECTION,
-        &TO_THE_CIE,
-        &BY_THE_CIE,
-    );
-    check_tables(rt, context, "a cut FDE", &CUT, &HEADER, &BY_A_CUT_FDE);
-    check_tables(
-        rt,
-        context,
-        "an indirect row",
-        &SECTION,
-        &INDIRECT,
-        &BY_AN_INDIRECT_ROW,
-    );
+    for (which, address, refuses, found, asked) in &BY_TABLES {
+        let (section, header) = (listings[which[0].min(4)], listings[which[1].min(4)]);
+        let by_table = by_table(context, section, header, *address, *refuses);
+        expect(rt, *address, &by_table, &Ok(both(*found, *asked)));
+    }
 }

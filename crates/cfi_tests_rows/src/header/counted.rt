@@ -2,21 +2,16 @@
 ghost use Rattle.std.specs.Ordering.{on};
 ghost use Rattle.std.specs.Cmp.{on_per, on_equiv};
 
-use crate::header::asked::{fde_by_table, row_by_cies};
-use crate::header::faithful::checked_row;
-use crate::header::searches::{
-    HEADER, Listed, SECTION, Slice, read_header, row_by_source, table_of,
-};
-use crate::rows::bases;
+use crate::comparison::expect;
+use crate::header::asked::{Asked, fde_by_table, row_by_cies};
+use crate::header::searches::{Listed, read_header, table_of};
+use crate::rows::{Range, bases, range_of};
 use gimli_cfi::{
-    EhFrame, EhFrameHdr, EhFrameOffset, EhHdrTable, EndianSlice, Error, FaithfulTable,
-    LittleEndian, Reader, StartSource, TableStarts, UnwindContext, UnwindContextStorage,
-    UnwindSection, row_by_header,
+    EhFrame, EhFrameHdr, EhHdrTable, Error, FaithfulTable, Pointer, Reader, StartSource,
+    TableStarts, UnwindContext, UnwindContextStorage, row_by_header, row_by_table,
 };
-use std::alloc::{AllocError, Global};
 use std::cell::Cell;
 use std::process::Abort;
-use std::test::Fail;
 
 /// A reader that counts the reads of numbers of a fixed width, over all its copies.
 #[derive(Clone, Copy, Debug)]
@@ -135,54 +130,57 @@ struct Listing<'a, R: Reader> {
     counts: &'a Counts<'a>,
 }
 
+/// What a call returns, and how many numbers were read.
+type Answer<T> = (T, Reads);
+
 /// By the calls that take no source: `lookup`, `fde_for_address`, `unwind_info_for_address`.
+type ByTable = (Answer<Result<Pointer, Error>>, Answer<Asked>, Answer<Asked>);
+
 fn by_table<R: Reader<Offset = usize>, S: UnwindContextStorage<usize>>(
     of: &Listing<'_, R>,
     context: &mut UnwindContext<usize, S>,
     address: u64,
-) -> [Reads; 3] {
+) -> ByTable {
     let _before = of.counts.since();
-    let _target = of.table.lookup(address, &bases());
-    let looked_up = of.counts.since();
-    let _fde = fde_by_table(&of.table, of.frame, address, false);
-    let found = of.counts.since();
-    let _row = row_by_cies(context, &of.table, of.frame, address, false);
-    [looked_up, found, of.counts.since()]
-}
-
-/// By the table's own starts: `TableStarts::new`, and the start of row 1.
-fn by_starts<R: Reader<Offset = usize>>(of: &Listing<'_, R>) -> Result<[Reads; 2], Error> {
-    let bases = bases();
-    let _before = of.counts.since();
-    let mut starts = TableStarts::new(&of.table, &bases)?;
-    let made = of.counts.since();
-    let _start = starts.start(1);
-    Ok([made, of.counts.since()])
+    let target = of.table.lookup(address, &bases());
+    let looked_up = (target, of.counts.since());
+    let fde = fde_by_table(&of.table, of.frame, address, false);
+    let found = (fde, of.counts.since());
+    let row = row_by_cies(context, &of.table, of.frame, address, false);
+    (looked_up, found, (row, of.counts.since()))
 }
 
 /// By a source of starts: `lookup_in` and `row_by_table`.
+type BySource = (Answer<Result<Pointer, Error>>, Answer<Result<Range, Error>>);
+
 fn by_source<R: Reader<Offset = usize>, S: UnwindContextStorage<usize>, I: StartSource>(
     of: &Listing<'_, R>,
     starts: &mut I,
     context: &mut UnwindContext<usize, S>,
     address: u64,
-) -> [Reads; 2] {
-    let _before = of.counts.since();
-    let _target = of.table.lookup_in(starts, address, &bases());
-    let looked_up = of.counts.since();
-    let _row = row_by_source(&of.table, starts, of.frame, context, address);
-    [looked_up, of.counts.since()]
+) -> BySource {
+    let (bases, _before) = (bases(), of.counts.since());
+    let target = of.table.lookup_in(starts, address, &bases);
+    let looked_up = (target, of.counts.since());
+    let row = range_of(row_by_table(&of.table, starts, of.frame, &bases, context, address));
+    (looked_up, (row, of.counts.since()))
 }
 
-/// The same by the table's own starts.
-fn by_own_starts<R: Reader<Offset = usize>, S: UnwindContextStorage<usize>>(
+/// By the table's own starts: what making them reads, what both calls read, and what the start of
+/// row 1 then reads.
+type ByStarts = Result<(Reads, BySource, Answer<Result<u64, Error>>), Error>;
+
+fn by_starts<R: Reader<Offset = usize>, S: UnwindContextStorage<usize>>(
     of: &Listing<'_, R>,
     context: &mut UnwindContext<usize, S>,
     address: u64,
-) -> Result<[Reads; 2], Error> {
-    let bases = bases();
+) -> ByStarts {
+    let (bases, _before) = (bases(), of.counts.since());
     let mut starts = TableStarts::new(&of.table, &bases)?;
-    Ok(by_source(of, &mut starts, context, address))
+    let made = of.counts.since();
+    let found = by_source(of, &mut starts, context, address);
+    let start = starts.start(1);
+    Ok((made, found, (start, of.counts.since())))
 }
 
 /// By starts that aren't read from the header; and how many starts both calls asked for.
@@ -190,43 +188,27 @@ fn by_list<R: Reader<Offset = usize>, S: UnwindContextStorage<usize>>(
     of: &Listing<'_, R>,
     context: &mut UnwindContext<usize, S>,
     address: u64,
-) -> ([Reads; 2], u32) {
+) -> (BySource, u32) {
     let mut starts = Listed::new(&[0x1000, 0x1010, 0x1020]);
-    let reads = by_source(of, &mut starts, context, address);
-    (reads, starts.made)
+    let found = by_source(of, &mut starts, context, address);
+    (found, starts.made)
 }
 
 /// By a table that was checked.
+type ByChecked = Option<Answer<Result<Range, Error>>>;
+
 fn by_checked_table<R: Reader<Offset = usize>, S: UnwindContextStorage<usize>>(
     of: &Listing<'_, R>,
     context: &mut UnwindContext<usize, S>,
     address: u64,
-) -> Option<Reads> {
+) -> ByChecked {
     let bases = bases();
     let Ok(checked) = FaithfulTable::new(&of.table, of.frame, &bases) else {
         return None;
     };
     let _before = of.counts.since();
-    let _row = checked_row(&checked, context, address);
-    Some(of.counts.since())
-}
-
-/// By the FDE at an offset of the section, and then its row.
-fn by_offset<R: Reader<Offset = usize>, S: UnwindContextStorage<usize>>(
-    of: &Listing<'_, R>,
-    context: &mut UnwindContext<usize, S>,
-    offset: usize,
-    address: u64,
-) -> Result<[Reads; 2], Error> {
-    let bases = bases();
-    let _before = of.counts.since();
-    let get_cie = EhFrame::cie_from_offset;
-    let fde = of
-        .frame
-        .fde_from_offset(&bases, EhFrameOffset(offset), get_cie)?;
-    let read = of.counts.since();
-    let _row = fde.unwind_info_for_address(of.frame, &bases, context, address);
-    Ok([read, of.counts.since()])
+    let row = range_of(checked.row(context, address));
+    Some((row, of.counts.since()))
 }
 
 /// By a header that isn't parsed yet.
@@ -236,80 +218,76 @@ fn by_header<R: Reader<Offset = usize>, S: UnwindContextStorage<usize>>(
     counts: &Counts<'_>,
     context: &mut UnwindContext<usize, S>,
     address: u64,
-) -> Reads {
+) -> Answer<Result<Range, Error>> {
     let header = EhFrameHdr::from(header);
     let _before = counts.since();
-    let _row = row_by_header(&header, 8, frame, &bases(), context, address);
-    counts.since()
+    let row = range_of(row_by_header(&header, 8, frame, &bases(), context, address));
+    (row, counts.since())
 }
 
-/// What each call by the table reads for an address.
-type ByTable = (
-    [Reads; 3],
-    Result<[Reads; 2], Error>,
-    Result<[Reads; 2], Error>,
-    ([Reads; 2], u32),
-    Option<Reads>,
+/// What each call returns and reads for an address.
+type All = (
+    ByTable,
+    ByStarts,
+    (BySource, u32),
+    ByChecked,
+    Answer<Result<Range, Error>>,
 );
 
-fn all_by_table<R: Reader<Offset = usize>, S: UnwindContextStorage<usize>>(
-    of: &Listing<'_, R>,
-    context: &mut UnwindContext<usize, S>,
-    address: u64,
-) -> ByTable {
-    (
-        by_table(of, context, address),
-        by_starts(of),
-        by_own_starts(of, context, address),
-        by_list(of, context, address),
-        by_checked_table(of, context, address),
-    )
-}
-
-/// The same; by the FDE at 44 and then its row; and by the header.
-type AllReads = (ByTable, Result<[Reads; 2], Error>, Reads);
-
-fn all_reads<R: Reader<Offset = usize>, S: UnwindContextStorage<usize>>(
+fn all<R: Reader<Offset = usize>, S: UnwindContextStorage<usize>>(
     header: R,
     frame: &EhFrame<R>,
     counts: &Counts<'_>,
     context: &mut UnwindContext<usize, S>,
     address: u64,
-) -> Result<AllReads, Error> {
+) -> Result<All, Error> {
     let by_header = by_header(header, frame, counts, context, address);
-    let parsed = read_header(header, &bases(), 8)?;
+    let parsed = read_header(header)?;
     let of = Listing {
         table: table_of(&parsed)?,
         frame,
         counts,
     };
-    let by_table = all_by_table(&of, context, address);
-    Ok((by_table, by_offset(&of, context, 44, address), by_header))
+    Ok((
+        by_table(&of, context, address),
+        by_starts(&of, context, address),
+        by_list(&of, context, address),
+        by_checked_table(&of, context, address),
+        by_header,
+    ))
 }
 
-fn counting<'a>(bytes: &'a [u8], reads: &'a Cell<u32>) -> Counted<'a, Slice<'a>> {
-    Counted {
-        inner: EndianSlice::new(bytes, LittleEndian),
-        reads,
-    }
+fn counting<'a, R>(inner: R, reads: &'a Cell<u32>) -> Counted<'a, R> {
+    Counted { inner, reads }
 }
 
-/// The same from the bytes of a header and of a section.
-fn all_reads_in<S: UnwindContextStorage<usize>>(
-    header: &[u8],
-    section: &[u8],
+/// The same from readers that are counted.
+fn all_of<R: Reader<Offset = usize>, S: UnwindContextStorage<usize>>(
+    section: R,
+    header: R,
+    counts: &Counts<'_>,
     context: &mut UnwindContext<usize, S>,
     address: u64,
-) -> Result<AllReads, Error> {
+) -> Result<All, Error> {
+    let header = counting(header, counts.of_header);
+    let frame = EhFrame::from(counting(section, counts.of_section));
+    all(header, &frame, counts, context, address)
+}
+
+/// The same with fresh counts.
+fn all_counted<R: Reader<Offset = usize>, S: UnwindContextStorage<usize>>(
+    section: R,
+    header: R,
+    context: &mut UnwindContext<usize, S>,
+    address: u64,
+) -> Result<All, Error> {
     let of_header = Cell::new(0u32);
     let of_section = Cell::new(0u32);
     let counts = Counts {
         of_header: &of_header,
         of_section: &of_section,
     };
-    let header = counting(header, counts.of_header);
-    let frame = EhFrame::from(counting(section, counts.of_section));
-    all_reads(header, &frame, &counts, context, address)
+    all_of(section, header, &counts, context, address)
 }
 
 /// The FDE's length and id; its CIE's length, id and version, two letters with the zero after them
@@ -326,111 +304,34 @@ const HEAD: u32 = 6;
 /// Two starts, which is as many as halving three rows takes, and a target.
 const SEARCH: u32 = 2 + 1;
 
-/// What the calls read for 0x1018, whose row is the second of the FDE at 44.
-const ALL_READS: Result<AllReads, Error> = Ok((
+const TARGET: Result<Pointer, Error> = Ok(Pointer::Direct(0x202c));
+
+const ROW: Result<Range, Error> = Ok((0x1011, 0x1020));
+
+/// What the calls return and read for 0x1018, whose row is the second of the FDE at 44.
+const ALL: Result<All, Error> = Ok((
     (
-        [(SEARCH, 0), (SEARCH, FDE), (SEARCH, FDE + ROWS)],
-        Ok([(0, 0), (1, 0)]),
-        Ok([(SEARCH, 0), (SEARCH, FDE + ROWS)]),
-        ([(1, 0), (1, FDE + ROWS)], 4),
-        Some((SEARCH, FDE + ROWS)),
+        (TARGET, (SEARCH, 0)),
+        ((Ok(44), 1), (SEARCH, FDE)),
+        ((Ok(0x1011), 1), (SEARCH, FDE + ROWS)),
     ),
-    Ok([(0, FDE), (0, ROWS)]),
-    (HEAD + SEARCH, FDE + ROWS),
+    Ok((
+        (0, 0),
+        ((TARGET, (SEARCH, 0)), (ROW, (SEARCH, FDE + ROWS))),
+        (Ok(0x1010), (1, 0)),
+    )),
+    (((TARGET, (1, 0)), (ROW, (1, FDE + ROWS))), 4),
+    Some((ROW, (SEARCH, FDE + ROWS))),
+    (ROW, (HEAD + SEARCH, FDE + ROWS)),
 ));
 
 /// Checks those numbers.
-pub(crate) fn what_each_call_reads<S: UnwindContextStorage<usize>>(
+pub(crate) fn what_each_call_reads<R: Reader<Offset = usize>, S: UnwindContextStorage<usize>>(
     rt: &impl Abort,
+    section: R,
+    header: R,
     context: &mut UnwindContext<usize, S>,
 ) {
-    let found = all_reads_in(&HEADER, &SECTION, context, 0x1018);
-    assert_eq!(rt; found, ALL_READS);
-}
-
-/// How many numbers of the header `lookup` reads for an address, and how many `row_by_table`, with
-/// an empty section.
-fn reads_for<S: UnwindContextStorage<usize>>(
-    header: &[u8],
-    context: &mut UnwindContext<usize, S>,
-    address: u64,
-) -> Result<(u32, u32), Error> {
-    let ((by_table, _, by_starts, _, _), _, _) = all_reads_in(header, &[], context, address)?;
-    Ok((by_table[0].0, by_starts?[1].0))
-}
-
-/// The most numbers that either call reads for one of these addresses.
-fn most_reads<S: UnwindContextStorage<usize>>(
-    header: &[u8],
-    context: &mut UnwindContext<usize, S>,
-) -> Result<u32, Error> {
-    let mut most = 0u32;
-    for address in [0u64, 1, 4000, 8001, 15999, 16000, 40000, 70000] {
-        let (looked_up, by_table) = reads_for(header, context, address)?;
-        most = most.max(looked_up).max(by_table);
-    }
-    Ok(most)
-}
-
-/// Writes a header of a thousand rows, whose starts are the multiples of a factor without their
-/// upper bits.
-fn write_rows(header: &mut Vec<u8>, factor: u32) -> Result<(), AllocError> {
-    header.extend_from_slice(&[1, 3, 3, 3, 0, 0, 0, 0, 0xe8, 3, 0, 0])?;
-    for row in 0..1000u32 {
-        let start = row.wrapping_mul(factor) % 65536;
-        let both = u64::from(start) | (u64::from(row) << 32);
-        header.extend_from_slice(&both.to_le_bytes())?;
-    }
-    Ok(())
-}
-
-/// The most numbers that a search in those thousand rows reads.
-fn most_in_rows<S: UnwindContextStorage<usize>>(
-    alloc: Global,
-    context: &mut UnwindContext<usize, S>,
-    factor: u32,
-) -> Result<u32, Fail> {
-    let mut header = Vec::new(alloc);
-    write_rows(&mut header, factor)?;
-    Ok(most_reads(&header, context)?)
-}
-
-/// A header with one row.
-const ONE_ROW: [u8; 20] = [1, 3, 3, 3, 0, 0, 0, 0, 1, 0, 0, 0, 0, 1, 0, 0, 0, 2, 0, 0];
-
-/// The length that a header of three rows is cut to, an address, and how many numbers are read: two
-/// starts and the target; the start of the second row, which is the address, and the target; and
-/// the same where the table ends after the second row.
-const OF_THREE: [(usize, u64, Result<(u32, u32), Error>); 3] = [
-    (36, 0x1018, Ok((3, 3))),
-    (36, 0x1010, Ok((2, 2))),
-    (28, 0x1010, Ok((2, 2))),
-];
-
-/// Checks how often the starts of one row and of three are read.
-fn starts_of_few_rows<S: UnwindContextStorage<usize>>(
-    rt: &impl Abort,
-    context: &mut UnwindContext<usize, S>,
-) {
-    let of_one = reads_for(&ONE_ROW, context, 0x180);
-    assert_eq!(rt; of_one, Ok((1, 1)));
-    for (length, address, reads) in &OF_THREE {
-        let header = HEADER.get(..*length).unwrap_or_default();
-        let found = reads_for(header, context, *address);
-        assert_eq!(rt; found, *reads, "{length}: {address}");
-    }
-}
-
-/// Checks those numbers, and that no search in a thousand rows reads more than the eleven that
-/// halving needs, whether their starts are in order or go up and down.
-pub(crate) fn starts_are_read_by_halving<S: UnwindContextStorage<usize>>(
-    rt: &(impl Abort + AllocGlobal),
-    context: &mut UnwindContext<usize, S>,
-) -> Result<(), Fail> {
-    starts_of_few_rows(rt, context);
-    for factor in [16, 40503] {
-        let most = most_in_rows(rt.alloc(), context, factor)?;
-        assert!(rt; most <= 11, "{factor}: {most}");
-    }
-    Ok(())
+    let found = all_counted(section, header, context, 0x1018);
+    expect(rt, "0x1018", &found, &ALL);
 }
