@@ -13,6 +13,7 @@ status is 1 if there was a difference without a rule. Needs readelf 2.40 and eu-
 """
 import argparse
 import collections
+import contextlib
 import os
 import random
 import re
@@ -83,15 +84,16 @@ def changed(random_, data, parts):
 def output_of(words, seconds=20):
     """Status, output and errors; the status is negative where it takes more processor time, and None where it waits for long."""
     environment = {**os.environ, "LC_ALL": "C", "ASAN_OPTIONS": "exitcode=99:detect_leaks=0"}
-
-    def limit():
-        resource.setrlimit(resource.RLIMIT_CPU, (seconds, seconds))
-
-    try:
-        ran = subprocess.run(words, capture_output=True, timeout=100 * seconds, env=environment, stdin=subprocess.DEVNULL, preexec_fn=limit)
-    except subprocess.TimeoutExpired:
-        return None, "", ""
-    return ran.returncode, ran.stdout.decode("latin-1"), ran.stderr.decode("latin-1")
+    pipe = subprocess.PIPE
+    with subprocess.Popen(words, stdout=pipe, stderr=pipe, env=environment, stdin=subprocess.DEVNULL) as child:
+        with contextlib.suppress(ProcessLookupError):
+            resource.prlimit(child.pid, resource.RLIMIT_CPU, (seconds, seconds))
+        try:
+            said, errors = child.communicate(timeout=100 * seconds)
+        except subprocess.TimeoutExpired:
+            child.kill()
+            return None, "", ""
+    return child.returncode, said.decode("latin-1"), errors.decode("latin-1")
 
 
 Fde = collections.namedtuple("Fde", "start end cie rows")
