@@ -6,9 +6,9 @@ use Rattle.std.specs.Option.{option_and_then, option_map}
 use Rattle.clap.specs.Words.{HasKind, Row, Text, fault_of, kind_of}
 use Rattle.clap.specs.declared.error.Error.{Error}
 use Rattle.clap.specs.declared.error.kind.ErrorKind.TheVariants.{OutOfMemory}
-use Rattle.cfi_programs.specs.Lines.{Line}
-use Rattle.cfi_programs.specs.WriterOutput.{Prints, PrintsSome}
-use Rattle.cfi_programs.proofs.WrittenLemmas.{appends_then, keeps_is, none_yet}
+use Rattle.cfi_text.specs.Lines.{Line}
+use Rattle.cfi_text.specs.WriterOutput.{Prints, PrintsSome}
+use Rattle.cfi_text.proofs.WrittenLemmas.{appends_then, keeps_is, none_yet}
 use Rattle.cfi_object.specs.FileInputs.{AreLeft}
 use Rattle.cfi_commands.specs.CommandLine.{cfi_app, command_by_matches}
 use Rattle.cfi_commands.specs.Forms.{Command, format_names}

@@ -2,8 +2,8 @@
 use Rattle.std.proofs.Common.{◌≡◌, ℕ, Bool, codes, is_some, refl, true, false, List, Option, [], ◌∷◌, Some, None}
 use Rattle.std.specs.List.{list_all}
 use Rattle.clap.specs.Words.{Text}
-use Rattle.cfi_programs.specs.declared.style.Format.TheVariants as form
-use Rattle.cfi_programs.specs.declared.style.Format.{Format}
+use Rattle.cfi_text.specs.declared.style.Format.TheVariants as form
+use Rattle.cfi_text.specs.declared.style.Format.{Format}
 use Rattle.cfi_stacks.specs.Choices.{everything}
 use Rattle.cfi_stacks.specs.declared.listing.Listing.TheVariants.{Folded}
 use Rattle.cfi_commands.specs.Folders.{Folders}

@@ -10,8 +10,8 @@ use Rattle.clap.specs.Words.{IsAmong, Text, fault_of}
 use Rattle.clap.specs.declared.error.kind.ErrorKind.{ErrorKind}
 use Rattle.clap.specs.declared.error.kind.ErrorKind.TheVariants.{DisplayHelp, DisplayVersion}
 use Rattle.clap.specs.declared.error.kind.ErrorKind.TheVariants.{OutOfMemory}
-use Rattle.cfi_programs.specs.Lines.{Line}
-use Rattle.cfi_programs.specs.WriterOutput.{IsBeginning}
+use Rattle.cfi_text.specs.Lines.{Line}
+use Rattle.cfi_text.specs.WriterOutput.{IsBeginning}
 use Rattle.cfi_files.specs.FileOutputs.{IsOwed}
 use Rattle.cfi_files.specs.declared.request.Request.{Request}
 use Rattle.cfi_commands.specs.Checks.{AreChecked}

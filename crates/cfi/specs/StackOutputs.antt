@@ -2,7 +2,7 @@
 --     AreProfileStacks disk tree listing choice folders name printed      of a profile
 --     AreThreads disk listing folders name printed      of a core file
 use Rattle.clap.specs.Words.{Text}
-use Rattle.cfi_programs.specs.Lines.{Line}
+use Rattle.cfi_text.specs.Lines.{Line}
 use Rattle.cfi_core_stacks.specs.CoreOutputs.{IsCoreOwed as IsOwedOfCore}
 use Rattle.cfi_stacks.specs.ProfileOutputs.{IsListingOwed as IsOwedOfProfile}
 use Rattle.cfi_stacks.specs.Choices.{Choice}

@@ -13,8 +13,8 @@ use Rattle.cfi_flame.specs.Flames.{Drawing, drawing_view}
 use Rattle.cfi_files.specs.declared.request.Printed.{Printed}
 use Rattle.cfi_files.specs.declared.request.Printed.TheVariants as printing_of_code
 use Rattle.cfi_files.specs.declared.request.Request.{Request}
-use Rattle.cfi_programs.specs.declared.style.Format.{Format}
-use Rattle.cfi_programs.specs.declared.style.Format.TheVariants as form
+use Rattle.cfi_text.specs.declared.style.Format.{Format}
+use Rattle.cfi_text.specs.declared.style.Format.TheVariants as form
 use Rattle.cfi_stacks.specs.Choices.{Choice, choice_view}
 use Rattle.cfi_stacks.specs.declared.listing.Listing.{Listing}
 use Rattle.cfi_stacks.specs.declared.listing.Listing.TheVariants.{Folded, Frames, Json}

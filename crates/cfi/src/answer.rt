@@ -1,6 +1,6 @@
 //! What is printed for a task: of a file, of a profile, of a core file or of folded stacks.
 ghost use Rattle.std.specs.Prelude.{map};
-ghost use Rattle.cfi_programs.specs.WriterOutput.{PrintsSome};
+ghost use Rattle.cfi_text.specs.WriterOutput.{PrintsSome};
 ghost use Rattle.cfi_stacks.specs.Choices.{choice_view};
 ghost use Rattle.cfi_commands.specs.Checks.{AreChecked, AreTalliedChecks};
 ghost use Rattle.cfi_commands.specs.Disks.{disk_of};

@@ -15,8 +15,8 @@ use cfi_commands::{ANY_TIME, CheckStyle, Folders, Mistake, Names, Times, time_of
 use cfi_core_stacks::ThreadListing;
 use cfi_files::{Printed, Request};
 use cfi_flame::Drawing;
-use cfi_programs::style::Format;
 use cfi_stacks::{Choice, Listing};
+use cfi_text::style::Format;
 use clap::ArgMatches;
 
 /// What a command is to do. A file `-` is standard input.

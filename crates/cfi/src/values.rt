@@ -9,8 +9,8 @@ ghost use Rattle.cfi_commands.specs.Values.{text_view, u64_at, value_for};
 ghost use Rattle.cfi.specs.Tasks.{choice_in};
 
 use cfi_commands::{Folders, Times};
-use cfi_programs::style::Format;
 use cfi_stacks::Choice;
+use cfi_text::style::Format;
 use clap::ArgMatches;
 
 /// Returns the values that were given for an option or argument.

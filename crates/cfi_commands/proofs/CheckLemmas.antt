@@ -5,10 +5,10 @@ use Rattle.std.specs.List.{count_by}
 use Rattle.std.specs.Io.KnownBytes.{Appends}
 use Rattle.std.specs.Result.{IsErr}
 use Rattle.clap.specs.Words.{Text}
-use Rattle.cfi_programs.specs.Lines.{Line}
-use Rattle.cfi_programs.specs.WriterOutput.{Writes, PrintsSome}
-use Rattle.cfi_programs.proofs.WrittenLemmas.{appends_then, beginning_then, given_part, none_yet, writes_refused}
-use Rattle.cfi_programs.proofs.DumpSectionWritten.{first_refused, last_written}
+use Rattle.cfi_text.specs.Lines.{Line}
+use Rattle.cfi_text.specs.WriterOutput.{Writes, PrintsSome}
+use Rattle.cfi_text.proofs.WrittenLemmas.{appends_then, beginning_then, given_part, none_yet, writes_refused}
+use Rattle.cfi_text.proofs.PartsWritten.{first_refused, last_written}
 use Rattle.cfi_files.specs.FileLines.{file_label, under}
 use Rattle.cfi_object.specs.FileInputs.{AreLeft}
 use Rattle.cfi_files.specs.Findings.{ChecksSome, found_line, has_table, is_faithful}
@@ -17,7 +17,7 @@ use Rattle.cfi_files.specs.declared.finding.Finding.TheVariants.{Unreadable}
 use Rattle.cfi_commands.specs.declared.checks.CheckStyle.{CheckStyle}
 use Rattle.cfi_commands.specs.Findings.{greatest_status, of_elf_alone, tally_in}
 use Rattle.cfi_commands.specs.Trees.{Tree}
-use Rattle.cfi_programs.specs.declared.style.Format.{Format}
+use Rattle.cfi_text.specs.declared.style.Format.{Format}
 use Rattle.cfi_commands.specs.Targets.{Names, Target, found as found_target, named, unread}
 use Rattle.cfi_commands.specs.OpenedFiles.{no_line}
 use Rattle.cfi_commands.specs.Checks.{AreChecked, AreChecks, AreTalliedChecks, AreTargets, Checks, ChecksStyled, IsFileCheck, IsOpenedCheck, IsTargetCheck, WritesChecks, kept, no_checks, tallied, tally_line, with_check}

@@ -4,9 +4,9 @@ use Rattle.std.specs.Prelude.{MatchResult}
 use Rattle.cfi_object.specs.FileInputs.{AreLeft}
 use Rattle.cfi_object.specs.declared.input.InputError.{InputError}
 use Rattle.cfi_inputs.specs.Refusals.{input_refusal}
-use Rattle.cfi_programs.specs.Lines.{Line}
-use Rattle.cfi_programs.specs.WriterOutput.{Prints, PrintsSome}
-use Rattle.cfi_programs.specs.declared.style.Format.{Format}
+use Rattle.cfi_text.specs.Lines.{Line}
+use Rattle.cfi_text.specs.WriterOutput.{Prints, PrintsSome}
+use Rattle.cfi_text.specs.declared.style.Format.{Format}
 
 left_is : (known : Option (List ℕ)) → AreLeft known (unwrap_or known [])
 left_is None = tt

@@ -5,7 +5,7 @@ use Rattle.std.specs.List.{flat_map}
 use Rattle.cfi_flame.specs.declared.functions.Function.{Function}
 use Rattle.cfi_flame.specs.Functions.{row_view}
 use Rattle.cfi_flame.proofs.ReportLemmas.{next_row}
-use Rattle.cfi_programs.proofs.WrittenLemmas.{IsGiven}
+use Rattle.cfi_text.proofs.WrittenLemmas.{IsGiven}
 use Rattle.cfi_commands.specs.FunctionObjects.{function_object}
 
 pub next_object : (old now : Option (List ℕ)) (rows : List Function) (k : ℕ) (d : Function) (whole : List ℕ) → k < length rows → IsGiven old now (flat_map function_object (drop k (map row_view rows))) whole →

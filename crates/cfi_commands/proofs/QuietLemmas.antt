@@ -4,9 +4,9 @@ use Rattle.std.proofs.lemmas.Result.{IfOk-from_err}
 use Rattle.std.specs.Io.KnownBytes.{Appends}
 use Rattle.std.specs.Result.{IsErr}
 use Rattle.clap.specs.Words.{Text}
-use Rattle.cfi_programs.specs.Lines.{Line}
-use Rattle.cfi_programs.specs.WriterOutput.{IsBeginning}
-use Rattle.cfi_programs.proofs.WrittenLemmas.{none_yet, writes_refused}
+use Rattle.cfi_text.specs.Lines.{Line}
+use Rattle.cfi_text.specs.WriterOutput.{IsBeginning}
+use Rattle.cfi_text.proofs.WrittenLemmas.{none_yet, writes_refused}
 use Rattle.cfi_files.specs.FileOutputs.{ChecksNamed}
 use Rattle.cfi_files.specs.declared.finding.Finding.{Finding}
 use Rattle.cfi_files.specs.declared.finding.Finding.TheVariants.{Faithful, NoTable, OtherFile, Unfaithful, Unreadable}

@@ -6,7 +6,7 @@ use Rattle.std.specs.Str.{chars}
 use Rattle.clap.specs.Words.{Text, fault_of}
 use Rattle.clap.specs.declared.error.kind.ErrorKind.TheVariants.{DisplayHelp, DisplayVersion, InvalidSubcommand}
 use Rattle.clap.proofs.OnLiterals.{clap_on_literals}
-use Rattle.cfi_programs.specs.declared.style.Format.TheVariants as form
+use Rattle.cfi_text.specs.declared.style.Format.TheVariants as form
 use Rattle.hex.specs.Hex.{encode_with}
 use Rattle.cfi_commands.specs.CommandLine.{cfi_app}
 use Rattle.cfi_commands.specs.Disks.{path_of}

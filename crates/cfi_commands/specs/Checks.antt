@@ -4,9 +4,9 @@ use Rattle.std.specs.Prelude.{◌≡◌, ◌⊎◌, ℕ, Bool, List, [], ◌∷�
 use Rattle.std.specs.Prelude.{Result, Vec, IfOk, if◌then◌else◌}
 use Rattle.std.specs.List.{count_by}
 use Rattle.clap.specs.Words.{Text}
-use Rattle.cfi_programs.specs.Lines.{Line}
-use Rattle.cfi_programs.specs.WriterOutput.{Writes}
-use Rattle.cfi_programs.specs.declared.style.Format.{Format}
+use Rattle.cfi_text.specs.Lines.{Line}
+use Rattle.cfi_text.specs.WriterOutput.{Writes}
+use Rattle.cfi_text.specs.declared.style.Format.{Format}
 use Rattle.cfi_object.specs.FileInputs.{AreLeft}
 use Rattle.cfi_files.specs.FileOutputs.{IsNamedCheck}
 use Rattle.cfi_files.specs.Findings.{ChecksSome, has_table, is_faithful}

@@ -1,9 +1,9 @@
 -- What a check of files found, and the line that counts it.
 use Rattle.std.specs.Prelude.{ℕ, Bool, true, false, List, ◌++◌, codes, fold, max}
 use Rattle.std.specs.Fmt.{decimal}
-use Rattle.cfi_programs.specs.JsonTexts.{json_number}
-use Rattle.cfi_programs.specs.declared.style.Format.{Format}
-use Rattle.cfi_programs.specs.declared.style.Format.TheVariants.{Text, Json}
+use Rattle.cfi_text.specs.JsonTexts.{json_number}
+use Rattle.cfi_text.specs.declared.style.Format.{Format}
+use Rattle.cfi_text.specs.declared.style.Format.TheVariants.{Text, Json}
 use Rattle.cfi_files.specs.declared.finding.Finding.{Finding}
 use Rattle.cfi_files.specs.declared.finding.Finding.TheVariants.{Faithful, OtherFile}
 use Rattle.cfi_files.specs.Findings.{finding_status}

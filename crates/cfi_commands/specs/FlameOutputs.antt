@@ -10,10 +10,10 @@ use Rattle.cfi_flame.specs.Rankings.{IsRanking, IsReportRefused}
 use Rattle.cfi_flame.specs.declared.folded.FoldedError.{FoldedError}
 use Rattle.cfi_flame.specs.declared.folded.FoldedError.TheVariants.{OutOfMemory, NotFolded}
 use Rattle.cfi_flame.specs.declared.folded.FoldedError.TheVariants.{NoSamples, TooManySamples}
-use Rattle.cfi_programs.specs.Lines.{Line, line}
-use Rattle.cfi_programs.specs.Refusals.{reason_line, refusal_saying}
-use Rattle.cfi_programs.specs.declared.style.Format.{Format}
-use Rattle.cfi_programs.specs.declared.style.Format.TheVariants.{Text, Json}
+use Rattle.cfi_text.specs.Lines.{Line, line}
+use Rattle.cfi_text.specs.Refusals.{reason_line, refusal_saying}
+use Rattle.cfi_text.specs.declared.style.Format.{Format}
+use Rattle.cfi_text.specs.declared.style.Format.TheVariants.{Text, Json}
 use Rattle.cfi_commands.specs.FunctionObjects.{not_folded_object, objects_text}
 use Rattle.cfi_commands.specs.declared.flames.Summary.{Summary}
 use Rattle.cfi_commands.specs.declared.flames.Summary.TheVariants.{FlameGraph, Report}

@@ -3,7 +3,7 @@
 use Rattle.std.specs.Prelude.{ℕ, List, [], ◌∷◌, ◌++◌, codes}
 use Rattle.std.specs.List.{flat_map}
 use Rattle.cfi_flame.specs.Functions.{FunctionRow}
-use Rattle.cfi_programs.specs.JsonTexts.{json_escaped, json_number}
+use Rattle.cfi_text.specs.JsonTexts.{json_escaped, json_number}
 
 abbrev pub samples_object : ℕ → List ℕ
 samples_object all = codes "{\"samples\":" ++ (json_number all ++ (codes "}" ++ 10 ∷ []))

@@ -4,7 +4,7 @@
 --     IsOutputOfNamed disk name IsRight printed      of the file that the words name
 use Rattle.std.specs.Prelude.{◌≡◌, ℕ, List, [], Option, Some, None}
 use Rattle.clap.specs.Words.{Text}
-use Rattle.cfi_programs.specs.Lines.{Line}
+use Rattle.cfi_text.specs.Lines.{Line}
 use Rattle.cfi_object.specs.FileInputs.{AreLeft}
 use Rattle.cfi_commands.specs.Disks.{Disk, MayOpenNamed}
 

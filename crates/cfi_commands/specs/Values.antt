@@ -11,8 +11,8 @@ use Rattle.std.specs.Str.{bytes_eq}
 use Rattle.std.specs.Str.Parse.{digits_value, without_leading_plus}
 use Rattle.clap.specs.ValueTests.{is_numeral}
 use Rattle.clap.specs.Words.{Text}
-use Rattle.cfi_programs.specs.declared.style.Format.{Format}
-use Rattle.cfi_programs.specs.declared.style.Format.TheVariants as form
+use Rattle.cfi_text.specs.declared.style.Format.{Format}
+use Rattle.cfi_text.specs.declared.style.Format.TheVariants as form
 use Rattle.cfi_commands.specs.Folders.{Folders}
 
 -- the values at the name of each option and argument

@@ -2,15 +2,15 @@
 ghost use Rattle.std.specs.Prelude.{◌≡◌, ◌++◌, OnOk, codes, map};
 ghost use Rattle.std.specs.List.{flat_map};
 ghost use Rattle.cfi_flame.specs.Functions.{row_view};
-ghost use Rattle.cfi_programs.specs.JsonTexts.{json_number};
-ghost use Rattle.cfi_programs.specs.WriterOutput.{Writes};
+ghost use Rattle.cfi_text.specs.JsonTexts.{json_number};
+ghost use Rattle.cfi_text.specs.WriterOutput.{Writes};
 ghost use Rattle.cfi_commands.specs.FunctionObjects.{counts_members, function_object, objects_text};
 ghost use Rattle.cfi_commands.specs.FunctionObjects.{not_folded_object, samples_object};
 
 use cfi_flame::functions::Function;
-use cfi_programs::json::{push_number, write_escaped};
-use cfi_programs::lines::write_text;
-use cfi_programs::text::{Text, push};
+use cfi_text::json::{push_number, write_escaped};
+use cfi_text::lines::write_text;
+use cfi_text::text::{Text, push};
 use std::io::Write;
 use std::{fmt, io};
 

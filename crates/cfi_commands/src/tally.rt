@@ -1,15 +1,15 @@
 //! The count of what a check of several files found, and its line.
 ghost use Rattle.std.specs.Prelude.{◌≡◌, ◌++◌, [], ◌∷◌, OnOk, Some, length};
 ghost use Rattle.std.specs.List.{count_by};
-ghost use Rattle.cfi_programs.specs.WriterOutput.{Writes};
+ghost use Rattle.cfi_text.specs.WriterOutput.{Writes};
 ghost use Rattle.cfi_files.specs.Findings.{has_table, is_faithful};
 ghost use Rattle.cfi_commands.specs.Findings.{tally_in, tally_object, tally_text};
 
 use cfi_files::Finding;
-use cfi_programs::json::push_number;
-use cfi_programs::lines::{write_part, write_text};
-use cfi_programs::style::Format;
-use cfi_programs::text::{Text, push};
+use cfi_text::json::push_number;
+use cfi_text::lines::{write_part, write_text};
+use cfi_text::style::Format;
+use cfi_text::text::{Text, push};
 use std::io::Write;
 use std::{fmt, io};
 

@@ -46,8 +46,8 @@ use Rattle.cfi_elf.specs.Images.{Image, IsImageOf}
 use Rattle.cfi_object.specs.declared.input.InputError.{InputError}
 use Rattle.cfi_object.specs.FileParts.{AreOfInput}
 use Rattle.cfi_inputs.specs.Refusals.{input_refusal}
-use Rattle.cfi_programs.specs.Lines.{Line}
-use Rattle.cfi_programs.specs.WriterOutput.{Prints, PrintsSome}
+use Rattle.cfi_text.specs.Lines.{Line}
+use Rattle.cfi_text.specs.WriterOutput.{Prints, PrintsSome}
 use Rattle.cfi_processes.specs.declared.opened_file.OpenedFile.{OpenedFile}
 use Rattle.cfi_processes.specs.OpenedFiles.{AreOpenedAs}
 use Rattle.cfi_processes.specs.FileReads.{AreOpened}

@@ -14,9 +14,9 @@ use Rattle.cfi_processes.specs.declared.registers.SampleMachine.{SampleMachine}
 use Rattle.cfi_processes.specs.KnownFiles.{KnownFile}
 use Rattle.cfi_processes.specs.Registers.{pc_number}
 use Rattle.cfi_processes.specs.SampleStacks.{WalkRoom}
-use Rattle.cfi_programs.specs.WriterOutput.{IsBeginning, Prints, PrintsSome}
-use Rattle.cfi_programs.proofs.WrittenLemmas.{appends_then, beginning_then, none_yet, writes_refused}
-use Rattle.cfi_programs.proofs.DumpSectionWritten.{last_written}
+use Rattle.cfi_text.specs.WriterOutput.{IsBeginning, Prints, PrintsSome}
+use Rattle.cfi_text.proofs.WrittenLemmas.{appends_then, beginning_then, none_yet, writes_refused}
+use Rattle.cfi_text.proofs.PartsWritten.{last_written}
 use Rattle.cfi_core_stacks.specs.CoreOutputs.{AreOfThreads, AreThreadsPrinted, core_ended}
 use Rattle.cfi_frames.specs.Sequences.{AreOfAll}
 use Rattle.cfi_core_stacks.specs.ThreadOutputs.{IsThreadText}

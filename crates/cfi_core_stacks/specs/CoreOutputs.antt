@@ -5,13 +5,13 @@
 --         bytes, whose files may be opened so
 use Rattle.std.specs.Prelude.{◌≡◌, ◌⊎◌, ℕ, Bool, true, false, List, ◌++◌, Option, Some, None}
 use Rattle.std.specs.Prelude.{Result, Ok, Err, codes, not, take}
-use Rattle.cfi_programs.specs.declared.style.Format.{Format}
+use Rattle.cfi_text.specs.declared.style.Format.{Format}
 use Rattle.cfi_object.specs.FileInputs.{AreLeft}
 use Rattle.cfi_object.specs.declared.input.InputError.{InputError}
 use Rattle.cfi_inputs.specs.Refusals.{input_refusal}
-use Rattle.cfi_programs.specs.Lines.{Line}
-use Rattle.cfi_programs.specs.Refusals.{reason_line as why_line, refusal_saying}
-use Rattle.cfi_programs.specs.WriterOutput.{PrintsSome}
+use Rattle.cfi_text.specs.Lines.{Line}
+use Rattle.cfi_text.specs.Refusals.{reason_line as why_line, refusal_saying}
+use Rattle.cfi_text.specs.WriterOutput.{PrintsSome}
 use Rattle.cfi_processes.specs.KnownFiles.{KnownFile}
 use Rattle.cfi_processes.specs.OpenedFiles.{Opened}
 use Rattle.cfi_processes.specs.ProfileFiles.{AreProfileFilesOf}

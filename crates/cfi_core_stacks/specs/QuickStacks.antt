@@ -13,7 +13,7 @@ use Rattle.cfi_expression.specs.declared.error.FrameError.TheVariants.{Unreadabl
 use Rattle.cfi_processes.specs.declared.registers.SampleMachine.{SampleMachine}
 use Rattle.cfi_processes.specs.declared.registers.SampleMachine.TheVariants.{X86_64, AArch64}
 use Rattle.cfi_processes.specs.declared.sample_stack.NoFrames.{NoFrames}
-use Rattle.cfi_programs.specs.Lines.{Line}
+use Rattle.cfi_text.specs.Lines.{Line}
 use Rattle.cfi_core_stacks.specs.declared.core_quick.Quick.{Quick}
 use Rattle.cfi_core_stacks.specs.MissingFrames.{lacks_frames}
 use Rattle.cfi_step.specs.declared.walk.End.{End}

@@ -2,8 +2,8 @@
 --     thread_head tid signal fault name      these members
 use Rattle.std.specs.Prelude.{ℕ, ◌==◌, List, [], ◌++◌, Option, Some, None, codes, if◌then◌else◌}
 use Rattle.cfi_cores.specs.declared.fault.Fault.{Fault}
-use Rattle.cfi_programs.specs.JsonTexts.{json_name, json_number}
-use Rattle.cfi_programs.specs.Lines.{address_text}
+use Rattle.cfi_text.specs.JsonTexts.{json_name, json_number}
+use Rattle.cfi_text.specs.Lines.{address_text}
 use Rattle.cfi_core_stacks.specs.Signals.{signal_name}
 
 -- ---- what comes before the frames of a thread of a core file

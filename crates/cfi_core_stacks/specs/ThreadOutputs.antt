@@ -10,7 +10,7 @@ use Rattle.cfi_processes.specs.declared.registers.SampleMachine.{SampleMachine}
 use Rattle.cfi_processes.specs.declared.sample_stack.NoFrames.{NoFrames}
 use Rattle.cfi_processes.specs.KnownFiles.{KnownFile}
 use Rattle.cfi_cores.specs.CoreThreads.{CoreThread}
-use Rattle.cfi_programs.specs.JsonTexts.{separated}
+use Rattle.cfi_text.specs.JsonTexts.{separated}
 use Rattle.cfi_core_stacks.specs.declared.listing.ThreadListing.{ThreadListing}
 use Rattle.cfi_frames.specs.FrameObjects.{object_end}
 use Rattle.cfi_frames.specs.Outputs.{in_format}

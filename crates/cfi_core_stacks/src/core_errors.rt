@@ -1,11 +1,11 @@
 //! Lines that say why a core file, or the rest of its notes, can't be read.
 ghost use Rattle.std.specs.Prelude.{[]};
-ghost use Rattle.cfi_programs.specs.WriterOutput.{Prints};
+ghost use Rattle.cfi_text.specs.WriterOutput.{Prints};
 ghost use Rattle.cfi_core_stacks.specs.CoreOutputs.{core_ended, core_refusal};
 
 use cfi_cores::CoreError;
-use cfi_programs::refusals::write_refused_name;
-use cfi_programs::style::Format;
+use cfi_text::refusals::write_refused_name;
+use cfi_text::style::Format;
 use std::io;
 use std::io::Write;
 

@@ -4,7 +4,7 @@ ghost use Rattle.cfi_cores.specs.CoreThreads.{thread_view};
 ghost use Rattle.cfi_processes.specs.KnownFiles.{known_view};
 ghost use Rattle.cfi_processes.specs.Mappings.{AreMappedInOrder};
 ghost use Rattle.cfi_processes.specs.ThreadNames.{name_bytes};
-ghost use Rattle.cfi_programs.specs.WriterOutput.{Writes};
+ghost use Rattle.cfi_text.specs.WriterOutput.{Writes};
 ghost use Rattle.cfi_core_stacks.specs.ThreadOutputs.{thread_object};
 
 use crate::thread_members::write_thread_head;

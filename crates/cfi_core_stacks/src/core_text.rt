@@ -2,7 +2,7 @@
 ghost use Rattle.std.specs.Prelude.{◌≡◌, ◌≤◌, ℕ, IfOk, List, length, map};
 ghost use Rattle.cfi_cores.specs.CoreMemories.{memory_view, memory_number};
 ghost use Rattle.cfi_cores.specs.CoreThreads.{thread_view};
-ghost use Rattle.cfi_programs.specs.WriterOutput.{Writes};
+ghost use Rattle.cfi_text.specs.WriterOutput.{Writes};
 ghost use Rattle.cfi_processes.specs.FileModules.{AreModulesOfFiles};
 ghost use Rattle.cfi_processes.specs.KnownFiles.{known_view};
 ghost use Rattle.cfi_processes.specs.ProcessModules.{modules_in};
@@ -25,9 +25,9 @@ use cfi_frames::walk_lines::print_walk;
 use cfi_processes::Name;
 use cfi_processes::process_code::ProcessCode;
 use cfi_processes::sample_stack::NoFrames;
-use cfi_programs::lines::write_text;
-use cfi_programs::style::Format;
 use cfi_step::{StackFrame, Walk};
+use cfi_text::lines::write_text;
+use cfi_text::style::Format;
 use std::io;
 use std::io::Write;
 

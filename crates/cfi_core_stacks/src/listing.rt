@@ -1,5 +1,5 @@
 //! How the stacks of a core file are printed.
-use cfi_programs::style::Format;
+use cfi_text::style::Format;
 
 /// How the stacks of a core file are printed, and of which threads.
 #[derive(Clone, Copy, Debug)]

@@ -2,7 +2,7 @@
 ghost use Rattle.std.specs.Prelude.{◌≡◌, ◌++◌, OnOk, option_map};
 ghost use Rattle.cfi_cores.specs.CoreThreads.{thread_view};
 ghost use Rattle.cfi_processes.specs.ThreadNames.{name_bytes};
-ghost use Rattle.cfi_programs.specs.WriterOutput.{Writes};
+ghost use Rattle.cfi_text.specs.WriterOutput.{Writes};
 ghost use Rattle.cfi_core_stacks.specs.ThreadMembers.{fault_members, process_member};
 ghost use Rattle.cfi_core_stacks.specs.ThreadMembers.{signal_members};
 ghost use Rattle.cfi_core_stacks.specs.ThreadMembers.{signal_name_member, thread_head};
@@ -11,11 +11,11 @@ ghost use Rattle.cfi_core_stacks.specs.ThreadMembers.{tid_and_signal};
 use crate::signals::signal_name;
 use cfi_cores::{CoreThread, Fault};
 use cfi_processes::Name;
-use cfi_programs::json::push_number;
-use cfi_programs::lines::write_text;
-use cfi_programs::names::write_name_member;
-use cfi_programs::numbers::push_address;
-use cfi_programs::text::{Text, push};
+use cfi_text::json::push_number;
+use cfi_text::lines::write_text;
+use cfi_text::names::write_name_member;
+use cfi_text::numbers::push_address;
+use cfi_text::text::{Text, push};
 use std::io::Write;
 use std::{fmt, io};
 

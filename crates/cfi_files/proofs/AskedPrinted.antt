@@ -1,6 +1,6 @@
 -- What stands before the answers to words, by computation.
 use Rattle.std.proofs.Common.{◌≡◌, [], Some, None, true, false, refl, codes}
-use Rattle.cfi_programs.specs.declared.style.Format.TheVariants.{Text, Json}
+use Rattle.cfi_text.specs.declared.style.Format.TheVariants.{Text, Json}
 use Rattle.cfi_files.specs.Asked.{asked_text}
 use Rattle.std.specs.Fmt.{digits}
 

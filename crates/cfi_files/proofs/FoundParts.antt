@@ -1,9 +1,9 @@
 -- Sections that were found, and what is printed of them.
 use Rattle.std.proofs.Common.{inr, refl, ℕ, List, Result, Ok, Err}
 use Rattle.cfi_elf.specs.declared.error.ElfError.{ElfError}
-use Rattle.cfi_programs.specs.Lines.{Line}
-use Rattle.cfi_programs.specs.DumpProgramOutput.{printed_format}
-use Rattle.cfi_programs.specs.declared.style.Format.TheVariants.{Text}
+use Rattle.cfi_text.specs.Lines.{Line}
+use Rattle.cfi_dump.specs.DumpProgramOutput.{printed_format}
+use Rattle.cfi_text.specs.declared.style.Format.TheVariants.{Text}
 use Rattle.cfi_object.specs.declared.register_names.RegisterNames.{RegisterNames}
 use Rattle.gimli_cfi.specs.SectionSources.{GivenSection}
 use Rattle.cfi_files.specs.declared.sections.SectionPrinted.{SectionPrinted}

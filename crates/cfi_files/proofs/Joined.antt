@@ -2,12 +2,12 @@
 use Rattle.std.proofs.Common.{◌≡◌, ℕ, List, Option, Some, None, Result, Ok, Err, IfOk, [], ◌∷◌, ◌++◌, append_assoc, codes, refl, sym, subst, max, unwrap_or}
 use Rattle.std.specs.Result.{IsErr}
 use Rattle.std.specs.Io.KnownBytes.{Appends}
-use Rattle.cfi_programs.specs.Lines.{Line}
-use Rattle.cfi_programs.specs.WriterOutput.{IsBeginning, Prints, Writes, PrintsSome}
-use Rattle.cfi_programs.specs.JsonLines.{json_section}
+use Rattle.cfi_text.specs.Lines.{Line}
+use Rattle.cfi_text.specs.WriterOutput.{IsBeginning, Prints, Writes, PrintsSome}
+use Rattle.cfi_dump.specs.JsonLines.{json_section}
 use Rattle.cfi_read_core.specs.ReaderCalls.{map_ok}
-use Rattle.cfi_programs.proofs.WrittenLemmas.{appends_then}
-use Rattle.cfi_programs.proofs.DumpSectionWritten.{first_refused, last_written}
+use Rattle.cfi_text.proofs.WrittenLemmas.{appends_then}
+use Rattle.cfi_text.proofs.PartsWritten.{first_refused, last_written}
 use Rattle.cfi_object.specs.FileInputs.{AreLeft}
 use Rattle.cfi_files.specs.FileLines.{InTurn, IsUnder, in_turn, under}
 use Rattle.cfi_files.specs.Findings.{ChecksSome}

@@ -5,7 +5,7 @@ use Rattle.cfi_elf.specs.declared.error.ElfError.TheVariants.{Relocatable}
 use Rattle.cfi_elf.specs.ElfFiles.{File, elf_file, elf_file_of}
 use Rattle.cfi_elf.specs.Images.{Image, IsImageOf, IsRead}
 use Rattle.cfi_elf.proofs.FileImages.{file_found, file_refused}
-use Rattle.cfi_programs.specs.WriterOutput.{Prints, PrintsSome}
+use Rattle.cfi_text.specs.WriterOutput.{Prints, PrintsSome}
 use Rattle.cfi_object.specs.NeededParts.{IsEnoughOf}
 use Rattle.cfi_files.specs.declared.request.Request.{Request}
 use Rattle.cfi_files.specs.FileLines.{elf_refusal}

@@ -2,9 +2,9 @@
 use Rattle.std.proofs.Common.{◌≡◌, ◌∙◌, ℕ, List, Option, Result, [], ◌∷◌, ◌++◌, append_assoc, ap, codes, subst, sym}
 use Rattle.std.specs.Result.{IsErr}
 use Rattle.std.specs.Io.KnownBytes.{Appends}
-use Rattle.cfi_programs.specs.CheckLines.{reasoned}
-use Rattle.cfi_programs.specs.WriterOutput.{IsBeginning, Writes}
-use Rattle.cfi_programs.proofs.DumpSectionWritten.{first_refused, last_written}
+use Rattle.cfi_dump.specs.CheckLines.{reasoned}
+use Rattle.cfi_text.specs.WriterOutput.{IsBeginning, Writes}
+use Rattle.cfi_text.proofs.PartsWritten.{first_refused, last_written}
 use Rattle.cfi_files.specs.Findings.{refused}
 
 module _ {T E : Type 0} (old new : Option (List ℕ)) (r : Result T E) where

@@ -4,9 +4,9 @@ use Rattle.cfi_elf.specs.declared.error.ElfError.{ElfError}
 use Rattle.cfi_elf.specs.declared.error.ElfError.TheVariants as elf
 use Rattle.cfi_elf.specs.ElfFiles.{File}
 use Rattle.cfi_object.specs.Targets.{IsOrNoMemory, target_addresses}
-use Rattle.cfi_programs.specs.Lines.{Line}
-use Rattle.cfi_programs.specs.WriterOutput.{Prints, PrintsSome}
-use Rattle.cfi_programs.specs.declared.style.Style.{Style}
+use Rattle.cfi_text.specs.Lines.{Line}
+use Rattle.cfi_text.specs.WriterOutput.{Prints, PrintsSome}
+use Rattle.cfi_row_text.specs.declared.style.Style.{Style}
 use Rattle.cfi_files.specs.FileLines.{elf_refusal, no_address}
 use Rattle.cfi_files.specs.FileOutputs.{AreFdeRows, AreRowsAt}
 use Rattle.cfi_files.proofs.WordLines.{not_empty}

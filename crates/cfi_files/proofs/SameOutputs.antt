@@ -16,11 +16,11 @@ use Rattle.cfi_elf.specs.SymbolAddresses.{addresses_with_name, symbol_addresses}
 use Rattle.cfi_elf.specs.declared.error.ElfError.TheVariants as elf
 use Rattle.cfi_elf.specs.Sections.{section_address}
 use Rattle.cfi_elf.specs.SymbolTables.{SymbolTable, symbol_table, symbols}
-use Rattle.cfi_programs.specs.Lines.{Line}
+use Rattle.cfi_text.specs.Lines.{Line}
 use Rattle.cfi_object.specs.Numbers.{number}
-use Rattle.cfi_programs.specs.Words.{texts}
+use Rattle.cfi_text.specs.WordTexts.{texts}
 use Rattle.cfi_object.specs.declared.register_names.RegisterNames.{RegisterNames}
-use Rattle.cfi_programs.specs.declared.style.Style.{Style}
+use Rattle.cfi_row_text.specs.declared.style.Style.{Style}
 use Rattle.gimli_cfi.specs.SectionSources.{GivenSection}
 use Rattle.cfi_object.specs.CallFrames.{debug_frame_of, eh_frame_of}
 use Rattle.cfi_object.specs.Targets.{addresses_named, before_plt, offset_from_name, by_ending, ends_with_plt, entries_named, is_at_sign, is_plus, offset_if_number, names_entry, number_or_name, or_if_none, section_addresses, symbols_named, symbols_or_section, target_addresses, with_version_or_not, without_version}
@@ -28,7 +28,7 @@ use Rattle.cfi_files.specs.declared.request.Printed.{Printed}
 use Rattle.cfi_files.specs.declared.request.Printed.TheVariants.{Row, Rows, Dump, Table}
 use Rattle.cfi_files.specs.declared.sections.SectionPrinted.{SectionPrinted}
 use Rattle.cfi_files.specs.declared.sections.SectionPrinted.TheVariants.{Compiled, Listed}
-use Rattle.cfi_programs.specs.declared.dump.printed.Printed.TheVariants.{Entries, Rows as AllRows}
+use Rattle.cfi_dump.specs.declared.printed.Printed.TheVariants.{Entries, Rows as AllRows}
 use Rattle.cfi_files.specs.FileLines.{AllInTurn}
 use Rattle.cfi_files.specs.FileOutputs.{AreEntries, AreFdeRows, AreParts, AreRows, AreRowsAt, AreSections, IsOfNames, needs_plt, needs_symbols, styled}
 use Rattle.cfi_files.specs.Asked.{has_several}

@@ -7,8 +7,8 @@ use Rattle.cfi_elf.specs.Images.{Image, IsImageOf, IsRead, whole}
 use Rattle.cfi_elf.proofs.FileImages.{file_found, file_refused}
 use Rattle.cfi_elf.proofs.Images.{in_whole, same_section_address, same_symbol_table}
 use Rattle.cfi_elf.proofs.PltImages.{same_plt_parts}
-use Rattle.cfi_programs.specs.Lines.{Line}
-use Rattle.cfi_programs.specs.declared.style.Format.{Format}
+use Rattle.cfi_text.specs.Lines.{Line}
+use Rattle.cfi_text.specs.declared.style.Format.{Format}
 use Rattle.gimli_cfi.specs.SectionSources.{GivenSection}
 use Rattle.cfi_object.specs.NeededParts.{HasAll, IsEnoughOf}
 use Rattle.cfi_object.specs.declared.needed.Needed.{Needed}

@@ -9,20 +9,20 @@ use Rattle.std.specs.Result.{IsErr}
 use Rattle.std.specs.Io.KnownBytes.{Appends}
 use Rattle.cfi_elf.specs.declared.error.ElfError.{ElfError}
 use Rattle.cfi_elf.specs.ElfFiles.{File}
-use Rattle.cfi_programs.specs.Lines.{Line}
-use Rattle.cfi_programs.specs.declared.style.Style.{Style}
-use Rattle.cfi_programs.specs.Words.{texts}
-use Rattle.cfi_programs.proofs.WrittenLemmas.{appends_then, none_yet}
-use Rattle.cfi_programs.proofs.DumpSectionWritten.{first_refused, last_written}
+use Rattle.cfi_text.specs.Lines.{Line}
+use Rattle.cfi_row_text.specs.declared.style.Style.{Style}
+use Rattle.cfi_text.specs.WordTexts.{texts}
+use Rattle.cfi_text.proofs.WrittenLemmas.{appends_then, none_yet}
+use Rattle.cfi_text.proofs.PartsWritten.{first_refused, last_written}
 use Rattle.cfi_elf.specs.declared.error.ElfError.TheVariants as elf
 use Rattle.cfi_object.specs.Targets.{IsOrNoMemory, target_addresses}
-use Rattle.cfi_programs.specs.WriterOutput.{PrintsSome}
+use Rattle.cfi_text.specs.WriterOutput.{PrintsSome}
 use Rattle.cfi_read_core.specs.declared.error.Error.TheVariants.{OutOfMemory}
 use Rattle.cfi_files.specs.Asked.{address_found, asked_text, has_several}
 use Rattle.cfi_files.specs.FileLines.{AllInTurn, in_turn, no_lines, under}
 use Rattle.cfi_files.specs.Found.{FoundSection, debug_frame_in, eh_frame_in}
 use Rattle.cfi_files.specs.RowOutputs.{AreAnswersIn, several_lines, IsTargetAnswer, IsAddressLine, IsTargetLine, IsWordLine, no_place, no_row_of}
-use Rattle.cfi_programs.specs.Refusals.{refusal_end}
+use Rattle.cfi_text.specs.Refusals.{refusal_end}
 use Rattle.cfi_files.proofs.Joined.{IsGiven}
 
 -- ---- outputs put together

@@ -6,10 +6,10 @@ use Rattle.std.specs.Prelude.{Result, Ok, Err, length, nat_lt}
 use Rattle.cfi_elf.specs.declared.error.ElfError.{ElfError}
 use Rattle.cfi_object.specs.Numbers.{number}
 use Rattle.cfi_names.specs.Names.{shown}
-use Rattle.cfi_programs.specs.Lines.{address_text}
-use Rattle.cfi_programs.specs.JsonTexts.{json_name}
-use Rattle.cfi_programs.specs.declared.style.Format.{Format}
-use Rattle.cfi_programs.specs.declared.style.Format.TheVariants.{Text, Json}
+use Rattle.cfi_text.specs.Lines.{address_text}
+use Rattle.cfi_text.specs.JsonTexts.{json_name}
+use Rattle.cfi_text.specs.declared.style.Format.{Format}
+use Rattle.cfi_text.specs.declared.style.Format.TheVariants.{Text, Json}
 
 -- whether there are several words
 abbrev pub has_several : List (List ℕ) → Bool

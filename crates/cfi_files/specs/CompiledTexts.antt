@@ -12,13 +12,13 @@ use Rattle.cfi_entry.specs.Sections.{Section}
 use Rattle.cfi_compiled.specs.CompiledTables.{TableContents, IsCompiled, steps_of}
 use Rattle.cfi_compiled.specs.FrameParts.{parts_of_frame}
 use Rattle.cfi_compiled.specs.Steps.{Step}
-use Rattle.cfi_programs.specs.DumpProgramOutput.{text_output}
-use Rattle.cfi_programs.specs.ErrorWords.{error_words}
-use Rattle.cfi_programs.specs.Lines.{Line, address_text}
-use Rattle.cfi_programs.specs.Refusals.{refusal_in}
-use Rattle.cfi_programs.specs.declared.style.Format.TheVariants.{Text}
-use Rattle.cfi_programs.specs.RowLines.{frame_saying, rules_saying}
-use Rattle.cfi_programs.specs.Wordings.{Wording, of_section, text_style}
+use Rattle.cfi_dump.specs.DumpProgramOutput.{text_output}
+use Rattle.cfi_text.specs.ErrorWords.{error_words}
+use Rattle.cfi_text.specs.Lines.{Line, address_text}
+use Rattle.cfi_text.specs.Refusals.{refusal_in}
+use Rattle.cfi_text.specs.declared.style.Format.TheVariants.{Text}
+use Rattle.cfi_row_text.specs.RowLines.{frame_saying, rules_saying}
+use Rattle.cfi_row_text.specs.Wordings.{Wording, of_section, text_style}
 use Rattle.cfi_object.specs.declared.register_names.RegisterNames.{RegisterNames}
 
 abbrev pub refused_step_text : ℕ → Error → List ℕ

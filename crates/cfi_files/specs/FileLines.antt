@@ -5,14 +5,14 @@ use Rattle.cfi_elf.specs.declared.error.ElfError.TheVariants.{Compressed, Core}
 use Rattle.cfi_elf.specs.ErrorNames.{name_of_elf}
 use Rattle.cfi_elf.specs.ErrorTexts.{text_of_elf}
 use Rattle.cfi_read_core.specs.declared.error.Error.TheVariants.{OutOfMemory}
-use Rattle.cfi_programs.specs.ErrorWords.{parting}
-use Rattle.cfi_programs.specs.Lines.{Line}
-use Rattle.cfi_programs.specs.Refusals.{reason_line, refusal_in, refusal_saying}
+use Rattle.cfi_text.specs.ErrorWords.{parting}
+use Rattle.cfi_text.specs.Lines.{Line}
+use Rattle.cfi_text.specs.Refusals.{reason_line, refusal_in, refusal_saying}
 use Rattle.cfi_names.specs.Names.{shown}
-use Rattle.cfi_programs.specs.JsonLines.{json_section}
-use Rattle.cfi_programs.specs.JsonTexts.{json_name}
-use Rattle.cfi_programs.specs.declared.style.Format.{Format}
-use Rattle.cfi_programs.specs.declared.style.Format.TheVariants.{Text, Json}
+use Rattle.cfi_dump.specs.JsonLines.{json_section}
+use Rattle.cfi_text.specs.JsonTexts.{json_name}
+use Rattle.cfi_text.specs.declared.style.Format.{Format}
+use Rattle.cfi_text.specs.declared.style.Format.TheVariants.{Text, Json}
 
 -- ---- the name of an error of a file, and in a sentence what it says and what to do
 

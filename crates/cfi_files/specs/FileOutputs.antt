@@ -23,19 +23,19 @@ use Rattle.cfi_elf.specs.RelocatedFiles.{relocated_file}
 use Rattle.cfi_entry.specs.Sections.{Section}
 use Rattle.gimli_cfi.specs.EhFrameHdr.{HeaderSection}
 use Rattle.gimli_cfi.specs.SectionSources.{GivenSection, given_header, given_section}
-use Rattle.cfi_programs.specs.Lines.{Line}
-use Rattle.cfi_programs.specs.Words.{texts}
+use Rattle.cfi_text.specs.Lines.{Line}
+use Rattle.cfi_text.specs.WordTexts.{texts}
 use Rattle.gimli_cfi.specs.declared.hdr.verdict.Verdict.{Verdict}
 use Rattle.gimli_cfi.specs.CheckVerdicts.{IsVerdict}
-use Rattle.cfi_programs.specs.CheckLines.{verdict_line}
-use Rattle.cfi_programs.specs.declared.dump.printed.AskedRows.{AskedRows}
-use Rattle.cfi_programs.specs.declared.dump.printed.Printed.TheVariants as listed
-use Rattle.cfi_programs.specs.DumpRowTexts.{given_addresses}
-use Rattle.cfi_programs.specs.DumpProgramOutput.{IsPrinted, printed_format}
+use Rattle.cfi_dump.specs.CheckLines.{verdict_line}
+use Rattle.cfi_dump.specs.declared.printed.AskedRows.{AskedRows}
+use Rattle.cfi_dump.specs.declared.printed.Printed.TheVariants as listed
+use Rattle.cfi_dump.specs.DumpRowTexts.{given_addresses}
+use Rattle.cfi_dump.specs.DumpProgramOutput.{IsPrinted, printed_format}
 use Rattle.cfi_object.specs.declared.register_names.RegisterNames.{RegisterNames}
-use Rattle.cfi_programs.specs.declared.style.Format.{Format}
-use Rattle.cfi_programs.specs.declared.style.Format.TheVariants.{Text}
-use Rattle.cfi_programs.specs.declared.style.Style.{Style}
+use Rattle.cfi_text.specs.declared.style.Format.{Format}
+use Rattle.cfi_text.specs.declared.style.Format.TheVariants.{Text}
+use Rattle.cfi_row_text.specs.declared.style.Style.{Style}
 use Rattle.cfi_object.specs.MachineNames.{names_in}
 use Rattle.cfi_object.specs.Targets.{names_entry, target_addresses}
 use Rattle.cfi_object.specs.declared.needed.Needed.{Needed}
@@ -50,7 +50,7 @@ use Rattle.cfi_files.specs.Findings.{refused}
 use Rattle.cfi_files.specs.declared.sections.SectionPrinted.{SectionPrinted}
 use Rattle.cfi_files.specs.declared.sections.SectionPrinted.TheVariants as sections
 use Rattle.cfi_files.specs.CompiledTexts.{IsCompiledText}
-use Rattle.cfi_programs.specs.WriterOutput.{PrintsSome}
+use Rattle.cfi_text.specs.WriterOutput.{PrintsSome}
 use Rattle.cfi_files.specs.FileLines.{IsUnder, InTurn, elf_refusal, elf_words, file_label}
 use Rattle.cfi_files.specs.FileLines.{no_address, no_call_frames, out_of_memory_in, section_line}
 use Rattle.cfi_files.specs.FileLines.{wrong_input_in}

@@ -1,10 +1,10 @@
 -- What the check of a file found.
 use Rattle.std.specs.Prelude.{◌≡◌, ℕ, Bool, true, false, List, Option, Result, IfOk, ◌++◌, codes}
-use Rattle.cfi_programs.specs.Lines.{Line, line}
-use Rattle.cfi_programs.specs.CheckLines.{reasoned}
-use Rattle.cfi_programs.specs.declared.style.Format.{Format}
-use Rattle.cfi_programs.specs.declared.style.Format.TheVariants.{Text, Json}
-use Rattle.cfi_programs.specs.WriterOutput.{Writes}
+use Rattle.cfi_text.specs.Lines.{Line, line}
+use Rattle.cfi_dump.specs.CheckLines.{reasoned}
+use Rattle.cfi_text.specs.declared.style.Format.{Format}
+use Rattle.cfi_text.specs.declared.style.Format.TheVariants.{Text, Json}
+use Rattle.cfi_text.specs.WriterOutput.{Writes}
 use Rattle.gimli_cfi.specs.declared.hdr.verdict.Verdict.{Verdict}
 use Rattle.gimli_cfi.specs.declared.hdr.verdict.Verdict.TheVariants as verdicts
 use Rattle.cfi_files.specs.declared.finding.Finding.{Finding}

@@ -16,12 +16,12 @@ use Rattle.gimli_cfi.specs.SectionSources.{GivenSection, given_header, given_sec
 use Rattle.cfi_elf.specs.declared.error.ElfError.{ElfError}
 use Rattle.cfi_elf.specs.declared.error.ElfError.TheVariants as elf
 use Rattle.cfi_elf.specs.ElfFiles.{File}
-use Rattle.cfi_programs.specs.Lines.{Line}
-use Rattle.cfi_programs.specs.Refusals.{reason_end, refusal_end}
-use Rattle.cfi_programs.specs.AnswerLines.{answer_end}
-use Rattle.cfi_programs.specs.Wordings.{Wording, of_section}
-use Rattle.cfi_programs.specs.declared.style.Format.{Format}
-use Rattle.cfi_programs.specs.declared.style.Style.{Style}
+use Rattle.cfi_text.specs.Lines.{Line}
+use Rattle.cfi_text.specs.Refusals.{reason_end, refusal_end}
+use Rattle.cfi_row_text.specs.AnswerLines.{answer_end}
+use Rattle.cfi_row_text.specs.Wordings.{Wording, of_section}
+use Rattle.cfi_text.specs.declared.style.Format.{Format}
+use Rattle.cfi_row_text.specs.declared.style.Style.{Style}
 use Rattle.cfi_object.specs.Targets.{target_addresses}
 use Rattle.cfi_files.specs.Asked.{address_found, asked_text, has_several}
 use Rattle.cfi_files.specs.FileLines.{AllInTurn, IsUnder, elf_words}

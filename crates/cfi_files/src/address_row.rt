@@ -1,16 +1,16 @@
 //! The row for an address in the sections of call frames of a file.
 ghost use Rattle.cfi_read_core.specs.ReaderCalls.{map_ok};
 ghost use Rattle.gimli_cfi.specs.SectionSources.{given_header, source_view};
-ghost use Rattle.cfi_programs.specs.WriterOutput.{PrintsSome};
+ghost use Rattle.cfi_text.specs.WriterOutput.{PrintsSome};
 ghost use Rattle.cfi_files.specs.Found.{frames_view};
 ghost use Rattle.cfi_files.specs.RowOutputs.{IsPartRow, IsRowByTableOrScan, IsRowLine, IsRowOr};
 ghost use Rattle.cfi_files.specs.RowOutputs.{OtherwiseIn};
 
 use crate::lines::{write_no_frames, write_no_row_of};
 use cfi_elf::ElfError;
-use cfi_programs::refusals::write_refusal_end;
-use cfi_programs::row_words::write_answer_end;
-use cfi_programs::style::Style;
+use cfi_row_text::row_words::write_answer_end;
+use cfi_row_text::style::Style;
+use cfi_text::refusals::write_refusal_end;
 use gimli_cfi::{Error, SectionSource, UnwindContext};
 use std::io;
 use std::io::Write;

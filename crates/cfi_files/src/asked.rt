@@ -1,16 +1,16 @@
 //! What stands before the answer to a word.
 ghost use Rattle.std.specs.Prelude.{◌≡◌};
-ghost use Rattle.cfi_programs.specs.WriterOutput.{Writes};
-ghost use Rattle.cfi_programs.specs.Words.{texts};
+ghost use Rattle.cfi_text.specs.WriterOutput.{Writes};
+ghost use Rattle.cfi_text.specs.WordTexts.{texts};
 ghost use Rattle.cfi_files.specs.Asked.{address_found, asked_address_member, asked_text};
 ghost use Rattle.cfi_files.specs.Asked.{has_several, asked_address_text, word_members, word_text};
 
 use cfi_elf::ElfError;
 use cfi_object::number_in;
-use cfi_programs::lines::{write_part, write_text};
-use cfi_programs::names::{write_json_name, write_name};
-use cfi_programs::numbers::Address;
-use cfi_programs::style::Format;
+use cfi_text::lines::{write_part, write_text};
+use cfi_text::names::{write_json_name, write_name};
+use cfi_text::numbers::Address;
+use cfi_text::style::Format;
 use std::io;
 use std::io::Write;
 

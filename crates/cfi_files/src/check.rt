@@ -10,11 +10,11 @@ ghost use Rattle.cfi_files.specs.Found.{eh_frame_in};
 use crate::finding::{Finding, finding_of, finding_without, found, write_found, write_refused};
 use crate::labels::write_file_label;
 use crate::sections::eh_frame_part;
+use cfi_dump::verdict_line::write_verdict;
 use cfi_elf::{ElfFile, Image};
 use cfi_object::input::{FileInput, InputError};
 use cfi_object::{Needed, read_parts};
-use cfi_programs::style::Format;
-use cfi_programs::verdict_line::write_verdict;
+use cfi_text::style::Format;
 use gimli_cfi::{Error, SectionSource};
 use std::alloc::Global;
 use std::io;
@@ -24,7 +24,7 @@ use std::io::Write;
 /// table of the file lists its FDEs faithfully, and returns what was found.
 ///
 /// The line has after the name and `: ` the verdict on the table, as `write_verdict` of
-/// `cfi_programs` prints it; `no call frames` or `no header` where the file has no `.eh_frame` or
+/// `cfi_dump` prints it; `no call frames` or `no header` where the file has no `.eh_frame` or
 /// no header; `refused` and the name of an error; or `wrong input` where the file can't be read.
 /// In JSON it is an object with the name as `file`, what was found as `result`, and the number of
 /// rows of a faithful table as `rows` or else that text as `reason`. Fails where the output can't

@@ -7,22 +7,22 @@ ghost use Rattle.cfi_compiled.specs.CompiledRows.{parts_kept};
 ghost use Rattle.cfi_compiled.specs.CompiledTables.{steps_of};
 ghost use Rattle.cfi_compiled.specs.FrameParts.{parts_of_frame};
 ghost use Rattle.cfi_compiled.specs.TableSteps.{step_view};
-ghost use Rattle.cfi_programs.specs.DumpProgramOutput.{text_output};
-ghost use Rattle.cfi_programs.specs.Lines.{Line, address_text};
-ghost use Rattle.cfi_programs.specs.Wordings.{text_style, worded};
-ghost use Rattle.cfi_programs.specs.WriterOutput.{Prints, Writes};
+ghost use Rattle.cfi_dump.specs.DumpProgramOutput.{text_output};
+ghost use Rattle.cfi_text.specs.Lines.{Line, address_text};
+ghost use Rattle.cfi_row_text.specs.Wordings.{text_style, worded};
+ghost use Rattle.cfi_text.specs.WriterOutput.{Prints, Writes};
 ghost use Rattle.cfi_files.specs.CompiledTexts.{IsCompiledText, refused_step_text, step_text};
 ghost use Rattle.cfi_files.specs.CompiledTexts.{steps_text};
 
 use cfi_compiled::{CompiledRow, CompiledStep, CompiledTable};
 use cfi_object::register_names::RegisterNames;
-use cfi_programs::error_words::ErrorWords;
-use cfi_programs::lines::{write_part, write_text};
-use cfi_programs::numbers::Address;
-use cfi_programs::refusals::write_refusal;
-use cfi_programs::register_rules::{HasRules, number_after};
-use cfi_programs::row_words::{write_frame, write_rules};
-use cfi_programs::style::Format;
+use cfi_row_text::register_rules::{HasRules, number_after};
+use cfi_row_text::row_words::{write_frame, write_rules};
+use cfi_text::error_words::ErrorWords;
+use cfi_text::lines::{write_part, write_text};
+use cfi_text::numbers::Address;
+use cfi_text::refusals::write_refusal;
+use cfi_text::style::Format;
 use gimli_cfi::{
     _UnwindSectionPrivate, BaseAddresses, CallFrameSection, Error, Reader, Register, RegisterRule,
     SectionSource, UnwindSection,

@@ -1,14 +1,14 @@
 //! The entries of a file.
 ghost use Rattle.cfi_elf.specs.ElfFiles.{file_view};
-ghost use Rattle.cfi_programs.specs.WriterOutput.{PrintsSome};
+ghost use Rattle.cfi_text.specs.WriterOutput.{PrintsSome};
 ghost use Rattle.cfi_files.specs.FileOutputs.{AreEntries, AreNamedEntries, AreNamesOf};
 
 use crate::sections::{SectionPrinted, print_sections};
+use cfi_dump::Printed;
 use cfi_elf::{ElfFile, FunctionNames};
 use cfi_object::register_names::RegisterNames;
-use cfi_programs::dump::Printed;
-use cfi_programs::refusals::write_refusal_in;
-use cfi_programs::style::Format;
+use cfi_text::refusals::write_refusal_in;
+use cfi_text::style::Format;
 use gimli_cfi::Error;
 use std::alloc::Global;
 use std::io;

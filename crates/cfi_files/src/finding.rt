@@ -1,19 +1,19 @@
 //! What the check of a file found.
 ghost use Rattle.std.specs.Prelude.{◌≡◌, ◌++◌, [], ◌∷◌, IfOk};
-ghost use Rattle.cfi_programs.specs.CheckLines.{reasoned};
+ghost use Rattle.cfi_dump.specs.CheckLines.{reasoned};
 ghost use Rattle.cfi_read_core.specs.ReaderCalls.{map_ok};
-ghost use Rattle.cfi_programs.specs.WriterOutput.{Writes};
+ghost use Rattle.cfi_text.specs.WriterOutput.{Writes};
 ghost use Rattle.cfi_files.specs.Findings.{finding_text};
 ghost use Rattle.cfi_files.specs.Findings.{finding_of, finding_without, found_line, has_table};
 ghost use Rattle.cfi_files.specs.Findings.{is_faithful, name_of_finding, refused, finding_status};
 ghost use Rattle.cfi_files.specs.FileLines.{elf_words};
-ghost use Rattle.cfi_programs.specs.declared.style.Format.TheVariants.{Json, Text};
+ghost use Rattle.cfi_text.specs.declared.style.Format.TheVariants.{Json, Text};
 
 use crate::lines::write_elf_words;
+use cfi_dump::verdict_line::write_reasoned;
 use cfi_elf::ElfError;
-use cfi_programs::lines::{write_between, write_text};
-use cfi_programs::style::Format;
-use cfi_programs::verdict_line::write_reasoned;
+use cfi_text::lines::{write_between, write_text};
+use cfi_text::style::Format;
 use gimli_cfi::Verdict;
 use std::io;
 use std::io::Write;

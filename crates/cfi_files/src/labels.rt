@@ -1,11 +1,11 @@
 //! What stands before what is said of a file or of a section: its name.
-ghost use Rattle.cfi_programs.specs.WriterOutput.{Writes};
+ghost use Rattle.cfi_text.specs.WriterOutput.{Writes};
 ghost use Rattle.cfi_files.specs.FileLines.{section_line, file_label};
 
-use cfi_programs::lines::{write_between, write_text};
-use cfi_programs::names;
-use cfi_programs::names::write_json_name;
-use cfi_programs::style::Format;
+use cfi_text::lines::{write_between, write_text};
+use cfi_text::names;
+use cfi_text::names::write_json_name;
+use cfi_text::style::Format;
 use std::io;
 use std::io::Write;
 

@@ -1,15 +1,15 @@
 //! Lines that say why nothing is printed of a file.
 ghost use Rattle.std.specs.Prelude.{◌≡◌, ◌++◌};
-ghost use Rattle.cfi_programs.specs.WriterOutput.{Prints, Writes};
+ghost use Rattle.cfi_text.specs.WriterOutput.{Prints, Writes};
 ghost use Rattle.cfi_files.specs.FileLines.{elf_advice, elf_refusal, elf_words, no_address};
 ghost use Rattle.cfi_files.specs.FileLines.{no_call_frames, wrong_input_in};
 ghost use Rattle.cfi_files.specs.RowOutputs.{no_frames, no_place, no_row_of};
 
 use cfi_elf::ElfError;
-use cfi_programs::error_words::parting;
-use cfi_programs::lines::{write_part, write_text};
-use cfi_programs::refusals::{write_reason, write_reason_end};
-use cfi_programs::style::Format;
+use cfi_text::error_words::parting;
+use cfi_text::lines::{write_part, write_text};
+use cfi_text::refusals::{write_reason, write_reason_end};
+use cfi_text::style::Format;
 use std::io;
 use std::io::Write;
 

@@ -2,14 +2,14 @@
 ghost use Rattle.cfi_elf.specs.ElfFiles.{file_view, object_file};
 ghost use Rattle.cfi_elf.specs.RelocatedFiles.{relocated, relocated_file};
 ghost use Rattle.cfi_elf.specs.Results.{and_then};
-ghost use Rattle.cfi_programs.specs.WriterOutput.{PrintsSome};
+ghost use Rattle.cfi_text.specs.WriterOutput.{PrintsSome};
 ghost use Rattle.cfi_files.specs.FileOutputs.{IsOfCopy, IsOfParsed, IsOwed};
 
 use crate::lines::write_elf_refusal;
 use crate::request::Request;
 use crate::run::print_file;
 use cfi_elf::{ElfError, ElfFile};
-use cfi_programs::refusals::write_refusal_in;
+use cfi_text::refusals::write_refusal_in;
 use gimli_cfi::Error;
 use std::alloc::Global;
 use std::io;

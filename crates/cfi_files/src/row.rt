@@ -1,8 +1,8 @@
 //! The rows for the addresses that words name in a file.
 ghost use Rattle.std.specs.Prelude.{◌≡◌, Ok};
 ghost use Rattle.cfi_elf.specs.ElfFiles.{file_view};
-ghost use Rattle.cfi_programs.specs.Words.{texts};
-ghost use Rattle.cfi_programs.specs.WriterOutput.{PrintsSome};
+ghost use Rattle.cfi_text.specs.WordTexts.{texts};
+ghost use Rattle.cfi_text.specs.WriterOutput.{PrintsSome};
 ghost use Rattle.cfi_files.specs.Found.{AreSectionsOf, frames_view};
 ghost use Rattle.cfi_files.specs.FileLines.{AllInTurn};
 ghost use Rattle.cfi_files.specs.RowOutputs.{AreAnswersIn, AreWordLines, IsTargetAnswer};
@@ -15,8 +15,8 @@ use crate::lines::{write_no_place, write_no_row_of};
 use crate::sections::{debug_frame_part, eh_frame_part};
 use cfi_elf::{ElfError, ElfFile};
 use cfi_object::target::target_addresses;
-use cfi_programs::refusals::write_refusal_end;
-use cfi_programs::style::Style;
+use cfi_row_text::style::Style;
+use cfi_text::refusals::write_refusal_end;
 use gimli_cfi::{Error, UnwindContext};
 use std::alloc::Global;
 use std::io;

@@ -1,18 +1,18 @@
 //! The rows of a file: of each FDE, or of those that contain an address that a word names.
 ghost use Rattle.std.specs.Prelude.{Ok, Some};
 ghost use Rattle.cfi_elf.specs.ElfFiles.{file_view};
-ghost use Rattle.cfi_programs.specs.WriterOutput.{PrintsSome};
-ghost use Rattle.cfi_programs.specs.DumpRowTexts.{given_addresses};
+ghost use Rattle.cfi_text.specs.WriterOutput.{PrintsSome};
+ghost use Rattle.cfi_dump.specs.DumpRowTexts.{given_addresses};
 ghost use Rattle.cfi_files.specs.FileOutputs.{AreFdeRows, AreNamedRows, AreNamesOf, AreRows};
 ghost use Rattle.cfi_files.specs.FileOutputs.{AreRowsAt};
 
 use crate::lines::{write_elf_refusal, write_no_address};
 use crate::sections::{SectionPrinted, print_sections};
+use cfi_dump::{AskedRows, Printed};
 use cfi_elf::{ElfFile, FunctionNames};
 use cfi_object::target::target_addresses;
-use cfi_programs::dump::{AskedRows, Printed};
-use cfi_programs::refusals::write_refusal_in;
-use cfi_programs::style::Style;
+use cfi_row_text::style::Style;
+use cfi_text::refusals::write_refusal_in;
 use gimli_cfi::Error;
 use std::alloc::Global;
 use std::io;

@@ -1,7 +1,7 @@
 //! What is printed of a file.
 ghost use Rattle.cfi_elf.specs.ElfFiles.{file_view};
 ghost use Rattle.cfi_elf.specs.Images.{image_view};
-ghost use Rattle.cfi_programs.specs.WriterOutput.{PrintsSome};
+ghost use Rattle.cfi_text.specs.WriterOutput.{PrintsSome};
 ghost use Rattle.cfi_files.specs.FileOutputs.{IsOfElfFile, PrintsOwed, needed_for};
 ghost use Rattle.cfi_object.specs.NeededParts.{IsEnoughOf};
 
@@ -15,9 +15,9 @@ use crate::sections::{SectionPrinted, print_sections};
 use cfi_elf::{ElfError, ElfFile, Image};
 use cfi_object::machine_names::names_in;
 use cfi_object::{FileInput, InputError, read_parts, read_whole};
-use cfi_programs::names;
-use cfi_programs::refusals::write_refusal_in;
-use cfi_programs::style::Style;
+use cfi_row_text::style::Style;
+use cfi_text::names;
+use cfi_text::refusals::write_refusal_in;
 use gimli_cfi::Error;
 use std::alloc::Global;
 use std::io;

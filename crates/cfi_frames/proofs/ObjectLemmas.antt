@@ -3,8 +3,8 @@ use Rattle.std.proofs.Common.{◌≡◌, ◌∙◌, ℕ, ◌+◌, ◌<◌, ◌�
 use Rattle.std.proofs.Math.Seq.{drop-cons}
 use Rattle.std.proofs.lemmas.List.{drop_all}
 use Rattle.std.specs.List.{flat_map}
-use Rattle.cfi_programs.specs.JsonTexts.{separated}
-use Rattle.cfi_programs.proofs.WrittenLemmas.{IsGiven}
+use Rattle.cfi_text.specs.JsonTexts.{separated}
+use Rattle.cfi_text.proofs.WrittenLemmas.{IsGiven}
 use Rattle.cfi_frames.specs.FrameObjects.{comma_before, frame_object, is_nil}
 use Rattle.cfi_processes.specs.Sites.{Site}
 

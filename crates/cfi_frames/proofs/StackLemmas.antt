@@ -3,7 +3,7 @@ use Rattle.std.proofs.Common.{◌≡◌, ◌∙◌, ℕ, ◌+◌, ◌<◌, ◌�
 use Rattle.std.proofs.Math.Seq.{drop-cons}
 use Rattle.std.proofs.lemmas.List.{drop_all}
 use Rattle.std.specs.List.{flat_map}
-use Rattle.cfi_programs.proofs.WrittenLemmas.{IsGiven}
+use Rattle.cfi_text.proofs.WrittenLemmas.{IsGiven}
 use Rattle.cfi_processes.specs.Sites.{Site}
 use Rattle.cfi_frames.specs.FrameLines.{file_text, frame_function}
 

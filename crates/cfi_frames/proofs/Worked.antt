@@ -4,7 +4,7 @@ use Rattle.std.specs.Fmt.{digits}
 use Rattle.cfi_read_core.specs.declared.error.Error.TheVariants.{NoUnwindInfoForAddress}
 use Rattle.cfi_expression.specs.declared.error.FrameError.TheVariants.{NoRow}
 use Rattle.cfi_step.specs.declared.walk.End.TheVariants.{Failed}
-use Rattle.cfi_programs.specs.JsonTexts.{separated}
+use Rattle.cfi_text.specs.JsonTexts.{separated}
 use Rattle.cfi_frames.specs.Reasons.{end_line, reason_of}
 use Rattle.cfi_frames.specs.FrameObjects.{chain_frame}
 use Rattle.cfi_frames.specs.FrameLines.{address_column, site_line}

@@ -6,7 +6,7 @@ use Rattle.std.specs.Prelude.{length, take, if◌then◌else◌}
 use Rattle.std.specs.Fmt.{digits}
 use Rattle.cfi_elf.specs.FunctionPlaces.{Place}
 use Rattle.cfi_names.specs.Names.{shown}
-use Rattle.cfi_programs.specs.Lines.{address_text}
+use Rattle.cfi_text.specs.Lines.{address_text}
 use Rattle.cfi_processes.specs.Sites.{Site}
 
 -- after as much of the fill as makes it as long

@@ -7,8 +7,8 @@ use Rattle.std.specs.Prelude.{ℕ, Bool, true, false, List, [], ◌∷◌, ◌++
 use Rattle.std.specs.Prelude.{if◌then◌else◌}
 use Rattle.cfi_elf.specs.FunctionPlaces.{Place}
 use Rattle.cfi_processes.specs.Sites.{Site}
-use Rattle.cfi_programs.specs.JsonTexts.{json_name, json_number}
-use Rattle.cfi_programs.specs.Lines.{address_text}
+use Rattle.cfi_text.specs.JsonTexts.{json_name, json_number}
+use Rattle.cfi_text.specs.Lines.{address_text}
 use Rattle.cfi_frames.specs.Reasons.{Reason}
 
 -- ---- a frame

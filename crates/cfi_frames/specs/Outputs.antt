@@ -3,10 +3,10 @@
 --     no_memory format      the line that says that memory was refused
 use Rattle.std.specs.Prelude.{ℕ, List}
 use Rattle.cfi_read_core.specs.declared.error.Error.TheVariants.{OutOfMemory}
-use Rattle.cfi_programs.specs.declared.style.Format.{Format}
-use Rattle.cfi_programs.specs.declared.style.Format.TheVariants.{Json, Text}
-use Rattle.cfi_programs.specs.Lines.{Line}
-use Rattle.cfi_programs.specs.Refusals.{refusal_in}
+use Rattle.cfi_text.specs.declared.style.Format.{Format}
+use Rattle.cfi_text.specs.declared.style.Format.TheVariants.{Json, Text}
+use Rattle.cfi_text.specs.Lines.{Line}
+use Rattle.cfi_text.specs.Refusals.{refusal_in}
 
 abbrev pub in_format : Format → List ℕ → List ℕ → List ℕ
 in_format Text text object = text

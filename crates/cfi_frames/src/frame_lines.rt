@@ -2,18 +2,18 @@
 ghost use Rattle.std.specs.Prelude.{◌≡◌, ◌++◌, OnOk, Some, codes, option_map};
 ghost use Rattle.cfi_elf.specs.FunctionPlaces.{place_view};
 ghost use Rattle.cfi_processes.specs.Sites.{site_view};
-ghost use Rattle.cfi_programs.specs.Lines.{address_text};
-ghost use Rattle.cfi_programs.specs.WriterOutput.{Writes};
+ghost use Rattle.cfi_text.specs.Lines.{address_text};
+ghost use Rattle.cfi_text.specs.WriterOutput.{Writes};
 ghost use Rattle.cfi_frames.specs.FrameLines.{column_text, file_text, filled, frame_function};
 ghost use Rattle.cfi_frames.specs.FrameLines.{frame_line, number_column, place_line, site_line};
 
 use crate::names::{push_known_name, push_name, write_known_name};
 use cfi_elf::FunctionPlace;
 use cfi_processes::{Name, Site};
-use cfi_programs::lines::write_text;
-use cfi_programs::names::write_name;
-use cfi_programs::numbers::push_address;
-use cfi_programs::text::{Text, push};
+use cfi_text::lines::write_text;
+use cfi_text::names::write_name;
+use cfi_text::numbers::push_address;
+use cfi_text::text::{Text, push};
 use std::io::Write;
 use std::{fmt, io};
 

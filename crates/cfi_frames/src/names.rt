@@ -1,17 +1,17 @@
 //! Names that are printed, and of which some are known to be plain.
 ghost use Rattle.std.specs.Prelude.{◌≡◌, ◌++◌, OnOk, option_map};
 ghost use Rattle.cfi_names.specs.Names.{shown};
-ghost use Rattle.cfi_programs.specs.WriterOutput.{Writes};
+ghost use Rattle.cfi_text.specs.WriterOutput.{Writes};
 ghost use Rattle.cfi_processes.specs.ThreadNames.{name_bytes};
 
 use cfi_processes::Name;
-use cfi_programs::lines::write_text;
-use cfi_programs::names::write_parts;
-use cfi_programs::text::{Text, push};
+use cfi_text::lines::write_text;
+use cfi_text::names::write_parts;
+use cfi_text::text::{Text, push};
 use std::io::Write;
 use std::{fmt, io};
 
-/// Writes a name as `write_name` of `cfi_programs` does, without a look at each byte where all are
+/// Writes a name as `write_name` of `cfi_text` does, without a look at each byte where all are
 /// printable ASCII.
 pub fn write_known_name<W: Write>(output: &mut W, name: Name<'_>) -> io::Result<()>
     ensures { Writes (W.contents output.old) (W.contents output.new) result

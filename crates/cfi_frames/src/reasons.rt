@@ -1,13 +1,13 @@
 //! Why a stack has no more frames, as it is printed.
 ghost use Rattle.std.specs.Prelude.{◌≡◌, ◌++◌, [], ◌∷◌, Some, codes, option_map};
 ghost use Rattle.cfi_read_core.specs.RefusalNames.{name_of};
-ghost use Rattle.cfi_programs.specs.WriterOutput.{Writes};
+ghost use Rattle.cfi_text.specs.WriterOutput.{Writes};
 ghost use Rattle.cfi_frames.specs.Reasons.{end_line, reason_of, reason_of_error, reason_view};
 ghost use Rattle.cfi_frames.specs.Reasons.{reason_for, reason_without};
 
 use cfi_processes::sample_stack::NoFrames;
-use cfi_programs::lines::write_part;
 use cfi_step::{End, FrameError, Walk};
+use cfi_text::lines::write_part;
 use gimli_cfi::Error;
 use std::io;
 use std::io::Write;

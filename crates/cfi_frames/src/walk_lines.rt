@@ -1,6 +1,6 @@
 //! The frames of a walk as lines, and why there are no more.
 ghost use Rattle.std.specs.Prelude.{◌≤◌, IfOk, length, map};
-ghost use Rattle.cfi_programs.specs.WriterOutput.{Writes};
+ghost use Rattle.cfi_text.specs.WriterOutput.{Writes};
 ghost use Rattle.cfi_processes.specs.KnownFiles.{known_view};
 ghost use Rattle.cfi_processes.specs.Sites.{site_of};
 ghost use Rattle.cfi_processes.specs.Mappings.{AreMappedInOrder};

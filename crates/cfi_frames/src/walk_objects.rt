@@ -3,8 +3,8 @@ ghost use Rattle.std.specs.Prelude.{◌≡◌, ◌≤◌, ◌++◌, IfOk, OnOk, 
 ghost use Rattle.cfi_processes.specs.KnownFiles.{known_view};
 ghost use Rattle.cfi_processes.specs.Sites.{site_of};
 ghost use Rattle.cfi_processes.specs.Mappings.{AreMappedInOrder};
-ghost use Rattle.cfi_programs.specs.JsonTexts.{separated};
-ghost use Rattle.cfi_programs.specs.WriterOutput.{Writes};
+ghost use Rattle.cfi_text.specs.JsonTexts.{separated};
+ghost use Rattle.cfi_text.specs.WriterOutput.{Writes};
 ghost use Rattle.cfi_frames.specs.FrameObjects.{comma_before, frame_address};
 ghost use Rattle.cfi_frames.specs.WalkObjects.{frame_opening, stack_objects, walk_frame};
 ghost use Rattle.cfi_frames.specs.WalkObjects.{walk_objects};
@@ -13,9 +13,9 @@ use crate::frame_objects::write_code_object;
 use crate::frame_style::FrameStyle;
 use cfi_processes::process_code::ProcessCode;
 use cfi_processes::sample_stack::NoFrames;
-use cfi_programs::numbers::push_address;
-use cfi_programs::text::{Text, push};
 use cfi_step::{StackFrame, Walk, row_address};
+use cfi_text::numbers::push_address;
+use cfi_text::text::{Text, push};
 use std::io::Write;
 use std::{fmt, io};
 

@@ -1,10 +1,10 @@
 //! The line that says why an input wasn't read.
-ghost use Rattle.cfi_programs.specs.WriterOutput.{Prints};
+ghost use Rattle.cfi_text.specs.WriterOutput.{Prints};
 ghost use Rattle.cfi_inputs.specs.Refusals.{input_refusal};
 
 use cfi_object::InputError;
-use cfi_programs::refusals::{write_reason, write_refusal_in};
-use cfi_programs::style::Format;
+use cfi_text::refusals::{write_reason, write_refusal_in};
+use cfi_text::style::Format;
 use gimli_cfi::Error;
 use std::io;
 use std::io::Write;

@@ -1,10 +1,7 @@
--- Words, input and lines, by computation.
+-- Words and input, by computation.
 use Rattle.std.proofs.Common.{◌≡◌, [], ◌∷◌, ◌++◌, Some, None, refl, codes}
-use Rattle.cfi_read_core.specs.declared.error.Error.TheVariants.{NoUnwindInfoForAddress}
 use Rattle.cfi_object.specs.Numbers.{number}
 use Rattle.cfi_programs.specs.Input.{bytes_by}
-use Rattle.cfi_programs.specs.Lines.{address_text}
-use Rattle.cfi_programs.specs.Refusals.{refusal_line}
 use Rattle.cfi_programs.proofs.Computing.{computing}
 
 -- ---- numbers
@@ -38,12 +35,3 @@ header_behind_the_line = refl
 no_header : bytes_by (Some 0) (codes "0102") ≡ Some (record { section = 1 ∷ 2 ∷ []; header = [] })
 unfolding computing
 no_header = refl
-
--- ---- lines
-
-address : address_text 0x1F0a ≡ codes "0x1f0a"
-unfolding computing
-address = refl
-
-refused : refusal_line NoUnwindInfoForAddress ≡ record { text = codes "refused NoUnwindInfoForAddress" ++ 10 ∷ []; status = 1 }
-refused = refl

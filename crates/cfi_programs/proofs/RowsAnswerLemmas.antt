@@ -3,7 +3,7 @@ use Rattle.std.proofs.Common.{◌≡◌, ◌∙◌, ℕ, List, Result, sym, subs
 use Rattle.cfi_read_core.specs.declared.error.Error.{Error}
 use Rattle.cfi_state.specs.Row.{Row}
 use Rattle.gimli_cfi.specs.SectionSources.{GivenSection, IsGivenRow}
-use Rattle.cfi_programs.specs.Lines.{Line}
+use Rattle.cfi_text.specs.Lines.{Line}
 use Rattle.cfi_programs.specs.Input.{Bytes}
 use Rattle.cfi_programs.specs.Runs.{IsLineFor}
 use Rattle.cfi_programs.specs.SectionOfWords.{given_by}

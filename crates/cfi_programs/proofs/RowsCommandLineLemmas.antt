@@ -2,7 +2,7 @@
 use Rattle.std.proofs.Common.{◌≡◌, ℕ, ◌-◌, ◌<◌, ◌≤◌, List, [], ◌∷◌, length, take, drop, get_or, Option, None, refl, ap, arith, Bor}
 use Rattle.std.proofs.Math.Seq.{take-length}
 use Rattle.std.specs.Option.{option_and_then}
-use Rattle.cfi_programs.specs.Words.{texts}
+use Rattle.cfi_text.specs.WordTexts.{texts}
 use Rattle.cfi_programs.specs.RowsCommandLine.{request_of, first_four_words, option_words}
 use Rattle.cfi_programs.specs.declared.rows.command_line.Request.{Request}
 

@@ -3,11 +3,11 @@ use Rattle.std.proofs.Common.{◌≡◌, ◌==◌, true, false, ◌⊎◌, inl, 
 use Rattle.std.specs.Option.{IsSome}
 use Rattle.std.specs.Io.KnownBytes.{Appends, Keeps}
 use Rattle.cfi_programs.specs.Input.{Bytes}
-use Rattle.cfi_programs.specs.Lines.{Line}
-use Rattle.cfi_programs.specs.Refusals.{wrong_words, wrong_hexadecimal, wrong_input}
-use Rattle.cfi_programs.specs.Runs.{Tool, IsNoWrongLine, IsLineFor, IsOwedBy, IsRun, LineOfInput, LineOfRequest, LineOfWords, requested, out_of_memory}
-use Rattle.cfi_programs.specs.WriterOutput.{IsBeginning, Prints}
-use Rattle.cfi_programs.proofs.WrittenLemmas.{appends_then, keeps_is}
+use Rattle.cfi_text.specs.Lines.{Line}
+use Rattle.cfi_text.specs.Refusals.{out_of_memory, wrong_words, wrong_hexadecimal, wrong_input}
+use Rattle.cfi_programs.specs.Runs.{Tool, IsNoWrongLine, IsLineFor, IsOwedBy, IsRun, LineOfInput, LineOfRequest, LineOfWords, requested}
+use Rattle.cfi_text.specs.WriterOutput.{IsBeginning, Prints}
+use Rattle.cfi_text.proofs.WrittenLemmas.{appends_then, keeps_is}
 
 -- what holds of the lines of a program
 abbrev pub AreNoWrongLines : Tool → Type 0

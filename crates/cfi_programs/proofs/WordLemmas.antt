@@ -3,7 +3,8 @@ use Rattle.std.proofs.Common.{◌≡◌, ℕ, ◌+◌, ◌<◌, ◌≤◌, List,
 use Rattle.std.proofs.Math.Seq.{drop-cons}
 use Rattle.std.proofs.lemmas.List.{drop_all}
 use Rattle.std.specs.Option.{option_and_then}
-use Rattle.cfi_programs.specs.Words.{each_word, texts}
+use Rattle.cfi_text.specs.WordTexts.{texts}
+use Rattle.cfi_programs.specs.Words.{each_word}
 
 pub one_more : {A : Type 0} (read : List ℕ → A → Option A) (d : Bor (List ℕ)) (words : List (Bor (List ℕ))) (i : ℕ) (a : A) → i < length words →
     each_word read (texts (drop i words)) a ≡ option_and_then (each_word read (texts (drop (i + 1) words))) (read (get_or words i d).now a)

@@ -5,8 +5,8 @@ use Rattle.cfi_read_core.specs.declared.error.Error.{Error}
 use Rattle.cfi_state.specs.Row.{Row}
 use Rattle.cfi_object.specs.declared.register_names.RegisterNames.TheVariants.{Numbers}
 use Rattle.cfi_programs.specs.Input.{Bytes}
-use Rattle.cfi_programs.specs.Lines.{Line}
-use Rattle.cfi_programs.specs.AnswerLines.{plain_line}
+use Rattle.cfi_text.specs.Lines.{Line}
+use Rattle.cfi_row_text.specs.AnswerLines.{plain_line}
 use Rattle.cfi_programs.specs.Runs.{IsNoWrongLine}
 use Rattle.cfi_programs.specs.declared.rows.command_line.Request.{Request}
 use Rattle.cfi_programs.specs.RowsProgramOutput.{rows_tool}

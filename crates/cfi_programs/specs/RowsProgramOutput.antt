@@ -11,7 +11,7 @@ use Rattle.cfi_programs.specs.RowsCommandLine.{request_of}
 use Rattle.cfi_programs.specs.Input.{Bytes, bytes_by}
 use Rattle.cfi_programs.specs.Runs.{Tool}
 use Rattle.cfi_programs.specs.SectionOfWords.{given_by}
-use Rattle.cfi_programs.specs.AnswerLines.{plain_line}
+use Rattle.cfi_row_text.specs.AnswerLines.{plain_line}
 
 -- ---- the limits of the storage of an unwind
 

@@ -9,12 +9,11 @@ use Rattle.std.specs.Prelude.{◌≡◌, ◌⊎◌, ℕ, ◌≤◌, ◌<◌, ◌
 use Rattle.std.specs.Prelude.{Result, IsSome, IfSome}
 use Rattle.std.specs.Io.KnownBytes.{Appends}
 use Rattle.std.specs.Option.{option_and_then}
-use Rattle.cfi_read_core.specs.declared.error.Error.TheVariants.{OutOfMemory}
 use Rattle.cfi_programs.specs.Input.{Bytes}
-use Rattle.cfi_programs.specs.Lines.{Line}
-use Rattle.cfi_programs.specs.Refusals.{refusal_line, wrong_words, wrong_hexadecimal}
-use Rattle.cfi_programs.specs.Refusals.{wrong_input}
-use Rattle.cfi_programs.specs.WriterOutput.{IsBeginning, Prints}
+use Rattle.cfi_text.specs.Lines.{Line}
+use Rattle.cfi_text.specs.Refusals.{out_of_memory, wrong_words, wrong_hexadecimal}
+use Rattle.cfi_text.specs.Refusals.{wrong_input}
+use Rattle.cfi_text.specs.WriterOutput.{IsBeginning, Prints}
 
 -- An executable: what its words ask for, or none where they are wrong; what its input means, or
 -- none where it is not hexadecimal; and the outputs that are right for what it means.
@@ -60,10 +59,6 @@ requested tool words = option_and_then tool.request_of words
 -- for those words, and all bytes of the input
 abbrev pub LineOfWords : Tool → Option (List (List ℕ)) → List ℕ → Line → Type 0
 LineOfWords tool words input printed = LineOfRequest tool (requested tool words) input printed
-
--- the line where memory was refused
-abbrev pub out_of_memory : Line
-out_of_memory = refusal_line OutOfMemory
 
 -- ---- what a run prints
 

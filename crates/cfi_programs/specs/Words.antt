@@ -1,7 +1,6 @@
 -- The words of the command line that say of what kind a section is, and where it lies.
-use Rattle.std.specs.Prelude.{refl, ℕ, Option, Some, None, List, [], ◌∷◌, map, codes}
+use Rattle.std.specs.Prelude.{refl, ℕ, Option, Some, None, List, [], ◌∷◌, codes}
 use Rattle.std.specs.Prelude.{if◌then◌else◌}
-use Rattle.std.specs.Borrow.{Bor}
 use Rattle.std.specs.Option.{option_and_then, option_map}
 use Rattle.std.specs.Str.{bytes_eq}
 use Rattle.cfi_read_core.specs.declared.address.AddressSize.{AddressSize}
@@ -13,16 +12,6 @@ use Rattle.gimli_cfi.specs.declared.source.SectionKind.{SectionKind}
 use Rattle.gimli_cfi.specs.declared.source.SectionKind.TheVariants.{DebugFrame, EhFrame}
 use Rattle.cfi_object.specs.Numbers.{after_prefix, number}
 use Rattle.cfi_programs.specs.declared.words.SectionWords.{SectionWords}
-
--- ---- texts
-
--- the bytes of each word
-abbrev pub texts : List (Bor (List ℕ)) → List (List ℕ)
-texts words = map (λ word. word.now) words
-
--- the same of words that may not be readable
-abbrev pub texts_given : Option (Bor (List (Bor (List ℕ)))) → Option (List (List ℕ))
-texts_given words = option_map (λ list. texts list.now) words
 
 -- ---- the words after the first ones, each at most once
 

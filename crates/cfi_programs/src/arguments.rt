@@ -1,6 +1,6 @@
 //! The words of a process after its program's name.
 ghost use Rattle.std.specs.Prelude.{◌≡◌, IfOk, map, string_bytes};
-ghost use Rattle.cfi_programs.specs.Words.{texts};
+ghost use Rattle.cfi_text.specs.WordTexts.{texts};
 
 use std::alloc::{AllocError, Global};
 use std::rt::Env;

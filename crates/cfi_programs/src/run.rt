@@ -2,17 +2,17 @@
 ghost use Rattle.std.specs.Prelude.{◌≡◌, ℕ, List, Option, IfSome, IsNone};
 ghost use Rattle.std.specs.Process.{exit_status};
 ghost use Rattle.cfi_programs.specs.Input.{Bytes, ReadsSections, bytes_of_sections};
-ghost use Rattle.cfi_programs.specs.Lines.{Line};
+ghost use Rattle.cfi_text.specs.Lines.{Line};
 ghost use Rattle.cfi_programs.specs.Runs.{IsAskedFor, IsNoWrongLine, PrintsAnswer, PrintsOwedBy};
 ghost use Rattle.cfi_programs.specs.Runs.{PrintsRunOf, requested, tool_of};
-ghost use Rattle.cfi_programs.specs.Words.{texts, texts_given};
+ghost use Rattle.cfi_text.specs.WordTexts.{texts, texts_given};
 
 use crate::arguments::{texts_of, words_after_name};
 use crate::input::Sections;
-use crate::refusals::{
+use cfi_object::InputError;
+use cfi_text::refusals::{
     write_refusal, write_wrong_hexadecimal, write_wrong_input, write_wrong_words,
 };
-use cfi_object::InputError;
 use gimli_cfi::Error;
 use std::alloc::Global;
 use std::io;

@@ -14,9 +14,9 @@ use Rattle.cfi_flame.proofs.CountLemmas.{counted_here}
 use Rattle.cfi_perf.specs.declared.error.PerfError.{PerfError}
 use Rattle.cfi_perf.specs.Events.{Record, SampleEvent}
 use Rattle.cfi_perf.specs.Samples.{Sample}
-use Rattle.cfi_programs.specs.declared.style.Format.TheVariants.{Text}
-use Rattle.cfi_programs.specs.Runs.{out_of_memory}
-use Rattle.cfi_programs.specs.WriterOutput.{PrintsSome}
+use Rattle.cfi_text.specs.declared.style.Format.TheVariants.{Text}
+use Rattle.cfi_text.specs.Refusals.{out_of_memory}
+use Rattle.cfi_text.specs.WriterOutput.{PrintsSome}
 use Rattle.cfi_step.specs.declared.walk.StackFrame.{StackFrame}
 use Rattle.cfi_processes.specs.declared.mappings.MappedCode.{MappedCode}
 use Rattle.cfi_processes.specs.declared.registers.SampleMachine.{SampleMachine}

@@ -7,14 +7,14 @@ use Rattle.std.specs.Result.{IsErr}
 use Rattle.cfi_perf.specs.declared.error.PerfError.{PerfError}
 use Rattle.cfi_perf.specs.Events.{Record, SampleEvent}
 use Rattle.cfi_perf.specs.Samples.{Sample}
-use Rattle.cfi_programs.specs.declared.style.Format.{Format}
+use Rattle.cfi_text.specs.declared.style.Format.{Format}
 use Rattle.cfi_inputs.specs.Refusals.{input_refusal}
 use Rattle.cfi_object.specs.declared.input.InputError.{InputError}
 use Rattle.cfi_object.specs.declared.input.InputError.TheVariants.{OutOfMemory}
-use Rattle.cfi_programs.specs.Lines.{Line}
-use Rattle.cfi_programs.specs.WriterOutput.{IsBeginning, Prints, PrintsSome}
-use Rattle.cfi_programs.proofs.WrittenLemmas.{appends_then, beginning_then, none_yet, writes_refused}
-use Rattle.cfi_programs.proofs.DumpSectionWritten.{last_written}
+use Rattle.cfi_text.specs.Lines.{Line}
+use Rattle.cfi_text.specs.WriterOutput.{IsBeginning, Prints, PrintsSome}
+use Rattle.cfi_text.proofs.WrittenLemmas.{appends_then, beginning_then, none_yet, writes_refused}
+use Rattle.cfi_text.proofs.PartsWritten.{last_written}
 use Rattle.cfi_processes.specs.declared.registers.SampleMachine.{SampleMachine}
 use Rattle.cfi_processes.specs.KnownFiles.{KnownFile}
 use Rattle.cfi_stacks.specs.declared.listing.StackStyle.{StackStyle}

@@ -11,8 +11,8 @@ use Rattle.cfi_perf.specs.declared.record.Event.TheVariants as events
 use Rattle.cfi_perf.specs.declared.sample.Sample.{Sample as SampleOfCode}
 use Rattle.cfi_perf.specs.Events.{Event, Record, ForkEvent, LostEvent, MappingEvent, OtherEvent, ProgramEvent, SampleEvent, event_view}
 use Rattle.cfi_perf.specs.Recordings.{is_sample}
-use Rattle.cfi_programs.specs.WriterOutput.{IsBeginning}
-use Rattle.cfi_programs.proofs.WrittenLemmas.{none_yet}
+use Rattle.cfi_text.specs.WriterOutput.{IsBeginning}
+use Rattle.cfi_text.proofs.WrittenLemmas.{none_yet}
 use Rattle.cfi_processes.specs.declared.registers.SampleMachine.{SampleMachine}
 use Rattle.cfi_processes.specs.KnownFiles.{KnownFile}
 use Rattle.cfi_stacks.specs.declared.listing.StackStyle.{StackStyle}

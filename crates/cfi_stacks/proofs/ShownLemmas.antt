@@ -13,9 +13,9 @@ use Rattle.cfi_perf.specs.ProfileHeads.{ProfileHead}
 use Rattle.cfi_perf.specs.Windows.{records_in}
 use Rattle.cfi_perf.specs.Windows.{record_bytes_left, next_place}
 use Rattle.cfi_perf.proofs.AroundLemmas.{is_around}
-use Rattle.cfi_programs.specs.declared.style.Format.{Format}
-use Rattle.cfi_programs.specs.Lines.{Line}
-use Rattle.cfi_programs.specs.WriterOutput.{Prints, PrintsSome}
+use Rattle.cfi_text.specs.declared.style.Format.{Format}
+use Rattle.cfi_text.specs.Lines.{Line}
+use Rattle.cfi_text.specs.WriterOutput.{Prints, PrintsSome}
 use Rattle.cfi_processes.specs.declared.registers.SampleMachine.{SampleMachine}
 use Rattle.cfi_processes.specs.KnownFiles.{KnownFile}
 use Rattle.cfi_processes.specs.OpenedFiles.{Opened}

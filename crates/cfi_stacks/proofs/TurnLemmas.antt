@@ -10,7 +10,7 @@ use Rattle.cfi_object.specs.declared.input.InputError.{InputError}
 use Rattle.cfi_perf.specs.declared.index.RecordPlace.{RecordPlace}
 use Rattle.cfi_perf.specs.Events.{Record}
 use Rattle.cfi_perf.specs.Indexes.{places_of}
-use Rattle.cfi_programs.specs.WriterOutput.{Prints, PrintsSome}
+use Rattle.cfi_text.specs.WriterOutput.{Prints, PrintsSome}
 use Rattle.cfi_processes.specs.declared.registers.SampleMachine.{SampleMachine}
 use Rattle.cfi_processes.specs.declared.profile_files.ProfileFile.{ProfileFile}
 use Rattle.cfi_processes.specs.KnownFiles.{KnownFile, known_view}

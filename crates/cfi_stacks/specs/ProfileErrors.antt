@@ -6,10 +6,10 @@ use Rattle.cfi_perf.specs.declared.error.PerfError.TheVariants.{AttributeSize, M
 use Rattle.cfi_perf.specs.declared.error.PerfError.TheVariants.{Compressed, Directory}
 use Rattle.cfi_perf.specs.ErrorNames.{name_of_perf}
 use Rattle.cfi_perf.specs.ErrorTexts.{text_of_perf}
-use Rattle.cfi_programs.specs.declared.style.Format.{Format}
-use Rattle.cfi_programs.specs.ErrorWords.{parting}
-use Rattle.cfi_programs.specs.Lines.{Line}
-use Rattle.cfi_programs.specs.Refusals.{refusal_saying}
+use Rattle.cfi_text.specs.declared.style.Format.{Format}
+use Rattle.cfi_text.specs.ErrorWords.{parting}
+use Rattle.cfi_text.specs.Lines.{Line}
+use Rattle.cfi_text.specs.Refusals.{refusal_saying}
 
 abbrev pub perf_advice : PerfError → List ℕ
 perf_advice (AttributeSize size) = codes "; record with perf of Linux 3.7 or later"

@@ -17,10 +17,10 @@ use Rattle.cfi_perf.specs.Profiles.{Profile, architecture, profile, profile_reco
 use Rattle.cfi_perf.specs.Records.{Records}
 use Rattle.cfi_inputs.specs.Refusals.{input_refusal}
 use Rattle.cfi_object.specs.declared.input.InputError.{InputError}
-use Rattle.cfi_programs.specs.declared.style.Format.{Format}
-use Rattle.cfi_programs.specs.declared.style.Format.TheVariants as formats
-use Rattle.cfi_programs.specs.Lines.{Line, line}
-use Rattle.cfi_programs.specs.Refusals.{reason_line as why_line}
+use Rattle.cfi_text.specs.declared.style.Format.{Format}
+use Rattle.cfi_text.specs.declared.style.Format.TheVariants as formats
+use Rattle.cfi_text.specs.Lines.{Line, line}
+use Rattle.cfi_text.specs.Refusals.{reason_line as why_line}
 use Rattle.cfi_processes.specs.declared.registers.SampleMachine.{SampleMachine}
 use Rattle.cfi_processes.specs.KnownFiles.{KnownFile}
 use Rattle.cfi_processes.specs.OpenedFiles.{Opened}

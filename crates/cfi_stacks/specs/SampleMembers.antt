@@ -3,7 +3,7 @@
 use Rattle.std.specs.Prelude.{ℕ, ◌/◌, ◌%◌, List, [], ◌++◌, Option, Some, None, codes}
 use Rattle.std.specs.Fmt.{decimal}
 use Rattle.cfi_perf.specs.Samples.{Sample}
-use Rattle.cfi_programs.specs.JsonTexts.{json_name, json_number}
+use Rattle.cfi_text.specs.JsonTexts.{json_name, json_number}
 use Rattle.cfi_frames.specs.FrameLines.{filled}
 use Rattle.cfi_stacks.specs.SampleHeads.{thread_name_text}
 

@@ -13,7 +13,7 @@ use Rattle.cfi_processes.specs.declared.sample_stack.NoFrames.{NoFrames}
 use Rattle.cfi_processes.specs.KnownFiles.{KnownFile}
 use Rattle.cfi_processes.specs.Sites.{site_of}
 use Rattle.cfi_processes.specs.Sites.{Site}
-use Rattle.cfi_programs.specs.JsonTexts.{separated}
+use Rattle.cfi_text.specs.JsonTexts.{separated}
 use Rattle.cfi_stacks.specs.declared.listing.StackStyle.{StackStyle}
 use Rattle.cfi_frames.specs.Outputs.{in_format}
 use Rattle.cfi_frames.specs.Reasons.{Reason, reason_for}

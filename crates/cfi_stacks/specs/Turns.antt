@@ -22,7 +22,7 @@ use Rattle.cfi_processes.specs.declared.registers.SampleMachine.{SampleMachine}
 use Rattle.cfi_processes.specs.KnownFiles.{KnownFile}
 use Rattle.cfi_processes.specs.Replays.{mapped_after}
 use Rattle.cfi_processes.specs.ThreadNames.{names_after}
-use Rattle.cfi_programs.specs.WriterOutput.{IsBeginning}
+use Rattle.cfi_text.specs.WriterOutput.{IsBeginning}
 use Rattle.cfi_stacks.specs.declared.folding.Unfolded.{Unfolded}
 use Rattle.cfi_stacks.specs.declared.folding.Unfolded.TheVariants.{Input, TooMany}
 use Rattle.cfi_stacks.specs.declared.profile_index.ProfileIndex.{ProfileIndex}

@@ -1,5 +1,5 @@
 //! How the stacks of a profile are printed.
-use cfi_programs::style::Format;
+use cfi_text::style::Format;
 
 /// How the stacks of a profile are printed.
 #[derive(Clone, Copy, Debug)]

@@ -1,14 +1,14 @@
 //! Lines that say why the stacks of a profile, or the rest of them, aren't printed.
 ghost use Rattle.std.specs.Prelude.{◌≡◌, ◌++◌, []};
-ghost use Rattle.cfi_programs.specs.WriterOutput.{Prints, Writes};
+ghost use Rattle.cfi_text.specs.WriterOutput.{Prints, Writes};
 ghost use Rattle.cfi_stacks.specs.ProfileErrors.{perf_advice, perf_refusal, perf_words};
 ghost use Rattle.cfi_stacks.specs.ProfileOutputs.{profile_ended, unknown_machine};
 
 use cfi_perf::PerfError;
-use cfi_programs::error_words::parting;
-use cfi_programs::lines::{write_part, write_text};
-use cfi_programs::refusals::write_reason;
-use cfi_programs::style::Format;
+use cfi_text::error_words::parting;
+use cfi_text::lines::{write_part, write_text};
+use cfi_text::refusals::write_reason;
+use cfi_text::style::Format;
 use std::io;
 use std::io::Write;
 

@@ -2,7 +2,7 @@
 ghost use Rattle.std.specs.Prelude.{◌≡◌, ◌++◌, OnOk};
 ghost use Rattle.cfi_perf.specs.Samples.{sample_view};
 ghost use Rattle.cfi_processes.specs.ThreadNames.{name_bytes};
-ghost use Rattle.cfi_programs.specs.WriterOutput.{Writes};
+ghost use Rattle.cfi_text.specs.WriterOutput.{Writes};
 ghost use Rattle.cfi_stacks.specs.SampleMembers.{comm_text, cpu_member, nanoseconds_text};
 ghost use Rattle.cfi_stacks.specs.SampleMembers.{number_members, sample_head};
 
@@ -10,11 +10,11 @@ use crate::sample_head::write_without_name;
 use cfi_frames::frame_lines::push_filled;
 use cfi_perf::Sample;
 use cfi_processes::Name;
-use cfi_programs::json::push_number;
-use cfi_programs::lines::write_text;
-use cfi_programs::names::write_json_name;
-use cfi_programs::numbers::push_decimal;
-use cfi_programs::text::{Text, push};
+use cfi_text::json::push_number;
+use cfi_text::lines::write_text;
+use cfi_text::names::write_json_name;
+use cfi_text::numbers::push_decimal;
+use cfi_text::text::{Text, push};
 use std::io::Write;
 use std::{fmt, io};
 

@@ -2,7 +2,7 @@
 ghost use Rattle.std.specs.Prelude.{◌≡◌, ℕ, List, Option, true, map};
 ghost use Rattle.cfi_perf.specs.Events.{record_view};
 ghost use Rattle.cfi_perf.specs.Recordings.{is_sample};
-ghost use Rattle.cfi_programs.specs.WriterOutput.{PrintsSome, Writes};
+ghost use Rattle.cfi_text.specs.WriterOutput.{PrintsSome, Writes};
 ghost use Rattle.cfi_processes.specs.KnownFiles.{known_view};
 ghost use Rattle.cfi_processes.specs.Replays.{AreModulesFor, HasOwnModules, replay_known};
 ghost use Rattle.cfi_processes.specs.Replays.{replay_files};
@@ -27,7 +27,7 @@ use cfi_processes::process_code::KERNEL;
 use cfi_processes::profile_files::ProfileFile;
 use cfi_processes::registers::SampleMachine;
 use cfi_processes::replay::Replay;
-use cfi_programs::refusals::write_refusal_in;
+use cfi_text::refusals::write_refusal_in;
 use gimli_cfi::Error;
 use std::io;
 use std::io::Write;

@@ -1,6 +1,6 @@
 //! The text of a sample's stack.
 ghost use Rattle.std.specs.Prelude.{◌≡◌, ◌≤◌, ℕ, IfOk, List, length, map};
-ghost use Rattle.cfi_programs.specs.WriterOutput.{Writes};
+ghost use Rattle.cfi_text.specs.WriterOutput.{Writes};
 ghost use Rattle.cfi_processes.specs.FileModules.{AreModulesOfFiles};
 ghost use Rattle.cfi_perf.specs.CallChains.{addresses_left};
 ghost use Rattle.cfi_processes.specs.KnownFiles.{known_view};
@@ -28,9 +28,9 @@ use cfi_processes::process_code::ProcessCode;
 use cfi_processes::process_modules::FileModule;
 use cfi_processes::registers::SampleMachine;
 use cfi_processes::sample_stack::NoFrames;
-use cfi_programs::lines::write_text;
-use cfi_programs::style::Format;
 use cfi_step::{StackFrame, Walk};
+use cfi_text::lines::write_text;
+use cfi_text::style::Format;
 use std::io;
 use std::io::Write;
 

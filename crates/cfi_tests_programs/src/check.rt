@@ -1,9 +1,9 @@
 //! Verdicts over memory: faithful tables, each fault of others, other bases and byte orders, a
 //! failing output.
-use cfi_programs::style::Format;
-use cfi_programs::verdict_line::write_verdict;
+use cfi_dump::verdict_line::write_verdict;
 use cfi_programs::words::SectionWords;
 use cfi_tests_bytes::bytes_of;
+use cfi_text::style::Format;
 use gimli_cfi::{AddressSize, RunTimeEndian, SectionKind, Vendor, Verdict};
 use std::alloc::{AllocError, Global};
 use std::io;

@@ -1,12 +1,13 @@
 //! Sections printed over memory, whose rows were worked out by hand.
+use cfi_dump::print::print_source;
+use cfi_dump::{AskedRows, Printed};
 use cfi_elf::FunctionNames;
 use cfi_files::compiled::print_compiled;
 use cfi_object::register_names::RegisterNames;
-use cfi_programs::dump::print::print_source;
-use cfi_programs::dump::{AskedRows, Printed};
-use cfi_programs::style::{Format, Style};
 use cfi_programs::words::SectionWords;
+use cfi_row_text::style::Style;
 use cfi_tests_bytes::bytes_of;
+use cfi_text::style::Format;
 use gimli_cfi::{AddressSize, RunTimeEndian, SectionKind, Vendor};
 use std::alloc::AllocError;
 use std::process::Abort;

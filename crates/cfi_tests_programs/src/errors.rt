@@ -1,7 +1,7 @@
 //! What errors of call frames say in lines: the sentences of their `Display`, and what to do.
-use cfi_programs::refusals::{write_refusal_end, write_refusal_told};
-use cfi_programs::style::Format;
-use cfi_programs::verdict_line::write_verdict;
+use cfi_dump::verdict_line::write_verdict;
+use cfi_text::refusals::{write_refusal_end, write_refusal_told};
+use cfi_text::style::Format;
 use gimli_cfi::{DwCfa, DwEhPe, Error, ReaderOffsetId, Unfaithful, Verdict};
 use std::process::Abort;
 use std::test::Fail;

@@ -7,11 +7,11 @@ mod header;
 
 use cfi_object::register_names::RegisterNames;
 use cfi_parts::instruction::UnwindExpression;
-use cfi_programs::numbers::push_address;
-use cfi_programs::row_text::{push_frame, push_ruled};
 use cfi_programs::rows::run::run;
-use cfi_programs::text::{Text, push};
+use cfi_row_text::row_text::{push_frame, push_ruled};
 use cfi_state::table::rules::{CfaRule, RegisterRule};
+use cfi_text::numbers::push_address;
+use cfi_text::text::{Text, push};
 use gimli_cfi::Register;
 use std::alloc::{AllocError, Global};
 use std::fmt;

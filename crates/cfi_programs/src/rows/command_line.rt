@@ -1,6 +1,6 @@
 //! The words of the command line of `cfi_rows`.
 ghost use Rattle.std.specs.Prelude.{◌≡◌};
-ghost use Rattle.cfi_programs.specs.Words.{texts};
+ghost use Rattle.cfi_text.specs.WordTexts.{texts};
 ghost use Rattle.cfi_programs.specs.RowsCommandLine.{first_four_words, option_word, option_words};
 ghost use Rattle.cfi_programs.specs.RowsCommandLine.{request_of, set_storage};
 

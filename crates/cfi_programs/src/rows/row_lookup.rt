@@ -6,10 +6,10 @@ ghost use Rattle.cfi_programs.specs.Input.{bytes_of_sections};
 ghost use Rattle.cfi_programs.specs.Runs.{PrintsAnswer};
 
 use crate::input::Sections;
-use crate::refusals::write_refusal;
-use crate::row_line::write_plain_answer;
 use crate::rows::command_line::{Request, Storage};
 use cfi_object::register_names::RegisterNames;
+use cfi_row_text::row_line::write_plain_answer;
+use cfi_text::refusals::write_refusal;
 use gimli_cfi::{
     Error, StoreGrowing, StoreOnHeap, UnwindContext, UnwindContextStorage, UnwindTableRow,
 };

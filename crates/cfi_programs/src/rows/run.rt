@@ -4,7 +4,7 @@ ghost use Rattle.cfi_programs.specs.RowsProgramOutput.{rows_tool};
 ghost use Rattle.cfi_programs.specs.RowsCommandLine.{request_of};
 ghost use Rattle.cfi_programs.specs.RowsNoWrongLines.{no_wrong_line};
 ghost use Rattle.cfi_programs.specs.Runs.{PrintsRunOf, requested};
-ghost use Rattle.cfi_programs.specs.Words.{texts_given};
+ghost use Rattle.cfi_text.specs.WordTexts.{texts_given};
 
 use crate::input::{Sections, read_sections};
 use crate::rows::command_line::{Request, parse};

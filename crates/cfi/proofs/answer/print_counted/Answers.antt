@@ -1,7 +1,7 @@
 use Rattle.std.proofs.Common.{◌≡◌, ◌∙◌, ◌++◌, [], ◌∷◌, ℕ, List, Result, Ok, ap, map, subst}
 use Rattle.std.proofs.lemmas.Result.{IfOk-from_err}
-use Rattle.cfi_programs.specs.WriterOutput.{Writes}
-use Rattle.cfi_programs.proofs.WrittenLemmas.{writes_refused}
+use Rattle.cfi_text.specs.WriterOutput.{Writes}
+use Rattle.cfi_text.proofs.WrittenLemmas.{writes_refused}
 use Rattle.cfi_commands.specs.Findings.{greatest_status, tally_in}
 use Rattle.cfi_commands.specs.Disks.{disk_of}
 use Rattle.cfi_commands.specs.Targets.{target_view}

@@ -1,5 +1,5 @@
 use Rattle.std.proofs.Common.{ℕ}
-use Rattle.cfi_programs.specs.Lines.{Line}
+use Rattle.cfi_text.specs.Lines.{Line}
 use Rattle.cfi_commands.specs.Disks.{Disk, MayOpenNamed, disk_of}
 use Rattle.cfi_commands.specs.FlameOutputs.{IsSummaryOwed, summary_view}
 use Rattle.cfi.specs.Process.{IsSummary}

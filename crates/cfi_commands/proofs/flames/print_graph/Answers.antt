@@ -1,6 +1,6 @@
 use Rattle.std.proofs.Common.{ℕ, List, inl, inr, refl, subst, sym}
 use Rattle.cfi_flame.specs.Flames.{drawing_view}
-use Rattle.cfi_programs.specs.declared.style.Format.TheVariants.{Text}
+use Rattle.cfi_text.specs.declared.style.Format.TheVariants.{Text}
 use Rattle.cfi_commands.specs.FlameOutputs.{IsSummaryMade, graph, made_line, summary_refusal}
 use Rattle.cfi_commands.proofs.flames.print_graph.Goals as goal
 

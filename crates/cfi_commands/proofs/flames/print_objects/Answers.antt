@@ -1,7 +1,7 @@
 use Rattle.std.proofs.Common.{ℕ, List, inl, inr, refl, subst, ◌∙◌}
 use Rattle.cfi_flame.specs.declared.folded.FoldedError.TheVariants as folded
-use Rattle.cfi_programs.specs.WriterOutput.{PrintsSome}
-use Rattle.cfi_programs.specs.declared.style.Format.TheVariants.{Json}
+use Rattle.cfi_text.specs.WriterOutput.{PrintsSome}
+use Rattle.cfi_text.specs.declared.style.Format.TheVariants.{Json}
 use Rattle.cfi_commands.specs.FlameOutputs.{IsOfObjects, summary_refusal}
 use Rattle.cfi_commands.proofs.flames.print_objects.Goals as goal
 

@@ -1,6 +1,6 @@
 use Rattle.std.proofs.Common.{List, ap, inl, inr, map, refl}
 use Rattle.cfi_flame.specs.Functions.{FunctionRow, row_view}
-use Rattle.cfi_programs.specs.declared.style.Format.TheVariants.{Json}
+use Rattle.cfi_text.specs.declared.style.Format.TheVariants.{Json}
 use Rattle.cfi_commands.specs.FlameOutputs.{made_line, summary_refusal}
 use Rattle.cfi_commands.specs.FunctionObjects.{objects_text}
 use Rattle.cfi_commands.proofs.flames.print_plain_objects.Goals as goal

@@ -1,5 +1,5 @@
 use Rattle.std.proofs.Common.{ℕ, List, inl, inr, refl, subst, sym}
-use Rattle.cfi_programs.specs.declared.style.Format.TheVariants.{Text}
+use Rattle.cfi_text.specs.declared.style.Format.TheVariants.{Text}
 use Rattle.cfi_commands.specs.FlameOutputs.{IsSummaryMade, made_line, summary_refusal, table}
 use Rattle.cfi_commands.proofs.flames.print_table.Goals as goal
 

@@ -1,7 +1,7 @@
 use Rattle.std.proofs.Common.{◌++◌, codes}
 use Rattle.cfi_flame.specs.Functions.{row_view}
-use Rattle.cfi_programs.specs.JsonTexts.{json_escaped}
-use Rattle.cfi_programs.proofs.DumpSectionWritten.{first_refused, last_written}
+use Rattle.cfi_text.specs.JsonTexts.{json_escaped}
+use Rattle.cfi_text.proofs.PartsWritten.{first_refused, last_written}
 use Rattle.cfi_commands.specs.FunctionObjects.{counts_members}
 use Rattle.cfi_commands.proofs.function_objects.write_function.Goals as goal
 

@@ -2,7 +2,7 @@ use Rattle.std.proofs.Common.{[], ◌+◌, drop, get_or, map, arith}
 use Rattle.std.specs.List.{flat_map}
 use Rattle.cfi_flame.specs.Functions.{row_view}
 use Rattle.cfi_flame.specs.declared.functions.Function.{Function}
-use Rattle.cfi_programs.proofs.WrittenLemmas.{beginning_then, given_all, given_then, writes_refused}
+use Rattle.cfi_text.proofs.WrittenLemmas.{beginning_then, given_all, given_then, writes_refused}
 use Rattle.cfi_commands.specs.FunctionObjects.{function_object}
 use Rattle.cfi_commands.proofs.ObjectLemmas.{next_object, no_object}
 use Rattle.cfi_commands.proofs.function_objects.write_functions.Goals as goal

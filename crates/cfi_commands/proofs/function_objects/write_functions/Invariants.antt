@@ -1,7 +1,7 @@
 use Rattle.std.proofs.Common.{drop, map}
 use Rattle.std.specs.List.{flat_map}
 use Rattle.cfi_flame.specs.Functions.{row_view}
-use Rattle.cfi_programs.proofs.WrittenLemmas.{IsGiven}
+use Rattle.cfi_text.proofs.WrittenLemmas.{IsGiven}
 use Rattle.cfi_commands.specs.FunctionObjects.{function_object}
 use Rattle.cfi_commands.proofs.function_objects.write_functions.Given as goal
 

@@ -1,7 +1,7 @@
 use Rattle.std.proofs.Common.{map}
 use Rattle.std.specs.List.{flat_map}
 use Rattle.cfi_flame.specs.Functions.{row_view}
-use Rattle.cfi_programs.proofs.DumpSectionWritten.{first_refused, last_written}
+use Rattle.cfi_text.proofs.PartsWritten.{first_refused, last_written}
 use Rattle.cfi_commands.specs.FunctionObjects.{function_object, samples_object}
 use Rattle.cfi_commands.proofs.function_objects.write_objects.Goals as goal
 

@@ -1,4 +1,4 @@
-use Rattle.cfi_programs.proofs.DumpSectionWritten.{first_refused, last_written}
+use Rattle.cfi_text.proofs.PartsWritten.{first_refused, last_written}
 use Rattle.std.proofs.Common.{◌++◌, codes}
 use Rattle.cfi_processes.specs.ThreadNames.{name_bytes}
 use Rattle.cfi_core_stacks.specs.ThreadMembers.{process_member, tid_and_signal}

@@ -3,8 +3,8 @@ use Rattle.cfi_read_core.specs.declared.error.Error.{Error}
 use Rattle.cfi_state.specs.Row.{Row}
 use Rattle.gimli_cfi.specs.EhFrameHdr.{HeaderSection}
 use Rattle.gimli_cfi.specs.SectionSources.{GivenSection, IsGivenRow, IsRowIn, given_header, given_section, source_view}
-use Rattle.cfi_programs.specs.AnswerLines.{answer_end}
-use Rattle.cfi_programs.specs.WriterOutput.{PrintsSome}
+use Rattle.cfi_row_text.specs.AnswerLines.{answer_end}
+use Rattle.cfi_text.specs.WriterOutput.{PrintsSome}
 use Rattle.cfi_files.specs.Found.{frames_view}
 use Rattle.cfi_files.specs.RowOutputs.{IsByTable, IsRowByTableOrScan, wording_in}
 use Rattle.cfi_files.proofs.address_row.print_eh_frame_row.Goals as goal

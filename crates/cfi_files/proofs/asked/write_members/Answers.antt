@@ -1,6 +1,6 @@
 use Rattle.std.proofs.Common.{◌++◌, codes}
-use Rattle.cfi_programs.specs.JsonTexts.{json_name}
-use Rattle.cfi_programs.proofs.DumpSectionWritten.{first_refused, last_written}
+use Rattle.cfi_text.specs.JsonTexts.{json_name}
+use Rattle.cfi_text.proofs.PartsWritten.{first_refused, last_written}
 use Rattle.cfi_files.specs.Asked.{asked_address_member}
 use Rattle.cfi_files.proofs.asked.write_members.Goals as goal
 

@@ -1,7 +1,7 @@
 use Rattle.std.proofs.Common.{◌++◌, codes}
 use Rattle.cfi_names.specs.Names.{shown}
 use Rattle.cfi_object.specs.Numbers.{number}
-use Rattle.cfi_programs.proofs.DumpSectionWritten.{first_refused, last_written}
+use Rattle.cfi_text.proofs.PartsWritten.{first_refused, last_written}
 use Rattle.cfi_files.specs.Asked.{asked_address_text}
 use Rattle.cfi_files.proofs.asked.write_word.Goals as goal
 

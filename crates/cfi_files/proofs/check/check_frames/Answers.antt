@@ -1,10 +1,10 @@
 use Rattle.std.proofs.Common.{◌≡◌, Option, Some, None, refl, codes}
 use Rattle.gimli_cfi.specs.EhFrameHdr.{HeaderSection}
 use Rattle.gimli_cfi.specs.SectionSources.{GivenSection, given_header, given_section, source_view}
-use Rattle.cfi_programs.specs.CheckLines.{verdict_line}
+use Rattle.cfi_dump.specs.CheckLines.{verdict_line}
 use Rattle.gimli_cfi.specs.CheckVerdicts.{IsVerdictIf}
 use Rattle.gimli_cfi.specs.declared.hdr.verdict.Verdict.{Verdict}
-use Rattle.cfi_programs.specs.declared.style.Format.{Format}
+use Rattle.cfi_text.specs.declared.style.Format.{Format}
 use Rattle.cfi_files.specs.declared.finding.Finding.{Finding}
 use Rattle.cfi_files.specs.declared.finding.Finding.TheVariants.{NoTable}
 use Rattle.cfi_files.specs.FileOutputs.{IsVerdictIn}

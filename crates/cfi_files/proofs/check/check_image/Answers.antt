@@ -1,7 +1,7 @@
 use Rattle.std.proofs.Common.{refl, subst}
 use Rattle.cfi_elf.specs.ElfFiles.{elf_file_of}
 use Rattle.cfi_files.specs.FileLines.{elf_words}
-use Rattle.cfi_programs.specs.declared.style.Format.TheVariants.{Text}
+use Rattle.cfi_text.specs.declared.style.Format.TheVariants.{Text}
 use Rattle.cfi_elf.specs.Images.{image_view}
 use Rattle.cfi_files.specs.FileOutputs.{IsCheckOfParsed}
 use Rattle.cfi_files.specs.Findings.{finding_without, found_line, refused}

@@ -2,7 +2,7 @@ use Rattle.std.proofs.Common.{Some, refl, subst, sym, codes}
 use Rattle.cfi_read_core.specs.ReaderCalls.{map_ok}
 use Rattle.cfi_elf.specs.ElfFiles.{file_view}
 use Rattle.cfi_files.specs.FileLines.{elf_words}
-use Rattle.cfi_programs.specs.declared.style.Format.TheVariants.{Text}
+use Rattle.cfi_text.specs.declared.style.Format.TheVariants.{Text}
 use Rattle.cfi_files.specs.declared.finding.Finding.TheVariants.{NoTable}
 use Rattle.gimli_cfi.specs.SectionSources.{source_view}
 use Rattle.cfi_files.specs.FileOutputs.{IsCheckOfFrames}

@@ -1,7 +1,7 @@
 use Rattle.std.proofs.Common.{subst}
 use Rattle.cfi_files.specs.CompiledTexts.{IsCompiledText}
-use Rattle.cfi_programs.specs.Lines.{Line}
-use Rattle.cfi_programs.specs.WriterOutput.{Prints}
+use Rattle.cfi_text.specs.Lines.{Line}
+use Rattle.cfi_text.specs.WriterOutput.{Prints}
 use Rattle.cfi_files.proofs.compiled.print_compiled.Goals as goal
 
 pub returns-in-DebugFrame : goal.returns-in-DebugFrame

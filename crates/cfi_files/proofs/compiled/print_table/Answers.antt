@@ -1,9 +1,9 @@
 use Rattle.std.proofs.Common.{inl, inr, refl}
 use Rattle.cfi_compiled.specs.CompiledTables.{steps_of}
-use Rattle.cfi_programs.specs.Runs.{out_of_memory}
+use Rattle.cfi_text.specs.Refusals.{out_of_memory}
 use Rattle.cfi_files.specs.CompiledTexts.{steps_text}
-use Rattle.cfi_programs.specs.Wordings.{text_style, worded}
-use Rattle.cfi_programs.specs.DumpProgramOutput.{text_output}
+use Rattle.cfi_row_text.specs.Wordings.{text_style, worded}
+use Rattle.cfi_dump.specs.DumpProgramOutput.{text_output}
 use Rattle.cfi_files.proofs.compiled.print_table.Goals as goal
 
 pub returns-in-Ok : goal.returns-in-Ok

@@ -1,9 +1,9 @@
 use Rattle.std.proofs.Common.{[], ◌∷◌, ◌++◌}
 use Rattle.cfi_compiled.specs.CompiledRows.{parts_kept}
-use Rattle.cfi_programs.specs.ExpressionWords.{in_words}
-use Rattle.cfi_programs.specs.Lines.{address_text}
-use Rattle.cfi_programs.specs.RowLines.{frame_saying, rules_saying}
-use Rattle.cfi_programs.proofs.DumpSectionWritten.{first_refused, last_written}
+use Rattle.cfi_row_text.specs.ExpressionWords.{in_words}
+use Rattle.cfi_text.specs.Lines.{address_text}
+use Rattle.cfi_row_text.specs.RowLines.{frame_saying, rules_saying}
+use Rattle.cfi_text.proofs.PartsWritten.{first_refused, last_written}
 use Rattle.cfi_files.proofs.compiled.write_row.Goals as goal
 
 pub returns-in_err-write_start : goal.returns-in_err-write_start

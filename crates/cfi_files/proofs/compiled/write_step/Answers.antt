@@ -3,8 +3,8 @@ use Rattle.cfi_read_core.specs.declared.error.Error.{Error}
 use Rattle.cfi_compiled.specs.declared.row.CompiledRow.{CompiledRow}
 use Rattle.cfi_compiled.specs.CompiledRows.{frame_lent}
 use Rattle.cfi_compiled.specs.FrameParts.{parts_of_frame}
-use Rattle.cfi_programs.specs.Wordings.{text_style, worded}
-use Rattle.cfi_programs.specs.WriterOutput.{Writes}
+use Rattle.cfi_row_text.specs.Wordings.{text_style, worded}
+use Rattle.cfi_text.specs.WriterOutput.{Writes}
 use Rattle.cfi_files.specs.CompiledTexts.{step_text}
 use Rattle.cfi_files.proofs.compiled.write_step.Goals as goal
 

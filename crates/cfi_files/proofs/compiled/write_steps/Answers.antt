@@ -3,9 +3,9 @@ use Rattle.cfi_compiled.specs.CompiledTables.{steps_of}
 use Rattle.cfi_compiled.specs.FrameParts.{parts_of_frame}
 use Rattle.cfi_compiled.specs.TableSteps.{step_view, steps_left}
 use Rattle.cfi_files.specs.CompiledTexts.{step_text, steps_text}
-use Rattle.cfi_programs.specs.Wordings.{text_style, worded}
+use Rattle.cfi_row_text.specs.Wordings.{text_style, worded}
 use Rattle.cfi_files.proofs.CompiledWritten.{none_left, one_more}
-use Rattle.cfi_programs.proofs.WrittenLemmas.{IsGiven, beginning_then, given_all, given_first, given_then, writes_refused}
+use Rattle.cfi_text.proofs.WrittenLemmas.{IsGiven, beginning_then, given_all, given_first, given_then, writes_refused}
 use Rattle.cfi_files.proofs.compiled.write_steps.Goals as goal
 
 pub loop-step-init : goal.loop-step-init

@@ -1,8 +1,8 @@
 use Rattle.cfi_compiled.specs.CompiledTables.{steps_of}
 use Rattle.cfi_compiled.specs.TableSteps.{steps_left}
 use Rattle.cfi_files.specs.CompiledTexts.{steps_text}
-use Rattle.cfi_programs.specs.Wordings.{text_style, worded}
-use Rattle.cfi_programs.proofs.WrittenLemmas.{IsGiven}
+use Rattle.cfi_row_text.specs.Wordings.{text_style, worded}
+use Rattle.cfi_text.proofs.WrittenLemmas.{IsGiven}
 use Rattle.cfi_files.proofs.compiled.write_steps.Given as goal
 
 -- what is left to write is the text of the steps that are left

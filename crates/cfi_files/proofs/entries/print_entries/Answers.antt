@@ -1,5 +1,5 @@
 use Rattle.std.proofs.Common.{inl, inr, refl}
-use Rattle.cfi_programs.specs.declared.style.Format.TheVariants.{Text}
+use Rattle.cfi_text.specs.declared.style.Format.TheVariants.{Text}
 use Rattle.cfi_files.specs.FileLines.{out_of_memory_in}
 use Rattle.cfi_files.proofs.entries.print_entries.Goals as goal
 

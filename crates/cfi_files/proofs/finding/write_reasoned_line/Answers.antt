@@ -1,6 +1,6 @@
 use Rattle.std.proofs.Common.{[], ◌∷◌, ◌++◌}
-use Rattle.cfi_programs.specs.CheckLines.{reasoned}
-use Rattle.cfi_programs.proofs.DumpSectionWritten.{first_refused, last_written}
+use Rattle.cfi_dump.specs.CheckLines.{reasoned}
+use Rattle.cfi_text.proofs.PartsWritten.{first_refused, last_written}
 use Rattle.cfi_files.proofs.finding.write_reasoned_line.Goals as goal
 
 pub returns-in_err-write_reasoned : goal.returns-in_err-write_reasoned

@@ -1,4 +1,4 @@
-use Rattle.cfi_programs.specs.declared.style.Format.TheVariants.{Text}
+use Rattle.cfi_text.specs.declared.style.Format.TheVariants.{Text}
 use Rattle.cfi_files.specs.FileLines.{elf_words}
 use Rattle.cfi_files.specs.Findings.{name_of_finding}
 use Rattle.cfi_files.proofs.RefusedLines.{members_begun, members_written}

@@ -1,6 +1,6 @@
 use Rattle.std.proofs.Common.{codes}
 use Rattle.cfi_names.specs.Names.{shown}
-use Rattle.cfi_programs.proofs.DumpSectionWritten.{first_refused, last_written}
+use Rattle.cfi_text.proofs.PartsWritten.{first_refused, last_written}
 use Rattle.cfi_files.proofs.labels.write_label.Goals as goal
 
 pub returns-in_err-write_name : goal.returns-in_err-write_name

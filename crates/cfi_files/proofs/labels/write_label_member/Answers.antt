@@ -1,6 +1,6 @@
 use Rattle.std.proofs.Common.{◌++◌, codes}
-use Rattle.cfi_programs.specs.JsonTexts.{json_name}
-use Rattle.cfi_programs.proofs.DumpSectionWritten.{first_refused, last_written}
+use Rattle.cfi_text.specs.JsonTexts.{json_name}
+use Rattle.cfi_text.proofs.PartsWritten.{first_refused, last_written}
 use Rattle.cfi_files.proofs.labels.write_label_member.Goals as goal
 
 pub returns-in_err-write_text : goal.returns-in_err-write_text

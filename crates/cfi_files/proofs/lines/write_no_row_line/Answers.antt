@@ -1,7 +1,7 @@
 use Rattle.std.proofs.Common.{codes}
-use Rattle.cfi_programs.specs.declared.style.Format.TheVariants.{Json}
+use Rattle.cfi_text.specs.declared.style.Format.TheVariants.{Json}
 use Rattle.cfi_files.specs.FileLines.{elf_words}
-use Rattle.cfi_programs.proofs.RefusedLines.{behind_written}
+use Rattle.cfi_text.proofs.RefusedLines.{behind_written}
 use Rattle.cfi_files.proofs.lines.write_no_row_line.Goals as goal
 
 pub returns-in-Json : goal.returns-in-Json

@@ -1,6 +1,6 @@
-use Rattle.cfi_programs.specs.declared.style.Format.TheVariants.{Json}
+use Rattle.cfi_text.specs.declared.style.Format.TheVariants.{Json}
 use Rattle.cfi_files.specs.FileLines.{elf_words}
-use Rattle.cfi_programs.proofs.RefusedLines.{object_written}
+use Rattle.cfi_text.proofs.RefusedLines.{object_written}
 use Rattle.cfi_files.proofs.lines.write_refused_line.Goals as goal
 
 pub returns-in-Json : goal.returns-in-Json

@@ -1,6 +1,6 @@
 use Rattle.std.proofs.Common.{Err, List, ℕ, subst, arith}
 use Rattle.cfi_elf.specs.ElfFiles.{file_view}
-use Rattle.cfi_programs.specs.Words.{texts}
+use Rattle.cfi_text.specs.WordTexts.{texts}
 use Rattle.cfi_files.specs.Asked.{has_several}
 use Rattle.cfi_files.specs.RowOutputs.{IsWordLine}
 use Rattle.cfi_files.proofs.WordLines.{SoFar, all_given, failed_as, given_as, next_word, no_word_left, none_so_far, one_failed, one_more, some_word_line}

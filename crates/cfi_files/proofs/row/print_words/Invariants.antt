@@ -1,6 +1,6 @@
 use Rattle.std.proofs.Common.{drop}
 use Rattle.cfi_elf.specs.ElfFiles.{file_view}
-use Rattle.cfi_programs.specs.Words.{texts}
+use Rattle.cfi_text.specs.WordTexts.{texts}
 use Rattle.cfi_files.specs.Asked.{has_several}
 use Rattle.cfi_files.specs.RowOutputs.{IsWordLine}
 use Rattle.cfi_files.proofs.WordLines.{SoFar, some_word_line}

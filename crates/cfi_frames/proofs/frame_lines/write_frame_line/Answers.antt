@@ -1,5 +1,5 @@
 use Rattle.std.proofs.Common.{codes}
-use Rattle.cfi_programs.proofs.DumpSectionWritten.{first_refused, last_written}
+use Rattle.cfi_text.proofs.PartsWritten.{first_refused, last_written}
 use Rattle.cfi_processes.specs.Sites.{site_view}
 use Rattle.cfi_frames.specs.FrameLines.{column_text, file_text, frame_function}
 use Rattle.cfi_frames.proofs.StackLemmas.{closing, from_file, from_function, from_parenthesis}

@@ -1,4 +1,4 @@
-use Rattle.cfi_programs.proofs.DumpSectionWritten.{first_refused, last_written}
+use Rattle.cfi_text.proofs.PartsWritten.{first_refused, last_written}
 use Rattle.std.proofs.Common.{◌++◌}
 use Rattle.cfi_processes.specs.Sites.{site_view}
 use Rattle.cfi_frames.specs.FrameObjects.{file_member, function_members, place_member, shown_function}

@@ -1,6 +1,6 @@
-use Rattle.cfi_programs.proofs.DumpSectionWritten.{first_refused, last_written}
+use Rattle.cfi_text.proofs.PartsWritten.{first_refused, last_written}
 use Rattle.std.proofs.Common.{◌++◌, codes}
-use Rattle.cfi_programs.specs.JsonTexts.{json_name}
+use Rattle.cfi_text.specs.JsonTexts.{json_name}
 use Rattle.cfi_frames.specs.FrameObjects.{offset_member}
 use Rattle.cfi_frames.proofs.frame_objects.write_function.Goals as goal
 

@@ -1,4 +1,4 @@
-use Rattle.cfi_programs.proofs.DumpSectionWritten.{first_refused, last_written}
+use Rattle.cfi_text.proofs.PartsWritten.{first_refused, last_written}
 use Rattle.std.proofs.Common.{[], ◌∷◌, ◌++◌, codes, option_map}
 use Rattle.cfi_frames.specs.Reasons.{reason_view}
 use Rattle.cfi_frames.specs.FrameObjects.{reason_member}

@@ -1,6 +1,6 @@
 use Rattle.std.proofs.Common.{◌++◌, ℕ, map, subst}
-use Rattle.cfi_programs.specs.WriterOutput.{Writes}
-use Rattle.cfi_programs.proofs.DumpSectionWritten.{first_refused, last_written}
+use Rattle.cfi_text.specs.WriterOutput.{Writes}
+use Rattle.cfi_text.proofs.PartsWritten.{first_refused, last_written}
 use Rattle.cfi_processes.specs.KnownFiles.{known_view}
 use Rattle.cfi_processes.specs.Sites.{site_of}
 use Rattle.cfi_frames.specs.FrameLines.{address_column, site_line}

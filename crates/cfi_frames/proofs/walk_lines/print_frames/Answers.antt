@@ -1,6 +1,6 @@
 use Rattle.std.proofs.Common.{◌+◌, drop, get_or, map, false, None, refl}
 use Rattle.std.specs.List.{flat_map}
-use Rattle.cfi_programs.proofs.WrittenLemmas.{beginning_then, given_then, writes_refused}
+use Rattle.cfi_text.proofs.WrittenLemmas.{beginning_then, given_then, writes_refused}
 use Rattle.cfi_step.specs.declared.walk.StackFrame.{StackFrame}
 use Rattle.cfi_processes.specs.KnownFiles.{known_view}
 use Rattle.cfi_frames.specs.WalkLines.{frame_text}

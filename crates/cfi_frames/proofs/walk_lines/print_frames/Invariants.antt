@@ -1,5 +1,5 @@
 use Rattle.std.proofs.Common.{drop, map}
-use Rattle.cfi_programs.proofs.WrittenLemmas.{IsGiven}
+use Rattle.cfi_text.proofs.WrittenLemmas.{IsGiven}
 use Rattle.cfi_processes.specs.KnownFiles.{known_view}
 use Rattle.cfi_frames.specs.WalkLines.{stack_text}
 use Rattle.cfi_frames.proofs.walk_lines.print_frames.Given as goal

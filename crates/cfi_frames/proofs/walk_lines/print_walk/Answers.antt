@@ -1,6 +1,6 @@
 use Rattle.std.proofs.Common.{Option, map, subst, take}
-use Rattle.cfi_programs.specs.WriterOutput.{Writes}
-use Rattle.cfi_programs.proofs.DumpSectionWritten.{first_refused, last_written}
+use Rattle.cfi_text.specs.WriterOutput.{Writes}
+use Rattle.cfi_text.proofs.PartsWritten.{first_refused, last_written}
 use Rattle.cfi_processes.specs.KnownFiles.{known_view}
 use Rattle.cfi_frames.specs.WalkLines.{stack_text}
 use Rattle.cfi_frames.specs.Reasons.{Reason, end_line, reason_of}

@@ -1,6 +1,6 @@
 use Rattle.cfi_frames.proofs.StackLemmas.{then_more}
 use Rattle.std.proofs.Common.{◌++◌, codes}
-use Rattle.cfi_programs.specs.Lines.{address_text}
+use Rattle.cfi_text.specs.Lines.{address_text}
 use Rattle.cfi_frames.proofs.walk_objects.push_address_member.Goals as goal
 
 pub returns : goal.returns

@@ -1,7 +1,7 @@
 use Rattle.std.proofs.Common.{◌+◌, ◌++◌, ℕ, List, ap, drop, map, false, None}
 use Rattle.std.specs.List.{flat_map}
-use Rattle.cfi_programs.specs.JsonTexts.{separated}
-use Rattle.cfi_programs.proofs.WrittenLemmas.{beginning_then, given_all, given_then, writes_refused}
+use Rattle.cfi_text.specs.JsonTexts.{separated}
+use Rattle.cfi_text.proofs.WrittenLemmas.{beginning_then, given_all, given_then, writes_refused}
 use Rattle.cfi_step.specs.declared.walk.StackFrame.{StackFrame}
 use Rattle.cfi_step.specs.Steps.{row_address}
 use Rattle.cfi_processes.specs.declared.mappings.MappedCode.{MappedCode}

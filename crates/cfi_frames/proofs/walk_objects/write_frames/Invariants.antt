@@ -1,6 +1,6 @@
 use Rattle.std.proofs.Common.{drop, map}
-use Rattle.cfi_programs.specs.JsonTexts.{separated}
-use Rattle.cfi_programs.proofs.WrittenLemmas.{IsGiven}
+use Rattle.cfi_text.specs.JsonTexts.{separated}
+use Rattle.cfi_text.proofs.WrittenLemmas.{IsGiven}
 use Rattle.cfi_processes.specs.KnownFiles.{known_view}
 use Rattle.cfi_frames.specs.WalkObjects.{stack_objects}
 use Rattle.cfi_frames.proofs.walk_objects.write_frames.Given as goal

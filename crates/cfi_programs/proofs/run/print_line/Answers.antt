@@ -1,6 +1,7 @@
 use Rattle.std.proofs.Common.{refl}
 use Rattle.std.proofs.lemmas.Option.{IfSome_then}
-use Rattle.cfi_programs.specs.Runs.{out_of_memory, tool_of}
+use Rattle.cfi_text.specs.Refusals.{out_of_memory}
+use Rattle.cfi_programs.specs.Runs.{tool_of}
 use Rattle.cfi_programs.proofs.RunLemmas.{owes_memory}
 use Rattle.cfi_programs.proofs.run.print_line.Goals as goal
 

@@ -1,7 +1,7 @@
 use Rattle.std.proofs.Common.{◌∙◌, ◌++◌, ℕ, List, ap, inl}
 use Rattle.std.specs.List.{flat_map}
 use Rattle.cfi_flame.specs.FoldedCounts.{counted_in, line_text}
-use Rattle.cfi_programs.specs.declared.style.Format.TheVariants.{Text}
+use Rattle.cfi_text.specs.declared.style.Format.TheVariants.{Text}
 use Rattle.cfi_stacks.specs.ProfileOutputs.{profile_ended}
 use Rattle.cfi_stacks.proofs.folding.write_counts.Goals as goal
 

@@ -1,8 +1,8 @@
-use Rattle.cfi_programs.proofs.DumpSectionWritten.{first_refused, last_written}
-use Rattle.cfi_programs.specs.Lines.{Line}
-use Rattle.cfi_programs.specs.WriterOutput.{Prints}
+use Rattle.cfi_text.proofs.PartsWritten.{first_refused, last_written}
+use Rattle.cfi_text.specs.Lines.{Line}
+use Rattle.cfi_text.specs.WriterOutput.{Prints}
 use Rattle.std.proofs.Common.{[], subst}
-use Rattle.cfi_programs.specs.declared.style.Format.TheVariants.{Text}
+use Rattle.cfi_text.specs.declared.style.Format.TheVariants.{Text}
 use Rattle.cfi_stacks.specs.ProfileOutputs.{profile_ended}
 use Rattle.cfi_stacks.proofs.RunLemmas.{behind, no_status_is}
 use Rattle.cfi_stacks.proofs.folding.write_folded.Goals as goal

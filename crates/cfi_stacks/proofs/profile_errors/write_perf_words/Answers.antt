@@ -1,5 +1,5 @@
 use Rattle.std.proofs.Common.{◌++◌}
-use Rattle.cfi_programs.proofs.DumpSectionWritten.{first_refused, last_written}
+use Rattle.cfi_text.proofs.PartsWritten.{first_refused, last_written}
 use Rattle.cfi_stacks.specs.ProfileErrors.{perf_words}
 use Rattle.cfi_stacks.proofs.profile_errors.write_perf_words.Goals as goal
 

@@ -1,5 +1,5 @@
-use Rattle.cfi_programs.specs.declared.style.Format.TheVariants.{Json}
-use Rattle.cfi_programs.proofs.RefusedLines.{object_written}
+use Rattle.cfi_text.specs.declared.style.Format.TheVariants.{Json}
+use Rattle.cfi_text.proofs.RefusedLines.{object_written}
 use Rattle.cfi_stacks.specs.ProfileErrors.{perf_words}
 use Rattle.cfi_stacks.proofs.profile_errors.write_refused_line.Goals as goal
 

@@ -3,7 +3,7 @@ use Rattle.cfi_inputs.specs.Refusals.{input_refusal}
 use Rattle.cfi_stacks.specs.Choices.{choice_view}
 use Rattle.cfi_stacks.specs.ProfileIndexes.{HasRecords, IsIndex}
 use Rattle.cfi_stacks.specs.ProfileOutputs.{listing_format}
-use Rattle.cfi_programs.specs.WriterOutput.{PrintsSome}
+use Rattle.cfi_text.specs.WriterOutput.{PrintsSome}
 use Rattle.cfi_stacks.proofs.ShownLemmas.{IsOfBytes, of_index, refused_bytes, shows_more}
 use Rattle.cfi_stacks.proofs.run.print_records.Goals as goal
 

@@ -1,6 +1,6 @@
 use Rattle.cfi_frames.proofs.StackLemmas.{then_more}
 use Rattle.std.proofs.Common.{◌++◌, codes}
-use Rattle.cfi_programs.specs.JsonTexts.{json_number}
+use Rattle.cfi_text.specs.JsonTexts.{json_number}
 use Rattle.cfi_perf.specs.Samples.{sample_view}
 use Rattle.cfi_stacks.specs.SampleMembers.{cpu_member, nanoseconds_text}
 use Rattle.cfi_stacks.proofs.sample_members.push_number_members.Goals as goal

@@ -1,8 +1,8 @@
 use Rattle.std.proofs.Common.{ℕ, List, map, not, true}
 use Rattle.std.specs.List.{flat_map}
 use Rattle.cfi_perf.specs.Samples.{kernel_frames, sample_view}
-use Rattle.cfi_programs.specs.JsonTexts.{separated}
-use Rattle.cfi_programs.proofs.DumpSectionWritten.{first_refused, last_written}
+use Rattle.cfi_text.specs.JsonTexts.{separated}
+use Rattle.cfi_text.proofs.PartsWritten.{first_refused, last_written}
 use Rattle.cfi_processes.specs.KnownFiles.{known_view}
 use Rattle.cfi_processes.specs.KernelSites.{kernel_site}
 use Rattle.cfi_stacks.specs.SampleOutputs.{user_objects}

@@ -1,7 +1,7 @@
 use Rattle.std.proofs.Common.{map}
 use Rattle.cfi_perf.specs.CallChains.{addresses_left}
-use Rattle.cfi_programs.specs.JsonTexts.{separated}
-use Rattle.cfi_programs.proofs.WrittenLemmas.{IsGiven}
+use Rattle.cfi_text.specs.JsonTexts.{separated}
+use Rattle.cfi_text.proofs.WrittenLemmas.{IsGiven}
 use Rattle.cfi_processes.specs.KnownFiles.{known_view}
 use Rattle.cfi_processes.specs.KernelSites.{chain_site}
 use Rattle.cfi_stacks.specs.SampleOutputs.{chain_objects}

@@ -1,6 +1,6 @@
 use Rattle.std.proofs.Common.{◌∙◌, [], List, inl, inr, map, refl, subst, sym}
 use Rattle.cfi_perf.specs.Events.{record_view}
-use Rattle.cfi_programs.proofs.WrittenLemmas.{none_yet}
+use Rattle.cfi_text.proofs.WrittenLemmas.{none_yet}
 use Rattle.cfi_processes.specs.declared.profile_files.ProfileFile.{ProfileFile}
 use Rattle.cfi_processes.specs.KnownFiles.{known_view}
 use Rattle.cfi_processes.specs.Replays.{replay_known}

@@ -1,5 +1,5 @@
 use Rattle.std.proofs.Common.{ℕ, ap, map}
-use Rattle.cfi_programs.proofs.WrittenLemmas.{beginning_then, given_all, given_then, writes_refused}
+use Rattle.cfi_text.proofs.WrittenLemmas.{beginning_then, given_all, given_then, writes_refused}
 use Rattle.cfi_processes.specs.KernelSites.{chain_site}
 use Rattle.cfi_processes.specs.KnownFiles.{known_view}
 use Rattle.cfi_processes.specs.Sites.{site_view}

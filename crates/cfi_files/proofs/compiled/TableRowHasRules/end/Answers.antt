@@ -5,7 +5,7 @@ use Rattle.cfi_read_core.specs.declared.common.Register.{Register}
 use Rattle.cfi_state.specs.RulePairs.{rules_of}
 use Rattle.cfi_state.specs.declared.table.rules.RegisterRule.{RegisterRule}
 use Rattle.cfi_state.specs.declared.table.rules.RegisterRule.TheVariants.{Undefined}
-use Rattle.cfi_programs.proofs.RowLineLemmas.{get_behind, get_of_none}
+use Rattle.cfi_row_text.proofs.RowLineLemmas.{get_behind, get_of_none}
 use Rattle.cfi_files.proofs.compiled.TableRowHasRules.end.Goals as goal
 
 abbrev nothing : Register × RegisterRule ℕ

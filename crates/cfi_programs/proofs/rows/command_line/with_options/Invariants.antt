@@ -1,5 +1,5 @@
 use Rattle.std.proofs.Common.{◌≡◌, drop}
-use Rattle.cfi_programs.specs.Words.{texts}
+use Rattle.cfi_text.specs.WordTexts.{texts}
 use Rattle.cfi_programs.specs.RowsCommandLine.{option_words}
 use Rattle.cfi_programs.proofs.rows.command_line.with_options.Given as goal
 

@@ -1,5 +1,5 @@
 use Rattle.cfi_programs.specs.Input.{bytes_of_sections}
-use Rattle.cfi_programs.specs.WriterOutput.{Prints}
+use Rattle.cfi_text.specs.WriterOutput.{Prints}
 use Rattle.cfi_programs.proofs.RowsAnswerLemmas.{in_storage}
 use Rattle.cfi_programs.proofs.rows.row_lookup.print_answer.Goals as goal
 

@@ -1,0 +1,9 @@
+pub mod FunctionLines
+pub mod JsonLines
+pub mod CheckLines
+pub mod ReadingTexts
+pub mod DumpEntryLines
+pub mod DumpInstructionLines
+pub mod DumpSectionTexts
+pub mod DumpRowTexts
+pub mod DumpProgramOutput

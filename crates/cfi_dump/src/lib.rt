@@ -1,0 +1,17 @@
+//! What is printed of a section's entries, instructions and rows, and the verdict on a header's
+//! table.
+#![tactic(auto)]
+
+mod addressed_rows;
+mod advances;
+mod entry_line;
+mod function_line;
+mod instruction_line;
+mod instruction_words;
+pub mod print;
+mod printed;
+mod section;
+pub mod verdict_line;
+mod walk;
+
+pub use printed::{AskedRows, Printed};

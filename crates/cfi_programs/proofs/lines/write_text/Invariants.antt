@@ -1,5 +1,0 @@
-use Rattle.cfi_programs.proofs.WrittenLemmas.{IsGiven}
-use Rattle.cfi_programs.proofs.lines.write_text.Given as goal
-
-abbrev pub invariant-loop : goal.invariant-loop
-invariant-loop g l = IsGiven (g.W.Write.contents l.initial.output) (g.W.Write.contents l.output) l.rest l.text

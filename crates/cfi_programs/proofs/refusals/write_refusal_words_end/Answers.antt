@@ -1,8 +1,0 @@
-use Rattle.std.proofs.Common.{codes}
-use Rattle.cfi_programs.specs.declared.style.Format.TheVariants.{Json}
-use Rattle.cfi_programs.specs.ErrorWords.{error_words}
-use Rattle.cfi_programs.proofs.RefusedLines.{behind_written}
-use Rattle.cfi_programs.proofs.refusals.write_refusal_words_end.Goals as goal
-
-pub returns-in-Json : goal.returns-in-Json
-returns-in-Json g c = rw c.in-Json.is (behind_written _ _ _ (codes "refused ") (error_words Json c.args.error) c.write_error_words-in-Json.ensures)

@@ -1,5 +1,0 @@
-use Rattle.std.proofs.Common.{◌+◌, ap}
-use Rattle.cfi_programs.proofs.register_rules.number_after.Goals as goal
-
-pub returns-clause-number : goal.returns-clause-number
-returns-clause-number c = ap (λ n. n + 1) c.from.ensures

@@ -1,0 +1,21 @@
+use Rattle.std.proofs.Common.{◌∙◌, sym, drop, length}
+use Rattle.std.proofs.lemmas.List.{take_rest}
+use Rattle.cfi_names.proofs.NameLemmas.{some_left}
+use Rattle.cfi_names.specs.Names.{name_part_view, shown, shown_part}
+use Rattle.cfi_text.proofs.NamesWritten.{next_part, part_behind}
+use Rattle.cfi_text.proofs.WrittenLemmas.{beginning_then, given_then, writes_refused}
+use Rattle.cfi_text.proofs.names.write_parts.Goals as goal
+
+pub returns-in_err-write_part : goal.returns-in_err-write_part
+returns-in_err-write_part g c =
+    let left = c.loop-left.left.now in
+    let part = name_part_view c.first_part-part.result in
+    let to_write = next_part shown_part _ _ left part _ (some_left left (sym c.is_empty.ensures ∙ c.loop-left-test.true)) c.first_part-part.ensures c.loop-left.invariant in
+    writes_refused _ _ _ _ c.from_residual.ensures.0 (beginning_then _ _ _ (shown_part part) (shown (drop (length part.bytes) left)) _ to_write c.in_err-write_part.ensures)
+
+pub loop-left-preserved : goal.loop-left-preserved
+loop-left-preserved g c =
+    let left = c.loop-left.left.now in
+    let part = name_part_view c.first_part-part.result in
+    let to_write = next_part shown_part _ _ left part _ (some_left left (sym c.is_empty.ensures ∙ c.loop-left-test.true)) c.first_part-part.ensures c.loop-left.invariant in
+    part_behind shown_part _ _ left part _ _ (take_rest left (length part.bytes)) (given_then _ _ _ (shown_part part) (shown (drop (length part.bytes) left)) _ to_write c.in_ok-write_part.ensures)

@@ -1,0 +1,8 @@
+use Rattle.std.proofs.Common.{codes}
+use Rattle.cfi_text.specs.declared.style.Format.TheVariants.{Json}
+use Rattle.cfi_text.specs.ErrorWords.{error_words}
+use Rattle.cfi_text.proofs.RefusedLines.{behind_written}
+use Rattle.cfi_text.proofs.refusals.write_refusal_words_end.Goals as goal
+
+pub returns-in-Json : goal.returns-in-Json
+returns-in-Json g c = rw c.in-Json.is (behind_written _ _ _ (codes "refused ") (error_words Json c.args.error) c.write_error_words-in-Json.ensures)

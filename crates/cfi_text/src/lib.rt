@@ -1,0 +1,12 @@
+//! The parts of which the programs make their lines: text that is put together and written, numbers
+//! and addresses, names, the strings of JSON, and the lines that say why there is no answer.
+#![tactic(auto)]
+
+pub mod error_words;
+pub mod json;
+pub mod lines;
+pub mod names;
+pub mod numbers;
+pub mod refusals;
+pub mod style;
+pub mod text;
