@@ -1,5 +1,5 @@
-//! Verdicts over memory: faithful tables, each fault of others, other bases and byte orders, a
-//! failing output.
+//! Verdicts over memory: faithful tables, each fault of others, a failing output.
+use crate::comparison::expect;
 use cfi_dump::verdict_line::write_verdict;
 use cfi_programs::words::SectionWords;
 use cfi_tests_bytes::bytes_of;
@@ -110,15 +110,13 @@ fn status_of(line: &str) -> u8 {
 }
 
 /// The verdict on a header, which there is.
-fn verdict_on(
-    alloc: Global,
-    words: &SectionWords,
-    section: &str,
-    header: &str,
-) -> Result<Verdict, Fail> {
+fn verdict_on(alloc: Global, section: &str, header: &str) -> Result<Verdict, Fail> {
     let section = written_out(alloc, section)?;
     let header = written_out(alloc, header)?;
-    match words.source(section.as_slice(), header.as_slice()).check() {
+    match words()
+        .source(section.as_slice(), header.as_slice())
+        .check()
+    {
         Some(verdict) => Ok(verdict),
         None => Err(AllocError.into()),
     }
@@ -128,22 +126,10 @@ fn verdict_on(
 fn expect_line(rt: &(impl Abort + AllocGlobal), verdict: Verdict, line: &str) -> Result<(), Fail> {
     let mut output = Vec::new(rt.alloc());
     let status = write_verdict(&mut output, Format::Text, verdict)?;
-    let whole = format!(in rt.alloc(); "{line}\n")?;
-    assert_eq!(rt;
-        (str::from_utf8(output.as_slice()), status),
-        (Ok(whole.as_str()), status_of(line))
-    );
+    let printed = str::from_utf8(output.as_slice()).unwrap_or_default();
+    let found = (printed.strip_suffix('\n'), status);
+    expect(rt, line, &found, &(Some(line), status_of(line)));
     Ok(())
-}
-
-/// Compares the line of the verdict on three FDEs and their rows.
-fn expect_of_three(
-    rt: &(impl Abort + AllocGlobal),
-    words: &SectionWords,
-    line: &str,
-) -> Result<(), Fail> {
-    let verdict = verdict_on(rt.alloc(), words, THREE_FDES, THREE_ROWS)?;
-    expect_line(rt, verdict, line)
 }
 
 /// The section, the header and the line of a case; none of an empty line.
@@ -158,81 +144,18 @@ fn case_of(case: &str) -> Option<(&str, &str, &str)> {
 fn expect_each(rt: &(impl Abort + AllocGlobal), cases: &str) -> Result<(), Fail> {
     for case in cases.lines() {
         let Some((section, header, line)) = case_of(case) else {
-            assert_eq!(rt; case, "");
+            expect(rt, "between the cases", &case, &"");
             continue;
         };
-        let verdict = verdict_on(rt.alloc(), &words(), section, header)?;
-        expect_line(rt, verdict, line)?;
+        expect_line(rt, verdict_on(rt.alloc(), section, header)?, line)?;
     }
     Ok(())
 }
 
 #[test]
-fn faithful_tables(rt: HostRuntime) -> Result<(), Fail> {
-    expect_each(&rt, FAITHFUL)
-}
-
-#[test]
-fn each_fault(rt: HostRuntime) -> Result<(), Fail> {
+fn verdicts(rt: HostRuntime) -> Result<(), Fail> {
+    expect_each(&rt, FAITHFUL)?;
     expect_each(&rt, UNFAITHFUL)
-}
-
-#[test]
-fn other_bases(rt: HostRuntime) -> Result<(), Fail> {
-    let later = SectionWords {
-        section: Some(0x2008),
-        ..words()
-    };
-    let missed = "FDE 0x18: no row starts at 0x1008 and leads to it";
-    expect_of_three(&rt, &later, missed)?;
-    let nowhere = SectionWords {
-        section: None,
-        ..words()
-    };
-    let refused =
-        "FDE 0x18: refused PcRelativePointerButSectionBaseIsUndefined: section-relative pointer without the address of the section";
-    expect_of_three(&rt, &nowhere, refused)
-}
-
-/// Neither changes what these entries and rows mean.
-#[test]
-fn other_vendor_and_size(rt: HostRuntime) -> Result<(), Fail> {
-    let of_aarch64 = SectionWords {
-        vendor: Vendor::AArch64,
-        ..words()
-    };
-    expect_of_three(&rt, &of_aarch64, "faithful 3")?;
-    let narrow = SectionWords {
-        address_size: AddressSize::new(4),
-        text: Some(1),
-        data_base: Some(2),
-        ..words()
-    };
-    expect_of_three(&rt, &narrow, "faithful 3")
-}
-
-/// The section of the first two FDEs and the header with their rows, big-endian.
-const BIG_ENDIAN: (&str, &str) = (
-    "00000014 00000000 01 7a5200 01 78 10 01 1b 0c0708 9001 0000 \
-    00000010 0000001c ffffefe0 00000010 00 000000 \
-    00000010 00000030 ffffefdc 00000010 00 410e10 00000000",
-    "01 1b 03 3b 000000fc 00000002 fffff100 00000118 fffff110 0000012c",
-);
-
-#[test]
-fn byte_orders(rt: HostRuntime) -> Result<(), Fail> {
-    let big_endian = SectionWords {
-        endian: RunTimeEndian::Big,
-        ..words()
-    };
-    let (section, header) = BIG_ENDIAN;
-    let verdict = verdict_on(rt.alloc(), &big_endian, section, header)?;
-    expect_line(&rt, verdict, "faithful 2")?;
-    expect_of_three(
-        &rt,
-        &big_endian,
-        "row 3: refused UnexpectedEof: unexpected end of input at place 0x24",
-    )
 }
 
 /// Takes so many bytes, one a call, and then fails.
@@ -265,7 +188,7 @@ fn check_outputs(rt: &(impl Abort + AllocGlobal), verdict: Verdict, line: &str) 
     for room in 0..line.len() + 2 {
         let whole = room == line.len() + 1;
         let expected = if whole { Some(status_of(line)) } else { None };
-        assert_eq!(rt; written(verdict, room), expected, "{room} bytes");
+        expect(rt, room, &written(verdict, room), &expected);
     }
 }
 
@@ -282,7 +205,7 @@ const CHECKED: [(&str, &str); 2] = [
 #[test]
 fn a_failed_write(rt: HostRuntime) -> Result<(), Fail> {
     for (header, line) in &CHECKED {
-        let verdict = verdict_on(rt.alloc(), &words(), THREE_FDES, header)?;
+        let verdict = verdict_on(rt.alloc(), THREE_FDES, header)?;
         check_outputs(&rt, verdict, line);
     }
     Ok(())

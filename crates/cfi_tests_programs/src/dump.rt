@@ -1,4 +1,5 @@
 //! Sections printed over memory, whose rows were worked out by hand.
+use crate::comparison::expect;
 use cfi_dump::print::print_source;
 use cfi_dump::{AskedRows, Printed};
 use cfi_elf::FunctionNames;
@@ -9,29 +10,20 @@ use cfi_row_text::style::Style;
 use cfi_tests_bytes::bytes_of;
 use cfi_text::style::Format;
 use gimli_cfi::{AddressSize, RunTimeEndian, SectionKind, Vendor};
-use std::alloc::AllocError;
 use std::process::Abort;
 use std::test::Fail;
 
-/// `.debug_frame` of addresses of 8 bytes, in little-endian byte order.
-fn debug_frame() -> SectionWords {
+/// A section of addresses of 8 bytes, in little-endian byte order.
+fn words(kind: SectionKind, section: Option<u64>, vendor: Vendor) -> SectionWords {
     SectionWords {
-        kind: SectionKind::DebugFrame,
+        kind,
         endian: RunTimeEndian::Little,
         address_size: AddressSize::new(8),
-        section: None,
+        section,
         text: None,
         data_base: None,
-        vendor: Vendor::Default,
+        vendor,
         header: None,
-    }
-}
-
-/// `.eh_frame` of the same.
-fn eh_frame() -> SectionWords {
-    SectionWords {
-        kind: SectionKind::EhFrame,
-        ..debug_frame()
     }
 }
 
@@ -141,68 +133,74 @@ const INSTRUCTIONS_PRINTED: &str = "cie 0x0 length=90 version=4 size=8 code=1 da
 refused UnknownCallFrameInstruction: unknown call frame opcode 0x17
 ";
 
-/// Compares what was printed, and the status. Fails for lack of memory where a refusal of it is all
-/// that was printed: an allocation that fails changes no text.
-fn expect(
-    rt: &(impl Abort + AllocGlobal),
-    output: &[u8],
-    status: u8,
-    text: &str,
-) -> Result<(), Fail> {
-    let printed = str::from_utf8(output);
-    if (printed, status) == (Ok("refused OutOfMemory\n"), 1) {
-        return Err(AllocError.into());
-    }
-    assert_eq!(rt; (printed, status), (Ok(text), 0));
-    Ok(())
-}
-
-/// Compares what is printed of the entries of a section, and the status.
+/// Compares what is printed of a section, and the status.
 fn prints(
     rt: &(impl Abort + AllocGlobal),
     words: &SectionWords,
+    names: RegisterNames,
+    printed: Printed<'_>,
     digits: &str,
     text: &str,
 ) -> Result<(), Fail> {
     let bytes = bytes_of(rt.alloc(), digits)?;
+    let source = words.source(bytes.as_slice(), &[]);
     let mut output = Vec::new(rt.alloc());
-    let functions = FunctionNames::none(rt.alloc());
-    let status = print_entries(rt, words, bytes.as_slice(), &functions, &mut output)?;
-    expect(rt, output.as_slice(), status, text)
+    let status = print_source(rt.alloc(), names, printed, &source, &mut output)?;
+    let found = (str::from_utf8(output.as_slice()), status);
+    expect(rt, digits, &found, &(Ok(text), 0));
+    Ok(())
 }
 
-/// Prints the entries of a section, with the names of these functions.
-fn print_entries(
+const DEBUG_FRAME: (SectionKind, Option<u64>, Vendor) = (
+    SectionKind::DebugFrame,
+    None,
+    Vendor::AArch64,
+);
+
+const EH_FRAME: (SectionKind, Option<u64>, Vendor) = (
+    SectionKind::EhFrame,
+    Some(0x2000),
+    Vendor::Default,
+);
+
+/// Sections, and what is printed of their entries.
+const ENTRIES: [((SectionKind, Option<u64>, Vendor), &str, &str); 7] = [
+    (DEBUG_FRAME, THREE_ROWS, THREE_ROWS_PRINTED),
+    (DEBUG_FRAME, REFUSED, REFUSED_PRINTED),
+    (EH_FRAME, LETTERS, LETTERS_PRINTED),
+    (DEBUG_FRAME, INSTRUCTIONS, INSTRUCTIONS_PRINTED),
+    (EH_FRAME, "", ""),
+    (
+        DEBUG_FRAME,
+        "0500",
+        "refused UnexpectedEof: unexpected end of input at place 0x0\n",
+    ),
+    (
+        EH_FRAME,
+        "04000000 04000000",
+        "fde 0x0 length=4\nrefused NotCieId: the entry at offset 0x0 is not a CIE\n",
+    ),
+];
+
+fn prints_entries(
     rt: &(impl Abort + AllocGlobal),
     words: &SectionWords,
-    bytes: &[u8],
+    digits: &str,
     functions: &FunctionNames<'_>,
-    output: &mut Vec<u8>,
-) -> Result<u8, Fail> {
-    let names = RegisterNames::Numbers;
-    let source = words.source(bytes, &[]);
+    text: &str,
+) -> Result<(), Fail> {
     let entries = Printed::Entries(functions);
-    Ok(print_source(rt.alloc(), names, entries, &source, output)?)
+    prints(rt, words, RegisterNames::Numbers, entries, digits, text)
 }
 
 #[test]
 fn entries_and_rows(rt: HostRuntime) -> Result<(), Fail> {
-    prints(&rt, &debug_frame(), THREE_ROWS, THREE_ROWS_PRINTED)?;
-    prints(&rt, &debug_frame(), REFUSED, REFUSED_PRINTED)?;
-    let of_letters = SectionWords {
-        section: Some(0x2000),
-        ..eh_frame()
-    };
-    prints(&rt, &of_letters, LETTERS, LETTERS_PRINTED)
-}
-
-#[test]
-fn each_instruction(rt: HostRuntime) -> Result<(), Fail> {
-    let of_aarch64 = SectionWords {
-        vendor: Vendor::AArch64,
-        ..debug_frame()
-    };
-    prints(&rt, &of_aarch64, INSTRUCTIONS, INSTRUCTIONS_PRINTED)
+    let functions = FunctionNames::none(rt.alloc());
+    for ((kind, section, vendor), digits, text) in &ENTRIES {
+        let words = words(*kind, *section, *vendor);
+        prints_entries(&rt, &words, digits, &functions, text)?;
+    }
+    Ok(())
 }
 
 #[test]
@@ -210,28 +208,12 @@ fn a_compiled_table(rt: HostRuntime) -> Result<(), Fail> {
     let alloc = rt.alloc();
     let bytes = bytes_of(alloc, THREE_ROWS)?;
     let mut output = Vec::new(alloc);
-    let numbers = RegisterNames::Numbers;
-    let source = debug_frame().source(bytes.as_slice(), &[]);
-    let status = print_compiled(alloc, numbers, &source, &mut output)?;
-    expect(&rt, output.as_slice(), status, THREE_ROWS_COMPILED)
-}
-
-#[test]
-fn an_empty_section(rt: HostRuntime) -> Result<(), Fail> {
-    let big_endian = SectionWords {
-        endian: RunTimeEndian::Big,
-        address_size: AddressSize::new(4),
-        ..eh_frame()
-    };
-    prints(&rt, &big_endian, "", "")
-}
-
-#[test]
-fn entries_that_are_refused(rt: HostRuntime) -> Result<(), Fail> {
-    let cut = "refused UnexpectedEof: unexpected end of input at place 0x0\n";
-    prints(&rt, &debug_frame(), "0500", cut)?;
-    let no_cie = "fde 0x0 length=4\nrefused NotCieId: the entry at offset 0x0 is not a CIE\n";
-    prints(&rt, &eh_frame(), "04000000 04000000", no_cie)
+    let words = words(SectionKind::DebugFrame, None, Vendor::Default);
+    let source = words.source(bytes.as_slice(), &[]);
+    let status = print_compiled(alloc, RegisterNames::Numbers, &source, &mut output)?;
+    let found = (str::from_utf8(output.as_slice()), status);
+    expect(&rt, "a table", &found, &(Ok(THREE_ROWS_COMPILED), 0));
+    Ok(())
 }
 
 /// Addresses, and the rows of the FDEs that contain one of them; of all FDEs, where none are given.
@@ -243,13 +225,7 @@ const ADDRESSES: [(Option<&[u64]>, &str); 5] = [
     (Some(&[]), ""),
 ];
 
-/// Lines of text, with registers by number.
-const PLAIN: Style = Style {
-    names: RegisterNames::Numbers,
-    format: Format::Text,
-};
-
-/// Compares the rows that are printed at an address, and the status.
+/// Compares the rows that are printed of the FDEs with these addresses, and the status.
 fn prints_rows(
     rt: &(impl Abort + AllocGlobal),
     style: Style,
@@ -258,31 +234,14 @@ fn prints_rows(
     functions: &FunctionNames<'_>,
     text: &str,
 ) -> Result<(), Fail> {
-    let words = debug_frame();
-    prints_rows_of(rt, &words, style, digits, addresses, functions, text)
-}
-
-fn prints_rows_of(
-    rt: &(impl Abort + AllocGlobal),
-    words: &SectionWords,
-    style: Style,
-    digits: &str,
-    addresses: Option<&[u64]>,
-    functions: &FunctionNames<'_>,
-    text: &str,
-) -> Result<(), Fail> {
-    let bytes = bytes_of(rt.alloc(), digits)?;
-    let source = words.source(bytes.as_slice(), &[]);
     let Style { names, format } = style;
     let asked = AskedRows {
         addresses,
         functions,
         format,
     };
-    let mut output = Vec::new(rt.alloc());
-    let printed = Printed::Rows(asked);
-    let status = print_source(rt.alloc(), names, printed, &source, &mut output)?;
-    expect(rt, output.as_slice(), status, text)
+    let words = words(SectionKind::DebugFrame, None, Vendor::AArch64);
+    prints(rt, &words, names, Printed::Rows(asked), digits, text)
 }
 
 #[test]
@@ -293,6 +252,24 @@ fn rows_of_fdes(rt: HostRuntime) -> Result<(), Fail> {
     }
     Ok(())
 }
+
+/// Lines of text, with registers by number.
+const PLAIN: Style = Style {
+    names: RegisterNames::Numbers,
+    format: Format::Text,
+};
+
+/// The same with the names of x86-64.
+const NAMED: Style = Style {
+    names: RegisterNames::X86_64,
+    format: Format::Text,
+};
+
+/// Lines of JSON.
+const JSON: Style = Style {
+    names: RegisterNames::Numbers,
+    format: Format::Json,
+};
 
 /// Sections of AArch64, and the rows of their FDEs one by one.
 const WALKS: [(&str, &str); 12] = [
@@ -412,12 +389,8 @@ refused PopWithEmptyStack: restore_state without remember_state
 #[test]
 fn rows_one_by_one(rt: HostRuntime) -> Result<(), Fail> {
     let functions = FunctionNames::none(rt.alloc());
-    let of_aarch64 = SectionWords {
-        vendor: Vendor::AArch64,
-        ..debug_frame()
-    };
     for (digits, text) in &WALKS {
-        prints_rows_of(&rt, &of_aarch64, PLAIN, digits, None, &functions, text)?;
+        prints_rows(&rt, PLAIN, digits, None, &functions, text)?;
     }
     Ok(())
 }
@@ -428,14 +401,6 @@ const THREE_ROWS_NAMED: &str = "fde 0x1000 0x1020
 0x1001 0x1004 cfa=rsp+16 args=0 rbp=offset(-16) ra=offset(-8)
 0x1004 0x1020 cfa=rbp+16 args=0 rbp=offset(-16) ra=offset(-8)
 ";
-
-#[test]
-fn rows_with_names(rt: HostRuntime) -> Result<(), Fail> {
-    let functions = FunctionNames::none(rt.alloc());
-    let names = RegisterNames::X86_64;
-    let style = Style { names, ..PLAIN };
-    prints_rows(&rt, style, THREE_ROWS, None, &functions, THREE_ROWS_NAMED)
-}
 
 /// The rows of the FDE as lines of JSON.
 const THREE_ROWS_JSON: &str = "{\"fde\":{\"start\":\"0x1000\",\"end\":\"0x1020\"}}
@@ -467,17 +432,6 @@ DW_OP_and, DW_OP_lit11, DW_OP_ge, DW_OP_lit3, DW_OP_shl, DW_OP_plus)\",\
 \"r3\":\"val_expr(DW_OP_const1s -1)\",\"r6\":\"expr(DW_OP_deref, DW_OP_0xe0 0x01)\",\
 \"r16\":\"offset(-8)\"},\"rules_bytes\":{\"r3\":\"09ff\",\"r6\":\"06e001\"}}
 ";
-
-#[test]
-fn rows_with_expressions(rt: HostRuntime) -> Result<(), Fail> {
-    let functions = FunctionNames::none(rt.alloc());
-    let names = RegisterNames::X86_64;
-    let named = Style { names, ..PLAIN };
-    prints_rows(&rt, named, EXPRESSIONS, None, &functions, EXPRESSIONS_NAMED)?;
-    let format = Format::Json;
-    let json = Style { format, ..PLAIN };
-    prints_rows(&rt, json, EXPRESSIONS, None, &functions, EXPRESSIONS_JSON)
-}
 
 /// A state that was never remembered is restored, and the argument size is 2^53.
 const REFUSED_IN_JSON: &str = "10000000 ffffffff 04000800 017810 0c0708 9001 \
@@ -511,20 +465,21 @@ const LONG_RULES_JSON: &str = "{\"fde\":{\"start\":\"0x1000\",\"end\":\"0x1020\"
 \"r16\":\"offset(-8)\"}}
 ";
 
-/// Sections, and their rows as lines of JSON.
-const IN_JSON: [(&str, &str); 3] = [
-    (THREE_ROWS, THREE_ROWS_JSON),
-    (REFUSED_IN_JSON, REFUSED_JSON),
-    (LONG_RULES, LONG_RULES_JSON),
+/// Sections, and their rows in another style.
+const STYLED: [(Style, &str, &str); 6] = [
+    (NAMED, THREE_ROWS, THREE_ROWS_NAMED),
+    (NAMED, EXPRESSIONS, EXPRESSIONS_NAMED),
+    (JSON, EXPRESSIONS, EXPRESSIONS_JSON),
+    (JSON, THREE_ROWS, THREE_ROWS_JSON),
+    (JSON, REFUSED_IN_JSON, REFUSED_JSON),
+    (JSON, LONG_RULES, LONG_RULES_JSON),
 ];
 
 #[test]
-fn rows_in_json(rt: HostRuntime) -> Result<(), Fail> {
+fn rows_in_other_styles(rt: HostRuntime) -> Result<(), Fail> {
     let functions = FunctionNames::none(rt.alloc());
-    let format = Format::Json;
-    let style = Style { format, ..PLAIN };
-    for (digits, text) in &IN_JSON {
-        prints_rows(&rt, style, digits, None, &functions, text)?;
+    for (style, digits, text) in &STYLED {
+        prints_rows(&rt, *style, digits, None, &functions, text)?;
     }
     Ok(())
 }

@@ -3,7 +3,6 @@
 //! readelf's.
 
 mod bytes;
-mod cuts;
 mod errors;
 mod found;
 mod parts;

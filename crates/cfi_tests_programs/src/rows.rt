@@ -1,10 +1,10 @@
-//! Whole runs over memory: worked sections, wrong words and input, cut sections, failing input and
-//! output.
-mod cuts;
+//! Whole runs over memory: worked sections, wrong words and input, a section that is cut, failing
+//! input and output.
 mod extensions;
 mod failing;
 mod header;
 
+use crate::comparison::expect;
 use cfi_object::register_names::RegisterNames;
 use cfi_parts::instruction::UnwindExpression;
 use cfi_programs::rows::run::run;
@@ -233,21 +233,17 @@ fn run_text(alloc: Global, words: &str, text: &str) -> Result<(u8, Vec<u8>), All
 }
 
 /// Runs the program, and checks its line, which is given without its line feed, and its status.
-fn expect(
+fn answers(
     rt: &(impl Abort + AllocGlobal),
-    name: &str,
+    case: &str,
     words: &str,
     text: &str,
-    answer: (&str, u8),
+    line: &str,
 ) -> Result<(), Fail> {
-    let (line, status) = answer;
-    let (ended, output) = run_text(rt.alloc(), words, text)?;
-    let whole = format!(in rt.alloc(); "{line}\n")?;
-    assert_eq!(rt;
-        (str::from_utf8(output.as_slice()), ended),
-        (Ok(whole.as_str()), status),
-        "{name}, {words}"
-    );
+    let (status, output) = run_text(rt.alloc(), words, text)?;
+    let printed = str::from_utf8(output.as_slice()).unwrap_or_default();
+    let found = (printed.strip_suffix('\n'), status);
+    expect(rt, case, &found, &(Some(line), status_of(line)));
     Ok(())
 }
 
@@ -256,7 +252,7 @@ fn check(rt: &(impl Abort + AllocGlobal), table: &Table, more_words: &str) -> Re
     let mut text = String::new(rt.alloc());
     for row in table.cases.lines() {
         let Some(case) = case_of(row) else {
-            assert_eq!(rt; row, "");
+            expect(rt, "between the cases", &row, &"");
             continue;
         };
         if case.input != "same" {
@@ -274,65 +270,41 @@ fn check_case(
     text: &str,
 ) -> Result<(), Fail> {
     let words = format!(in rt.alloc(); "{}{more_words}", case.words)?;
-    let answer = (case.line, status_of(case.line));
-    expect(rt, case.name, words.as_str(), text, answer)
+    answers(rt, case.name, words.as_str(), text, case.line)
 }
 
 #[test]
 fn worked_sections(rt: HostRuntime) -> Result<(), Fail> {
-    check(&rt, &WORKED, "")?;
-    check(&rt, &WORKED, " store=vec")?;
-    check(&rt, &ENTRIES, "")?;
-    check(&rt, &LIMITS, "")?;
-    check(&rt, &WRONG, "")
-}
-
-/// A section whose one FDE gives 193 registers a rule.
-fn write_many_rules(text: &mut String, alloc: Global) -> Result<(), AllocError> {
-    text.push_str("0e000000 ffffffff 04000800 017810 0c0708 d7010000 ")?;
-    text.push_str(RANGE)?;
-    for register in 0..193u32 {
-        // From 128 on a number takes two bytes.
-        let second = if register < 128 { "" } else { "01" };
-        let undefined = format!(in alloc; " 07{register:02x}{second}")?;
-        text.push_str(undefined.as_str())?;
+    for table in [&WORKED, &ENTRIES, &LIMITS, &WRONG, &extensions::EXTENSIONS] {
+        check(&rt, table, "")?;
     }
-    Ok(())
-}
-
-/// The line of its row.
-fn write_many_rules_line(line: &mut String, alloc: Global) -> Result<(), AllocError> {
-    line.push_str("0x1000 0x1020 cfa=r7+8 args=0")?;
-    for register in 0..193u32 {
-        let rule = format!(in alloc; " r{register}=undefined")?;
-        line.push_str(rule.as_str())?;
+    for table in &header::TABLES {
+        check(&rt, table, "")?;
     }
-    Ok(())
+    check(&rt, &WORKED, " store=vec")
 }
 
-/// What 193 rules are answered in the fixed storage, in which they have no room in a row, and in
-/// the growing one.
-fn check_many_rules(rt: &(impl Abort + AllocGlobal), text: &str, line: &str) -> Result<(), Fail> {
-    let name = "193 rules";
-    let refused = ("refused TooManyRegisterRules", 1);
-    expect(rt, name, "debug_frame le 8 0x1000", text, refused)?;
-    expect(
-        rt,
-        name,
-        "debug_frame le 8 0x1000 store=vec",
-        text,
-        (line, 0),
-    )
+/// The section of three rows, of 52 bytes.
+const THREE_ROWS: &str = "10000000ffffffff040008000178100c07089001\
+    1c0000000000000000100000000000002000000000000000410e108602430d06";
+
+/// The line of its first bytes: without an FDE there is no row; within an entry the section ends
+/// too early.
+fn line_of_cut(count: usize) -> &'static str {
+    match count {
+        0 | 20 => "refused NoUnwindInfoForAddress",
+        52 => "0x1001 0x1004 cfa=r7+16 args=0 r6=offset(-16) r16=offset(-8)",
+        _ => "refused UnexpectedEof",
+    }
 }
 
 #[test]
-fn one_rule_more_than_there_is_room_for(rt: HostRuntime) -> Result<(), Fail> {
-    let alloc = rt.alloc();
-    let mut text = String::new(alloc);
-    write_many_rules(&mut text, alloc)?;
-    let mut line = String::new(alloc);
-    write_many_rules_line(&mut line, alloc)?;
-    check_many_rules(&rt, text.as_str(), line.as_str())
+fn each_cut_of_three_rows(rt: HostRuntime) -> Result<(), Fail> {
+    for count in 0..=52usize {
+        let cut = THREE_ROWS.get(..2 * count).unwrap_or_default();
+        answers(&rt, cut, "debug_frame le 8 0x1002", cut, line_of_cut(count))?;
+    }
+    Ok(())
 }
 
 /// Appends the longest parts of a line, one after the other.
@@ -353,12 +325,15 @@ fn push_longest_parts(text: &mut Text) -> fmt::Result {
 }
 
 #[test]
-fn has_room_for_the_longest_part(rt: HostRuntime) -> Result<(), Fail> {
+fn has_room_for_the_longest_part(rt: HostRuntime) {
     let mut text = Text::new();
     let pushed = push_longest_parts(&mut text).is_ok();
     let line =
         "0xffffffffffffffff 0xffffffffffffffff cfa=expr@18446744073709551615:18446744073709551615 args=18446744073709551615 r65535=val_expr@18446744073709551615:18446744073709551615";
-    assert_eq!(rt; pushed, true);
-    assert_eq!(rt; text.as_slice(), line.as_bytes());
-    Ok(())
+    expect(
+        &rt,
+        "a part",
+        &(pushed, text.as_slice()),
+        &(true, line.as_bytes()),
+    );
 }

@@ -1,5 +1,6 @@
 //! What is found in the four files.
 use super::bytes::{BIG_32, BIG_64, LITTLE_32, LITTLE_64, changed};
+use crate::comparison::expect;
 use cfi_elf::{Class, ElfError, ElfFile, FunctionNames, Section};
 use cfi_read_core::{RunTimeEndian, Vendor};
 use std::process::Abort;
@@ -130,19 +131,17 @@ fn check_parts(rt: &impl Abort, file: &ElfFile<'_>, places: &Places) {
         None,
         None,
     );
-    assert_eq!(rt; sections_of(file), Ok(sections));
     let segments = (Some((header, &BYTES[12..])), [Some(&BYTES[2..]), None]);
-    assert_eq!(rt; segments_of(file, places), Ok(segments));
+    let found = (sections_of(file), segments_of(file, places));
+    expect(rt, "parts", &found, &(Ok(sections), Ok(segments)));
 }
 
 fn check_symbols(rt: &impl Abort, file: &ElfFile<'_>, places: &Places) {
     let [text, _, fourth, ..] = *places;
     let start: Function<'_> = Some((b"start", text, 3));
     let functions = [start, Some((b"other", fourth, 1)), None];
-    assert_eq!(rt;
-        symbols_of(file, places),
-        Ok(([Some(text), None], functions))
-    );
+    let expected: Symbols<'_> = ([Some(text), None], functions);
+    expect(rt, "symbols", &symbols_of(file, places), &Ok(expected));
 }
 
 /// Compares the names at three addresses, at the second of which no function begins.
@@ -158,8 +157,7 @@ fn check_names(
         names.name_at(third),
         names.name_at(fourth),
     ];
-    let expected: [Option<&[u8]>; 3] = [Some(b"start"), None, Some(b"other")];
-    assert_eq!(rt; found, expected);
+    expect(rt, "names", &found, &[Some(b"start"), None, Some(b"other")]);
     Ok(())
 }
 
@@ -177,7 +175,7 @@ fn what_each_file_has(rt: HostRuntime) -> Result<(), Fail> {
     for (text, machine, header, places) in &FILES {
         let bytes = changed(rt.alloc(), text, &[(18, *machine)])?;
         let file = ElfFile::parse(bytes.as_slice())?;
-        assert_eq!(rt; header_of(&file), *header);
+        expect(&rt, "header", &header_of(&file), header);
         check_parts(&rt, &file, places);
         check_symbols(&rt, &file, places);
         check_names(&rt, &file, places)?;

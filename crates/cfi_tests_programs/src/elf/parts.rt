@@ -3,6 +3,7 @@
 ghost use Rattle.std.specs.Prelude.{None};
 
 use super::printed::{ALL_ROWS, DUMP, FILE, FailsAfter, prints};
+use crate::comparison::expect;
 use cfi_files::{Printed, Request, run_on_file};
 use cfi_object::input::copy_part;
 use cfi_object::{FileInput, InputError};
@@ -134,6 +135,7 @@ fn bytes_that_are_read(rt: HostRuntime) -> Result<(), Fail> {
     let bytes = bytes.as_slice();
     let dump = counted(rt.alloc(), Printed::Dump, bytes)?;
     let rows = counted(rt.alloc(), Printed::Rows(None, Format::Text), bytes)?;
-    assert_eq!(rt; (bytes.len(), dump, rows), (9_312, (8, 5_027), (8, 5_027)));
+    let found = (bytes.len(), dump, rows);
+    expect(&rt, "bytes", &found, &(9_312, (8, 5_027), (8, 5_027)));
     Ok(())
 }

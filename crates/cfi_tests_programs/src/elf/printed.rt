@@ -2,7 +2,8 @@
 //! expected rows and instructions are readelf's.
 ghost use Rattle.std.specs.Prelude.{None};
 
-use super::bytes::{LITTLE_64, changed};
+use super::bytes::changed;
+use crate::comparison::expect;
 use cfi_files::{Finding, Printed, Request, check_file, run_on_file};
 use cfi_object::input::copy_part;
 use cfi_object::{FileInput, InputError};
@@ -105,6 +106,9 @@ const WORDS: [&str; 7] = [
     "waits+2",
     "sleeps@V1",
 ];
+
+/// Those of them that have one.
+const FOUND_WORDS: [&str; 4] = ["pushes", "pushes@@V1+5", "0X4000b7", "4194486"];
 
 const FOUND_ROWS: &str = "pushes 0x4000b0: 0x4000b0 0x4000b1 cfa=rsp+8 args=0 ra=offset(-8)
 pushes@@V1+5 0x4000b5: 0x4000b5 0x4000b6 cfa=rsp+8 args=0 rbp=offset(-16) ra=offset(-8)
@@ -258,10 +262,8 @@ fn answers<I: FileInput>(
 ) -> Result<(), Fail> {
     let mut output = Vec::new(rt.alloc());
     let printed = run_on_file(rt.alloc(), request, input, &mut output)?;
-    assert_eq!(rt;
-        (str::from_utf8(output.as_slice()), printed),
-        (Ok(text), status)
-    );
+    let found = (str::from_utf8(output.as_slice()), printed);
+    expect(rt, "a file", &found, &(Ok(text), status));
     Ok(())
 }
 
@@ -275,54 +277,39 @@ fn finds<I: FileInput>(
 ) -> Result<(), Fail> {
     let mut output = Vec::new(rt.alloc());
     let found = check_file(rt.alloc(), format, "a file", input, &mut output)?;
-    assert_eq!(rt;
-        (str::from_utf8(output.as_slice()), found),
-        (Ok(text), finding)
-    );
+    let found = (str::from_utf8(output.as_slice()), found);
+    expect(rt, "a file", &found, &(Ok(text), finding));
     Ok(())
 }
+
+/// What is asked for, what is printed of the file, and the status.
+const PRINTED: [(Printed<'static>, &str, u8); 9] = [
+    (Printed::Row(&WORDS, Format::Text), ROWS_OF_WORDS, 1),
+    (Printed::Row(&FOUND_WORDS, Format::Text), FOUND_ROWS, 0),
+    (Printed::Rows(None, Format::Text), ALL_ROWS, 0),
+    (
+        Printed::Rows(Some("waits+1"), Format::Text),
+        ROWS_OF_WAITS,
+        0,
+    ),
+    (
+        Printed::Rows(Some("sleeps"), Format::Text),
+        "no address\n",
+        1,
+    ),
+    (Printed::Table, TABLE, 0),
+    (Printed::Dump, DUMP, 0),
+    (Printed::Row(&WORDS, Format::Json), ROWS_OF_WORDS_JSON, 1),
+    (Printed::Rows(None, Format::Json), ALL_ROWS_JSON, 0),
+];
 
 #[test]
 fn rows(rt: HostRuntime) -> Result<(), Fail> {
     let bytes = bytes_of(rt.alloc(), FILE)?;
-    let bytes = bytes.as_slice();
-    prints(
-        &rt,
-        Printed::Row(&WORDS, Format::Text),
-        &mut &*bytes,
-        ROWS_OF_WORDS,
-        1,
-    )?;
-    prints(
-        &rt,
-        Printed::Row(&WORDS[..4], Format::Text),
-        &mut &*bytes,
-        FOUND_ROWS,
-        0,
-    )?;
-    prints(
-        &rt,
-        Printed::Rows(None, Format::Text),
-        &mut &*bytes,
-        ALL_ROWS,
-        0,
-    )?;
-    prints(
-        &rt,
-        Printed::Rows(Some("waits+1"), Format::Text),
-        &mut &*bytes,
-        ROWS_OF_WAITS,
-        0,
-    )?;
-    prints(
-        &rt,
-        Printed::Rows(Some("sleeps"), Format::Text),
-        &mut &*bytes,
-        "no address\n",
-        1,
-    )?;
-    prints(&rt, Printed::Table, &mut &*bytes, TABLE, 0)?;
-    prints(&rt, Printed::Dump, &mut &*bytes, DUMP, 0)
+    for (printed, text, status) in &PRINTED {
+        prints(&rt, *printed, &mut bytes.as_slice(), text, *status)?;
+    }
+    Ok(())
 }
 
 /// The row of `waits` by the low byte of `e_machine`. The names are those of the machine's psABI.
@@ -351,38 +338,6 @@ fn names_of_registers(rt: HostRuntime) -> Result<(), Fail> {
     Ok(())
 }
 
-#[test]
-fn checks(rt: HostRuntime) -> Result<(), Fail> {
-    let bytes = bytes_of(rt.alloc(), FILE)?;
-    let faithful = Finding::Faithful;
-    let text = Format::Text;
-    let line = "a file: faithful 1\n";
-    finds(&rt, text, &mut bytes.as_slice(), line, faithful)?;
-    // The first address of the table's row is one above that of `pushes`.
-    let changed = changed(rt.alloc(), FILE, &[(0xc4, 0xf9)])?;
-    let no_row = "a file: FDE 0x18: no row starts at 0x4000b0 and leads to it\n";
-    finds(
-        &rt,
-        text,
-        &mut changed.as_slice(),
-        no_row,
-        Finding::Unfaithful,
-    )?;
-    let cut = bytes.get(..63).unwrap_or_default();
-    finds(
-        &rt,
-        text,
-        &mut &*cut,
-        "a file: refused HeaderCut: the file ends in its header\n",
-        Finding::NoTable,
-    )?;
-    let script = b"#!/bin/sh\n".as_slice();
-    let other = "a file: refused NotElf: not an ELF file\n";
-    finds(&rt, text, &mut &*script, other, Finding::OtherFile)?;
-    let line = "a file: wrong input\n";
-    finds(&rt, text, &mut Endless, line, Finding::Unreadable)
-}
-
 const FAITHFUL_JSON: &str = "{\"file\":\"a file\",\"result\":\"faithful\",\"rows\":1}
 ";
 
@@ -402,48 +357,66 @@ const WRONG_INPUT_JSON: &str = "{\"file\":\"a file\",\"result\":\"unreadable\",\
 \"reason\":\"wrong input\"}
 ";
 
+/// A byte of the file that is changed, at its offset, how many of its bytes are kept; what is
+/// printed of its check, as text and in JSON, and what was found. The first address of the table's
+/// row is made one above that of `pushes`.
+const CHECKED: [((usize, u8), usize, &str, &str, Finding); 3] = [
+    (
+        (0, 0x7f),
+        1120,
+        "a file: faithful 1\n",
+        FAITHFUL_JSON,
+        Finding::Faithful,
+    ),
+    (
+        (0xc4, 0xf9),
+        1120,
+        "a file: FDE 0x18: no row starts at 0x4000b0 and leads to it\n",
+        NO_ROW_JSON,
+        Finding::Unfaithful,
+    ),
+    (
+        (0, 0x7f),
+        63,
+        "a file: refused HeaderCut: the file ends in its header\n",
+        CUT_JSON,
+        Finding::NoTable,
+    ),
+];
+
 #[test]
-fn checks_in_json(rt: HostRuntime) -> Result<(), Fail> {
-    let bytes = bytes_of(rt.alloc(), FILE)?;
-    let bytes = bytes.as_slice();
-    let json = Format::Json;
-    finds(&rt, json, &mut &*bytes, FAITHFUL_JSON, Finding::Faithful)?;
-    let changed = changed(rt.alloc(), FILE, &[(0xc4, 0xf9)])?;
-    let unfaithful = Finding::Unfaithful;
-    finds(&rt, json, &mut changed.as_slice(), NO_ROW_JSON, unfaithful)?;
-    let cut = bytes.get(..63).unwrap_or_default();
-    finds(&rt, json, &mut &*cut, CUT_JSON, Finding::NoTable)?;
-    let failing = &mut FailsAfter { bytes, left: 0 };
-    finds(&rt, json, failing, WRONG_INPUT_JSON, Finding::Unreadable)
+fn checks(rt: HostRuntime) -> Result<(), Fail> {
+    for (change, length, text, json, finding) in &CHECKED {
+        let bytes = changed(rt.alloc(), FILE, &[*change])?;
+        let bytes = bytes.get(..*length).unwrap_or_default();
+        finds(&rt, Format::Text, &mut &*bytes, text, *finding)?;
+        finds(&rt, Format::Json, &mut &*bytes, json, *finding)?;
+    }
+    Ok(())
 }
 
 #[test]
-fn rows_in_json(rt: HostRuntime) -> Result<(), Fail> {
-    let bytes = bytes_of(rt.alloc(), FILE)?;
-    let bytes = bytes.as_slice();
-    let words = Printed::Row(&WORDS, Format::Json);
-    prints(&rt, words, &mut &*bytes, ROWS_OF_WORDS_JSON, 1)?;
-    let all = Printed::Rows(None, Format::Json);
-    prints(&rt, all, &mut &*bytes, ALL_ROWS_JSON, 0)?;
-    let cut = bytes.get(..3).unwrap_or_default();
-    prints(&rt, all, &mut &*cut, NOT_ELF_JSON, 1)?;
-    let failing = &mut FailsAfter { bytes, left: 0 };
-    prints(&rt, all, failing, "{\"error\":\"wrong input\"}\n", 2)
+fn files_that_cannot_be_checked(rt: HostRuntime) -> Result<(), Fail> {
+    let script = b"#!/bin/sh\n".as_slice();
+    let other = "a file: refused NotElf: not an ELF file\n";
+    finds(&rt, Format::Text, &mut &*script, other, Finding::OtherFile)?;
+    let (line, unreadable) = ("a file: wrong input\n", Finding::Unreadable);
+    finds(&rt, Format::Text, &mut Endless, line, unreadable)?;
+    finds(
+        &rt,
+        Format::Json,
+        &mut Endless,
+        WRONG_INPUT_JSON,
+        unreadable,
+    )
 }
 
 #[test]
 fn files_that_cannot_be_read(rt: HostRuntime) -> Result<(), Fail> {
+    let json = Printed::Rows(None, Format::Json);
     prints(&rt, Printed::Dump, &mut Endless, "wrong input\n", 2)?;
-    let empty: &[u8] = &[];
-    prints(&rt, Printed::Dump, &mut &*empty, NOT_ELF, 1)?;
-    let without = changed(rt.alloc(), LITTLE_64, &[])?;
-    prints(
-        &rt,
-        Printed::Row(&["sleeps"], Format::Text),
-        &mut without.as_slice(),
-        "no address\n",
-        1,
-    )
+    prints(&rt, json, &mut Endless, "{\"error\":\"wrong input\"}\n", 2)?;
+    prints(&rt, json, &mut b"ELF".as_slice(), NOT_ELF_JSON, 1)
 }
 
 #[test]
@@ -460,7 +433,7 @@ fn outputs_that_fail(rt: HostRuntime) -> Result<(), Fail> {
             &mut bytes.as_slice(),
             &mut output,
         );
-        assert!(rt; printed.is_err() && output.left == 0);
+        expect(&rt, left, &(printed.is_err(), output.left), &(true, 0));
     }
     Ok(())
 }

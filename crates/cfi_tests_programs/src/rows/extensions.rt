@@ -1,7 +1,6 @@
 //! Runs with letter `B` in an augmentation string, and with the opcode
 //! `DW_CFA_GNU_negative_offset_extended`.
-use super::{Table, check};
-use std::test::Fail;
+use super::Table;
 
 /// An offset below the CFA in an FDE whose CIE has letter `B`; a data alignment factor of -2^63,
 /// whose negation wraps; letter `B` before letters that need data; a rule that is given between a
@@ -17,8 +16,3 @@ in a remembered state | debug_frame le 8 0x1000 | CIE 1b000000 RANGE 0a 2f 06 02
 after it | debug_frame le 8 0x1001 | same | 0x1001 0x1020 cfa=r7+8 args=0 r16=offset(-8)
 ",
 };
-
-#[test]
-fn answers_extensions(rt: HostRuntime) -> Result<(), Fail> {
-    check(&rt, &EXTENSIONS, "")
-}

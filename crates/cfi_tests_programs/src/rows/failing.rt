@@ -1,4 +1,5 @@
-//! Runs whose words are missing, or whose input or output fails.
+//! Runs whose input or output fails.
+use crate::comparison::expect;
 use cfi_programs::rows::run::run;
 use std::alloc::Global;
 use std::io;
@@ -81,9 +82,9 @@ impl Write for RefusesAt {
 }
 
 /// What a run prints, and its status.
-fn printed<R: Read>(alloc: Global, words: Option<&[&str]>, input: &mut R) -> (Vec<u8>, u8) {
+fn printed<R: Read>(alloc: Global, words: &[&str], input: &mut R) -> (Vec<u8>, u8) {
     let mut output = Vec::new(alloc);
-    let status = run(alloc, words, input, &mut output);
+    let status = run(alloc, Some(words), input, &mut output);
     (output, status)
 }
 
@@ -93,31 +94,6 @@ fn taken(alloc: Global, section: &[u8], output: RefusesAt) -> (usize, u8) {
     let mut output = output;
     let status = run(alloc, Some(WORDS), &mut input, &mut output);
     (output.taken, status)
-}
-
-#[test]
-fn missing_words(rt: HostRuntime) {
-    let mut input: &[u8] = b"";
-    let (output, status) = printed(rt.alloc(), None, &mut input);
-    assert_eq!(rt;
-        (output.as_slice(), status),
-        (b"wrong words\n".as_slice(), 2)
-    );
-}
-
-#[test]
-fn wrong_words_before_a_failed_read(rt: HostRuntime) {
-    let words: &[&str] = &["debug_frame", "le", "8"];
-    let mut input = FailsAt {
-        bytes: b"",
-        calls: 0,
-        kind: ErrorKind::Other,
-    };
-    let (output, status) = printed(rt.alloc(), Some(words), &mut input);
-    assert_eq!(rt;
-        (output.as_slice(), status),
-        (b"wrong words\n".as_slice(), 2)
-    );
 }
 
 /// Words and inputs that are no hexadecimal, in the section or in the header.
@@ -145,9 +121,9 @@ fn check_reads(
 ) {
     for calls in 0..bytes.len() + 2 {
         let mut input = FailsAt { bytes, calls, kind };
-        let (output, status) = printed(rt.alloc(), Some(words), &mut input);
+        let (output, status) = printed(rt.alloc(), words, &mut input);
         let expected = (line_after(calls, bytes.len()), 2);
-        assert_eq!(rt; (output.as_slice(), status), expected, "{calls} reads");
+        expect(rt, calls, &(output.as_slice(), status), &expected);
     }
 }
 
@@ -180,7 +156,7 @@ fn a_failed_write(rt: HostRuntime) {
             let interrupted = RefusesAt::call(calls, ErrorKind::Interrupted);
             let repeated = taken(rt.alloc(), section, interrupted);
             let expected = ((calls, 2), (line.len(), *status));
-            assert_eq!(rt; (failed, repeated), expected, "{calls} bytes");
+            expect(&rt, calls, &(failed, repeated), &expected);
         }
     }
 }
@@ -190,6 +166,7 @@ fn a_failed_flush(rt: HostRuntime) {
     for (section, line, _) in &WRITTEN {
         let mut output = RefusesAt::call(usize::MAX, ErrorKind::Other);
         output.fails_to_flush = true;
-        assert_eq!(rt; taken(rt.alloc(), section, output), (line.len(), 2));
+        let found = taken(rt.alloc(), section, output);
+        expect(&rt, "a flush", &found, &(line.len(), 2));
     }
 }

@@ -1,5 +1,5 @@
 //! Runs with a header after the first line.
-use super::{Table, check, expect};
+use super::{Table, answers};
 use std::test::Fail;
 
 /// The first line: a section of three FDEs.
@@ -7,7 +7,7 @@ const THREE_FDES: &str =
     "14000000 00000000 01 7a5200 01 78 10 01 1b 0c0708 9001 0000\t10000000 1c000000 e0efffff 10000000 00 000000\r10000000 30000000 dcefffff 10000000 00 410e10 10000000 44000000 d8efffff 20000000 00 000000 00000000\n";
 
 /// By a table that lists the FDEs, or by going through the section where there is none.
-pub(super) const LISTED: Table = Table {
+const LISTED: Table = Table {
     before: THREE_FDES,
     cases: "
 the second FDE | eh_frame le 8 0x1018 section=0x2000 header=0x1f00 | 01 1b 03 3b fc000000 03000000 00f1ffff 18010000 10f1ffff 2c010000 20f1ffff 40010000 | 0x1011 0x1020 cfa=r7+16 args=0 r16=offset(-8)
@@ -21,7 +21,7 @@ no table | eh_frame le 8 0x1018 section=0x2000 header=0x1f00 | 01 1b 03 ff fc000
 };
 
 /// By a header that is no header of the section.
-pub(super) const DISHONEST: Table = Table {
+const DISHONEST: Table = Table {
     before: THREE_FDES,
     cases: "
 target: another FDE | eh_frame le 8 0x1018 section=0x2000 header=0x1f00 | 01 1b 03 3b fc000000 03000000 00f1ffff 18010000 10f1ffff 18010000 20f1ffff 40010000 | refused NoUnwindInfoForAddress
@@ -40,7 +40,7 @@ one indirect row | eh_frame le 8 0x1018 section=0x2000 header=0x1f00 | 01 1b 03 
 };
 
 /// Headers without a table, and headers whose table is too long.
-pub(super) const HEADERS: Table = Table {
+const HEADERS: Table = Table {
     before: THREE_FDES,
     cases: "
 pointer relative to itself | eh_frame le 8 0x1018 section=0x2000 header=0x1f00 | 01 1b ff ff 10000000 | 0x1011 0x1020 cfa=r7+16 args=0 r16=offset(-8)
@@ -68,30 +68,23 @@ header given twice | eh_frame le 8 0x1018 header=1 header=1 | 01 1b 03 ff fc0000
 ",
 };
 
-pub(super) const BIG_ENDIAN: Table = Table {
+const BIG_ENDIAN: Table = Table {
     before: "00000014 00000000 01 7a5200 01 78 10 01 1b 0c0708 9001 0000 00000010 0000001c ffffefe0 00000010 00 000000 00000010 00000030 ffffefdc 00000010 00 410e10 00000000\n",
     cases: "
 big-endian | eh_frame be 8 0x1018 section=0x2000 header=0x1f00 | 01 1b 03 3b 000000fc 00000002 fffff100 00000118 fffff110 0000012c | 0x1011 0x1020 cfa=r7+16 args=0 r16=offset(-8)
 ",
 };
 
-#[test]
-fn by_a_header(rt: HostRuntime) -> Result<(), Fail> {
-    check(&rt, &LISTED, "")?;
-    check(&rt, &DISHONEST, "")?;
-    check(&rt, &HEADERS, "")?;
-    check(&rt, &WRONG, "")?;
-    check(&rt, &BIG_ENDIAN, "")
-}
+/// All of them.
+pub(super) const TABLES: [Table; 5] = [LISTED, DISHONEST, HEADERS, WRONG, BIG_ENDIAN];
 
-/// Inputs, their lines and the statuses of those.
-const PARTS: [(&str, &str, u8); 3] = [
-    ("0\n0", "wrong hexadecimal", 2),
-    ("00", "refused UnexpectedEof", 1),
+/// Inputs, and their lines.
+const PARTS: [(&str, &str); 3] = [
+    ("0\n0", "wrong hexadecimal"),
+    ("00", "refused UnexpectedEof"),
     (
         "\n01 1b\n03 ff fc00\n0000",
         "refused NoUnwindInfoForAddress",
-        1,
     ),
 ];
 
@@ -99,8 +92,8 @@ const PARTS: [(&str, &str, u8); 3] = [
 #[test]
 fn parts_at_the_first_line_feed(rt: HostRuntime) -> Result<(), Fail> {
     let words = "eh_frame le 8 0x1018 section=0x2000 header=0x1f00";
-    for (input, line, status) in &PARTS {
-        expect(&rt, input, words, input, (line, *status))?;
+    for (input, line) in &PARTS {
+        answers(&rt, input, words, input, line)?;
     }
     Ok(())
 }
