@@ -1,4 +1,5 @@
 //! The values of expressions, and each error once.
+use crate::comparison::expect;
 use cfi_expression::{AddressSize, Frame, FrameError, Window, evaluate};
 use cfi_tests_bytes::bytes_of;
 use gimli_cfi::{EndianSlice, Error, Expression, LittleEndian, ReaderOffsetId, Register};
@@ -67,11 +68,8 @@ fn values(rt: HostRuntime) -> Result<(), Fail> {
     for (text, initial, value) in &VALUES {
         let bytes = bytes_of(rt.alloc(), text)?;
         let expression = Expression(EndianSlice::new(bytes.as_slice(), LittleEndian));
-        assert_eq!(rt;
-            evaluate(&expression, &frame, *initial, 100),
-            *value,
-            "{text}"
-        );
+        let found = evaluate(&expression, &frame, *initial, 100);
+        expect(&rt, *text, &found, value);
     }
     Ok(())
 }

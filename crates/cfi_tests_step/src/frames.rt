@@ -3,6 +3,7 @@ ghost use Rattle.std.specs.Prelude.{◌≡◌, None};
 ghost use Rattle.cfi_step.specs.CachedRows.{AreNumbered};
 ghost use Rattle.cfi_step.specs.ModuleLists.{module_list};
 
+use crate::comparison::expect;
 use cfi_compiled::CompiledTable;
 use cfi_expression::{AddressSize, FrameError, Memory, Window};
 use cfi_step::{
@@ -15,7 +16,6 @@ use gimli_cfi::{
     Vendor,
 };
 use std::alloc::Global;
-use std::process::Abort;
 use std::test::Fail;
 
 /// Two CIEs (CFA r7+8, r16 saved at CFA-8), of which the second is of signal trampolines; and FDEs:
@@ -30,29 +30,31 @@ pub const SECTION: &str = "10000000 00000000 01 00 01 78 10 0c0708 9001 0000 \
      18000000 1c000000 0050000000000000 1000000000000000 00 000000 \
      1c000000 c4000000 0021000000000000 1000000000000000 0c0700 0710 000000";
 
-pub const NOTHING: StackFrame = StackFrame {
+const NOTHING: StackFrame = StackFrame {
     pc: 0,
     is_interrupted: false,
     cfa: None,
 };
 
 /// A frame's pc, whether it was interrupted, and its CFA.
-pub type Shown = (u64, bool, Option<u64>);
+type Shown = (u64, bool, Option<u64>);
 
-pub fn shown(frame: &StackFrame) -> Shown {
+fn shown(frame: &StackFrame) -> Shown {
     (frame.pc, frame.is_interrupted, frame.cfa)
 }
 
 /// The registers of a frame: r6, the stack pointer r7, and r16 for the return address.
-pub type Registers = (Option<u64>, Option<u64>, Option<u64>);
+type Registers = (Option<u64>, Option<u64>, Option<u64>);
 
 fn three(registers: &[Option<u64>; 17]) -> Registers {
     (registers[6], registers[7], registers[16])
 }
 
-/// The innermost frame's pc, the room for frames, the memory from 0x7000 on; and what is written,
-/// with the registers that are left: those of the last frame, and those of its caller.
+/// Where the file is loaded, the innermost frame's pc, the room for frames, the memory from 0x7000
+/// on; and what is written, with the registers that are left: those of the last frame, and those of
+/// its caller.
 type Case = (
+    u64,
     u64,
     usize,
     &'static str,
@@ -62,8 +64,9 @@ type Case = (
     [Registers; 2],
 );
 
-const CASES: [Case; 9] = [
+const CASES: [Case; 10] = [
     (
+        0,
         0x1001,
         2,
         "6600000000000000 0821000000000000",
@@ -76,6 +79,7 @@ const CASES: [Case; 9] = [
         ],
     ),
     (
+        0,
         0x1001,
         2,
         "6600000000000000 0820000000000000",
@@ -88,6 +92,7 @@ const CASES: [Case; 9] = [
         ],
     ),
     (
+        0,
         0x1001,
         1,
         "6600000000000000 0820000000000000",
@@ -97,6 +102,7 @@ const CASES: [Case; 9] = [
         [(Some(0x66), Some(0x7010), Some(0x2008)); 2],
     ),
     (
+        0,
         0x1001,
         2,
         "6600000000000000 0890000000000000",
@@ -106,6 +112,7 @@ const CASES: [Case; 9] = [
         [(Some(0x66), Some(0x7010), Some(0x9008)); 2],
     ),
     (
+        0,
         0x1001,
         2,
         "6600000000000000",
@@ -118,6 +125,7 @@ const CASES: [Case; 9] = [
         ],
     ),
     (
+        0,
         0x1500,
         2,
         "",
@@ -130,6 +138,7 @@ const CASES: [Case; 9] = [
         ],
     ),
     (
+        0,
         0x3004,
         2,
         "",
@@ -139,6 +148,7 @@ const CASES: [Case; 9] = [
         [(Some(0x7100), Some(0x7100), Some(0x3004)); 2],
     ),
     (
+        0,
         0x4001,
         2,
         "082000000000aa00",
@@ -151,6 +161,7 @@ const CASES: [Case; 9] = [
         ],
     ),
     (
+        0,
         0x5001,
         2,
         "0020000000000000",
@@ -160,6 +171,22 @@ const CASES: [Case; 9] = [
         [
             (Some(0x7100), Some(0x7008), Some(0x2000)),
             (Some(0x7100), Some(0x7010), None),
+        ],
+    ),
+    (
+        0x4000_0000,
+        0x4000_1001,
+        2,
+        "6600000000000000 0820004000000000",
+        [
+            (0x4000_1001, true, Some(0x7010)),
+            (0x4000_2008, false, Some(0x7018)),
+        ],
+        2,
+        End::Outermost,
+        [
+            (Some(0x66), Some(0x7010), Some(0x4000_2008)),
+            (Some(0x66), Some(0x7018), None),
         ],
     ),
 ];
@@ -229,7 +256,7 @@ pub fn module_at<'a>(
 
 /// Walks from a pc: r6 is 0x7100, r7 the stack pointer 0x7000, and r16 the pc; the memory is that
 /// from 0x7000 on. With a cache, it is the second walk.
-pub fn walked_in(
+fn walked_in(
     alloc: Global,
     modules: &[LoadedModule<'_, EndianSlice<'_, LittleEndian>>],
     is_cached: bool,
@@ -287,73 +314,29 @@ fn walked_again<R: Reader<Offset = usize>, M: Memory>(
     unwind_cached(process, &mut rows, ctx, pc, registers, caller, frames)
 }
 
+/// The frames, the count and the end, and the registers that are left.
+type Walked = (Walk, [Shown; 2], [Registers; 2]);
+
+/// What a walk of a case does.
+fn walked_case(alloc: Global, way: Way, case: &Case) -> Result<Walked, Fail> {
+    let (bias, pc, room, text, ..) = case;
+    let memory = bytes_of(alloc, text)?;
+    let mut frames = [NOTHING, NOTHING];
+    let room = &mut frames[..(*room).min(2)];
+    let (walk, left) = walked(alloc, way, *bias, *pc, memory.as_slice(), room)?;
+    Ok((walk, [shown(&frames[0]), shown(&frames[1])], left))
+}
+
 /// By a scan of the section, by rows that a first walk kept, and by its compiled table.
 #[test]
 fn walks(rt: HostRuntime) -> Result<(), Fail> {
-    check_walks(&rt, rt.alloc(), Way::Scan)?;
-    check_walks(&rt, rt.alloc(), Way::Cache)?;
-    check_walks(&rt, rt.alloc(), Way::Table)
-}
-
-fn check_walks(rt: &impl Abort, alloc: Global, way: Way) -> Result<(), Fail> {
-    for (pc, room, text, written, count, end, left) in &CASES {
-        let memory = bytes_of(alloc, text)?;
-        let mut frames = [NOTHING, NOTHING];
-        let walk = walked(
-            alloc,
-            way,
-            0,
-            *pc,
-            memory.as_slice(),
-            &mut frames[..(*room).min(2)],
-        )?;
-        let expected = Walk {
-            count: *count,
-            end: *end,
-        };
-        let all = [shown(&frames[0]), shown(&frames[1])];
-        assert_eq!(rt; (walk, all), ((expected, *left), *written), "{pc}");
-    }
-    Ok(())
-}
-
-/// A file that is loaded elsewhere, with its own addresses.
-#[test]
-fn loaded_at_a_bias(rt: HostRuntime) -> Result<(), Fail> {
-    check_at_a_bias(&rt, rt.alloc(), Way::Scan)?;
-    check_at_a_bias(&rt, rt.alloc(), Way::Cache)?;
-    check_at_a_bias(&rt, rt.alloc(), Way::Table)
-}
-
-fn check_at_a_bias(rt: &impl Abort, alloc: Global, way: Way) -> Result<(), Fail> {
-    let memory = bytes_of(alloc, "6600000000000000 0820004000000000")?;
-    let memory = memory.as_slice();
-    let mut frames = [NOTHING, NOTHING];
-    let (walk, _left) = walked(alloc, way, 0x4000_0000, 0x4000_1001, memory, &mut frames)?;
-    let written = [
-        (0x4000_1001, true, Some(0x7010)),
-        (0x4000_2008, false, Some(0x7018)),
-    ];
-    let all = [shown(&frames[0]), shown(&frames[1])];
-    assert_eq!(rt;
-        (all, walk.count, walk.end),
-        (written, 2, End::Outermost),
-        "{way:?}"
-    );
-    Ok(())
-}
-
-/// However much of the stack was copied, a word of it is read whole or not at all.
-#[test]
-fn memory_cut_at_every_length(rt: HostRuntime) -> Result<(), Fail> {
-    let memory = bytes_of(rt.alloc(), "6600000000000000 0820000000000000")?;
-    for length in 0..16usize {
-        let mut frames = [NOTHING, NOTHING];
-        let whole = memory.as_slice();
-        let cut = &whole[..length.min(whole.len())];
-        let (walk, _left) = walked(rt.alloc(), Way::Scan, 0, 0x1001, cut, &mut frames)?;
-        let refused = End::Failed(FrameError::UnreadableMemory(0x7008));
-        assert_eq!(rt; (walk.count, walk.end), (1, refused), "{length}");
+    for way in [Way::Scan, Way::Cache, Way::Table] {
+        for case in &CASES {
+            let (_, pc, _, _, written, count, end, left) = case;
+            let (count, end) = (*count, *end);
+            let found = walked_case(rt.alloc(), way, case)?;
+            expect(&rt, *pc, &found, &(Walk { count, end }, *written, *left));
+        }
     }
     Ok(())
 }

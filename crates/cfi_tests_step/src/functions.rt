@@ -1,13 +1,11 @@
-//! Steps with the functions of their frames.
+//! A step with the function of its frame.
+use crate::comparison::expect;
 use crate::frames::{SECTION, module_at, section_of};
-use cfi_expression::{AddressSize, Frame, FrameError, Window};
+use cfi_expression::{AddressSize, Frame, Window};
 use cfi_step::{Abi, Caller, Function, FunctionStep, step_in_function};
 use cfi_tests_bytes::bytes_of;
-use gimli_cfi::{
-    BaseAddresses, EndianSlice, Error, LittleEndian, Pointer, Register, UnwindContext,
-};
+use gimli_cfi::{BaseAddresses, EndianSlice, LittleEndian, Pointer, Register, UnwindContext};
 use std::alloc::Global;
-use std::process::Abort;
 use std::test::Fail;
 
 /// A CIE with a personality, whose pointer is at 0x7700, and LSDAs (`zPL`), CFA r7+8, r16 saved at
@@ -43,34 +41,32 @@ fn stepped(alloc: Global, text: &str) -> Result<(FunctionStep, Option<u64>), Fai
     Ok((step, caller[7]))
 }
 
+const FUNCTION: Function = Function {
+    start: 0x1000,
+    end: 0x1010,
+    lsda: Some(Pointer::Direct(0x8800)),
+    personality: Some(Pointer::Indirect(0x7700)),
+    return_address: Register(16),
+    is_signal_trampoline: false,
+    offset: 0x20,
+};
+
+const CALLER: Caller = Caller {
+    cfa: 0x7008,
+    pc: Some(0x2008),
+    is_interrupted: false,
+    args_size: 0x30,
+};
+
 #[test]
 fn a_function_with_an_lsda(rt: HostRuntime) -> Result<(), Fail> {
     let (step, stack_pointer) = stepped(rt.alloc(), WITH_LSDA)?;
-    let function = Function {
-        start: 0x1000,
-        end: 0x1010,
-        lsda: Some(Pointer::Direct(0x8800)),
-        personality: Some(Pointer::Indirect(0x7700)),
-        return_address: Register(16),
-        is_signal_trampoline: false,
-        offset: 0x20,
-    };
-    let caller = Caller {
-        cfa: 0x7008,
-        pc: Some(0x2008),
-        is_interrupted: false,
-        args_size: 0x30,
-    };
-    let expected = (Some(function), Ok(caller), Some(0x7008));
-    assert_eq!(rt; (step.function, step.caller, stack_pointer), expected);
-    Ok(())
-}
-
-#[test]
-fn no_function(rt: HostRuntime) -> Result<(), Fail> {
-    let (step, stack_pointer) = stepped(rt.alloc(), "")?;
-    let error = FrameError::NoRow(Error::NoUnwindInfoForAddress);
-    let expected = (None, Err(error), None);
-    assert_eq!(rt; (step.function, step.caller, stack_pointer), expected);
+    let found = (step.function, step.caller, stack_pointer);
+    expect(
+        &rt,
+        "an LSDA",
+        &found,
+        &(Some(FUNCTION), Ok(CALLER), Some(0x7008)),
+    );
     Ok(())
 }

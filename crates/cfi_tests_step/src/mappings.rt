@@ -1,5 +1,6 @@
 //! What is mapped in processes. The expected rows are those of Linux: the lines of `/proc/PID/maps`
 //! after the same calls of mmap(2) with `MAP_FIXED`, and of fork(2).
+use crate::comparison::expect;
 use cfi_processes::{MappedCode, Processes};
 use std::alloc::{AllocError, Global};
 use std::test::Fail;
@@ -82,9 +83,12 @@ fn are_rows(mappings: &[MappedCode], rows: &[Row]) -> bool {
 #[test]
 fn as_linux_maps(rt: HostRuntime) -> Result<(), Fail> {
     let processes = changed(rt.alloc())?;
-    assert!(rt; are_rows(processes.mappings(10), &IN_THE_PARENT));
-    assert!(rt; are_rows(processes.mappings(11), &[]));
-    assert!(rt; are_rows(processes.mappings(12), &IN_THE_CHILD));
-    assert!(rt; are_rows(processes.mappings(13), &[]));
+    let found = [
+        are_rows(processes.mappings(10), &IN_THE_PARENT),
+        are_rows(processes.mappings(11), &[]),
+        are_rows(processes.mappings(12), &IN_THE_CHILD),
+        are_rows(processes.mappings(13), &[]),
+    ];
+    expect(&rt, "processes", &found, &[true; 4]);
     Ok(())
 }

@@ -1,9 +1,10 @@
-//! A small profile in both byte orders, of a program, a mapped file and a sample, and each error.
-//! The expected values are what `perf script -D` prints of the two.
+//! A small profile in both byte orders, of a program, a mapped file and a sample, and the same from
+//! a pipe. The expected values are what `perf script -D` prints of the two. Which error another
+//! profile returns is proved.
+use crate::comparison::expect;
 use cfi_perf::{Event, PerfError, Profile, Record, RecordWalk, Sample};
 use cfi_tests_bytes::bytes_of;
 use std::alloc::Global;
-use std::process::Abort;
 use std::test::Fail;
 
 /// Of a little-endian machine.
@@ -34,24 +35,11 @@ const BIG: &str = "\
     00000000004001230000000000000010a0a1a2a3a4a5a6a7a8a9aaabacadaeaf000000000000000800000000000001f8\
     000000000000000c0000000000000204000000000000000c00000008686f737400000000000000087838365f36340000";
 
-/// Where the first record, the sample, and the places of the sections behind the records begin in
-/// the little-endian profile.
+/// Where the first record and the places of the sections behind the records begin in the
+/// little-endian profile.
 const RECORDS: usize = 216;
 
-const SAMPLE: usize = 352;
-
 const BEHIND: usize = 472;
-
-/// A profile in which some bytes are changed, each at its offset.
-fn changed(alloc: Global, text: &str, changes: &[(usize, u8)]) -> Result<Vec<u8>, Fail> {
-    let mut bytes = bytes_of(alloc, text)?;
-    for (offset, byte) in changes {
-        if let Some(place) = bytes.get_mut(*offset) {
-            *place = *byte;
-        }
-    }
-    Ok(bytes)
-}
 
 /// The time, what kind of record it is, the process, an address, and how many bytes its name or its
 /// stack has.
@@ -76,41 +64,49 @@ const LINES: [Option<Line>; 4] = [
     None,
 ];
 
-fn next_line(records: &mut cfi_perf::Records<'_>) -> Result<Option<Line>, PerfError> {
-    match records.next()? {
-        Some(record) => Ok(Some(line(&record))),
-        None => Ok(None),
+fn line_of(record: Option<Record<'_>>) -> Option<Line> {
+    match record {
+        Some(record) => Some(line(&record)),
+        None => None,
     }
 }
 
-fn lines(bytes: &[u8]) -> Result<[Option<Line>; 4], PerfError> {
+type Lines = Result<[Option<Line>; 4], PerfError>;
+
+fn lines(bytes: &[u8]) -> Lines {
     let mut records = Profile::parse(bytes)?.records();
-    Ok([
-        next_line(&mut records)?,
-        next_line(&mut records)?,
-        next_line(&mut records)?,
-        next_line(&mut records)?,
-    ])
+    let mut lines = [None; 4];
+    for place in lines.iter_mut() {
+        *place = line_of(records.next()?);
+    }
+    Ok(lines)
 }
 
 /// The next record, by a window that ends with the records.
 fn next_line_in(walk: &mut RecordWalk<'_>, bytes: &[u8]) -> Result<Option<Line>, PerfError> {
     let left = bytes.get(walk.place() as usize..).unwrap_or_default();
     let window = left.get(..walk.left() as usize).unwrap_or_default();
-    match walk.next(window)? {
-        Some(record) => Ok(Some(line(&record))),
-        None => Ok(None),
-    }
+    Ok(line_of(walk.next(window)?))
 }
 
-fn lines_by_windows(bytes: &[u8]) -> Result<[Option<Line>; 4], PerfError> {
+fn lines_by_windows(bytes: &[u8]) -> Lines {
     let mut walk = Profile::parse(bytes)?.walk();
-    Ok([
-        next_line_in(&mut walk, bytes)?,
-        next_line_in(&mut walk, bytes)?,
-        next_line_in(&mut walk, bytes)?,
-        next_line_in(&mut walk, bytes)?,
-    ])
+    let mut lines = [None; 4];
+    for place in lines.iter_mut() {
+        *place = next_line_in(&mut walk, bytes)?;
+    }
+    Ok(lines)
+}
+
+/// The same by both, and the architecture.
+type Whole<'a> = (Lines, Lines, Result<Option<&'a [u8]>, PerfError>);
+
+fn architecture(bytes: &[u8]) -> Result<Option<&[u8]>, PerfError> {
+    Profile::parse(bytes)?.architecture()
+}
+
+fn whole(bytes: &[u8]) -> Whole<'_> {
+    (lines(bytes), lines_by_windows(bytes), architecture(bytes))
 }
 
 /// The registers AX, BX, SP and IP of a sample.
@@ -139,22 +135,15 @@ fn sampled(bytes: &[u8]) -> Result<[Option<u64>; 4], PerfError> {
 
 const REGISTERS: [Option<u64>; 4] = [Some(0x11), None, Some(0x7ffe), Some(0x40_0123)];
 
-fn check_whole(rt: &(impl Abort + AllocGlobal), text: &str) -> Result<(), Fail> {
-    let bytes = changed(rt.alloc(), text, &[])?;
-    let bytes = bytes.as_slice();
-    assert_eq!(rt;
-        (lines(bytes), lines_by_windows(bytes), sampled(bytes)),
-        (Ok(LINES), Ok(LINES), Ok(REGISTERS))
-    );
-    let architecture = Profile::parse(bytes)?.architecture()?;
-    assert_eq!(rt; architecture, Some(b"x86_64".as_slice()));
-    Ok(())
-}
-
 #[test]
 fn a_profile_in_both_orders(rt: HostRuntime) -> Result<(), Fail> {
-    check_whole(&rt, LITTLE)?;
-    check_whole(&rt, BIG)
+    for text in [LITTLE, BIG] {
+        let bytes = bytes_of(rt.alloc(), text)?;
+        let found = (whole(bytes.as_slice()), sampled(bytes.as_slice()));
+        let expected = (Ok(LINES), Ok(LINES), Ok(Some(b"x86_64".as_slice())));
+        expect(&rt, "a profile", &found, &(expected, Ok(REGISTERS)));
+    }
+    Ok(())
 }
 
 /// What stands before the attributes of the event in a pipe, and before the records: the headers of
@@ -187,176 +176,12 @@ const PIPED: [Option<Line>; 4] = [
     Some((11, 10, 7, 0x40_0000, 6)),
 ];
 
-fn check_piped(rt: &(impl Abort + AllocGlobal), text: &str, pipe: [&str; 2]) -> Result<(), Fail> {
-    let bytes = piped(rt.alloc(), text, pipe)?;
-    let bytes = bytes.as_slice();
-    let architecture = Profile::parse(bytes)?.architecture()?;
-    assert_eq!(rt;
-        (lines(bytes), lines_by_windows(bytes), architecture),
-        (Ok(PIPED), Ok(PIPED), Some(b"x86_64".as_slice()))
-    );
-    Ok(())
-}
-
 #[test]
 fn a_pipe_in_both_orders(rt: HostRuntime) -> Result<(), Fail> {
-    check_piped(&rt, LITTLE, LITTLE_PIPE)?;
-    check_piped(&rt, BIG, BIG_PIPE)
-}
-
-/// A case, the byte that is changed, at its offset, and the error.
-type Changed = (&'static str, (usize, u8), PerfError);
-
-const ERRORS: [Changed; 15] = [
-    ("no profile", (7, 0x31), PerfError::NotPerf),
-    ("the header of a pipe", (8, 16), PerfError::NoEvents),
-    ("a header of 72 bytes", (8, 72), PerfError::HeaderSize(72)),
-    ("samples in other files", (75, 1), PerfError::Directory),
-    (
-        "events of 111 bytes",
-        (16, 111),
-        PerfError::AttributeSize(111),
-    ),
-    (
-        "events past the end",
-        (27, 1),
-        PerfError::AttributesOutOfBounds,
-    ),
-    ("no bytes of events", (32, 0), PerfError::NoEvents),
-    (
-        "a second event, which is the first record",
-        (32, 224),
-        PerfError::MixedEvents,
-    ),
-    ("records past the end", (43, 1), PerfError::DataOutOfBounds),
-    (
-        "the architecture past the end",
-        (BEHIND + 19, 1),
-        PerfError::FeatureOutOfBounds,
-    ),
-    (
-        "a record of 7 bytes",
-        (RECORDS + 6, 7),
-        PerfError::RecordSize(7),
-    ),
-    (
-        "a record past the end of all",
-        (RECORDS + 7, 4),
-        PerfError::RecordCut,
-    ),
-    (
-        "a stack past the end of its sample",
-        (SAMPLE + 88, 17),
-        PerfError::RecordCut,
-    ),
-    (
-        "a name without its zero",
-        (RECORDS + 6, 33),
-        PerfError::RecordCut,
-    ),
-    ("compressed records", (RECORDS, 81), PerfError::Compressed),
-];
-
-/// The first error of a profile, its architecture's before its records'.
-fn error_in(bytes: &[u8]) -> Result<[Option<Line>; 4], PerfError> {
-    Profile::parse(bytes)?.architecture()?;
-    lines(bytes)
-}
-
-#[test]
-fn each_error(rt: HostRuntime) -> Result<(), Fail> {
-    for (case, change, error) in &ERRORS {
-        let bytes = changed(rt.alloc(), LITTLE, &[*change])?;
-        assert_eq!(rt; (case, error_in(bytes.as_slice())), (case, Err(*error)));
-    }
-    Ok(())
-}
-
-/// Nothing follows an error.
-#[test]
-fn nothing_after_an_error(rt: HostRuntime) -> Result<(), Fail> {
-    let bytes = changed(rt.alloc(), LITTLE, &[(RECORDS, 81)])?;
-    let mut records = Profile::parse(bytes.as_slice())?.records();
-    let first = next_line(&mut records);
-    assert_eq!(rt;
-        (first, next_line(&mut records)),
-        (Err(PerfError::Compressed), Ok(None))
-    );
-    Ok(())
-}
-
-/// The header, cut at every length.
-#[test]
-fn cut_headers(rt: HostRuntime) -> Result<(), Fail> {
-    let bytes = changed(rt.alloc(), LITTLE, &[])?;
-    for count in 8..104usize {
-        if let Some(cut) = bytes.as_slice().get(..count) {
-            assert_eq!(rt; (count, lines(cut)), (count, Err(PerfError::HeaderCut)));
-        }
-    }
-    Ok(())
-}
-
-/// Cut within the sample, and so without the name of the architecture.
-#[test]
-fn cut_records(rt: HostRuntime) -> Result<(), Fail> {
-    let bytes = changed(rt.alloc(), LITTLE, &[])?;
-    let cut = bytes.as_slice().get(..SAMPLE + 48).unwrap_or_default();
-    let profile = Profile::parse(cut)?;
-    assert_eq!(rt;
-        (
-            profile.is_cut(),
-            profile.architecture(),
-            lines(cut),
-            lines_by_windows(cut)
-        ),
-        (
-            true,
-            Ok(Some(b"x86_64".as_slice())),
-            Err(PerfError::DataOutOfBounds),
-            Err(PerfError::DataOutOfBounds)
-        )
-    );
-    Ok(())
-}
-
-const SENTENCES: [(PerfError, &str); 14] = [
-    (PerfError::NotPerf, "not a profile of perf record"),
-    (PerfError::PipeMode, "a pipe whose events don't stand first"),
-    (PerfError::HeaderCut, "the profile ends in its header"),
-    (PerfError::HeaderSize(5), "a header of size 5"),
-    (
-        PerfError::Directory,
-        "the samples are in other files of the folder",
-    ),
-    (PerfError::AttributeSize(64), "events of size 64"),
-    (
-        PerfError::AttributesOutOfBounds,
-        "the events go past the file's end",
-    ),
-    (PerfError::NoEvents, "the profile has no events"),
-    (
-        PerfError::MixedEvents,
-        "the events' samples have different fields",
-    ),
-    (
-        PerfError::DataOutOfBounds,
-        "the file ends before the records do",
-    ),
-    (
-        PerfError::FeatureOutOfBounds,
-        "a feature goes past the file's end",
-    ),
-    (PerfError::RecordSize(7), "a record of size 7"),
-    (PerfError::RecordCut, "a record ends in its fields"),
-    (PerfError::Compressed, "the records are compressed"),
-];
-
-#[test]
-fn sentences(rt: HostRuntime) -> Result<(), Fail> {
-    for (error, sentence) in &SENTENCES {
-        let text = error.to_string(rt.alloc())?;
-        assert_eq!(rt; text.as_str(), *sentence);
+    for (text, pipe) in [(LITTLE, LITTLE_PIPE), (BIG, BIG_PIPE)] {
+        let bytes = piped(rt.alloc(), text, pipe)?;
+        let expected = (Ok(PIPED), Ok(PIPED), Ok(Some(b"x86_64".as_slice())));
+        expect(&rt, "a pipe", &whole(bytes.as_slice()), &expected);
     }
     Ok(())
 }

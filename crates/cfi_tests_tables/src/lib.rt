@@ -1,12 +1,10 @@
-//! Tests of compiled tables, beside `row_by_scan`, address by address, and by hand; and runs of the
-//! programs of CALLING.md.
+//! Tests of compiled tables: that they are made, and keep equal rows once; and runs of the programs
+//! of CALLING.md. What a table returns for each address is proved.
 #![tactic(auto)]
 
 #[cfg(test)]
-mod by_hand;
-#[cfg(test)]
-mod by_scan;
-#[cfg(test)]
-mod many;
+mod comparison;
 #[cfg(test)]
 mod programs;
+#[cfg(test)]
+mod tables;
