@@ -1,5 +1,6 @@
-//! Tests below rows: readers, lists with a limit, and each call on sections, entries and
-//! instructions once. The expected values are those of the standards, or were worked out by hand.
+//! Tests below rows: readers, lists with a limit, sums of addresses, and each call on sections,
+//! entries and instructions once. The expected values are those of the standards, or were worked
+//! out by hand.
 #![tactic(auto)]
 
 #[cfg(test)]
@@ -12,3 +13,5 @@ mod lists;
 mod readers;
 #[cfg(test)]
 mod reads;
+#[cfg(test)]
+mod values;

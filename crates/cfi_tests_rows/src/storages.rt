@@ -1,16 +1,18 @@
-//! Rows over storages that allocate and one that doesn't: each succeeds where memory isn't refused.
-//! Which row it is, whatever the storage and the past of its context, is proved.
+//! Rows over storages that allocate and one that doesn't, and over offsets of four bytes: each
+//! succeeds where memory isn't refused. Which row it is, whatever the storage and the past of its
+//! context, is proved.
 use crate::comparison::expect;
-use crate::rows::{Slice, slice};
+use crate::rows::{Range, Slice, range_of, slice};
 use arrayvec::ArrayVec;
 use cfi_tests_bytes::THREE_ROWS;
 use gimli_cfi::{
-    ArrayLike, BaseAddresses, CopyList, DebugFrame, Error, Reader, ReaderOffset, Register,
-    RegisterRule, StoreGrowing, StoreOnHeap, UnwindContext, UnwindContextStorage, UnwindTable,
-    UnwindTableRow, row_by_scan, scan_for_fde,
+    ArrayLike, BaseAddresses, CopyList, DebugFrame, Error, LittleEndian, NarrowSlice, Reader,
+    ReaderOffset, Register, RegisterRule, StoreGrowing, StoreOnHeap, UnwindContext,
+    UnwindContextStorage, UnwindTable, UnwindTableRow, row_by_scan, scan_for_fde,
 };
 use std::alloc::Global;
 use std::process::Abort;
+use std::test::Fail;
 
 /// A storage whose rules are copied into memory of their own.
 struct StoreBoxed;
@@ -166,4 +168,23 @@ fn rows_over_each_storage(rt: HostRuntime) {
         slice(&RULES),
         slice(&THREE_ROWS),
     );
+}
+
+/// The addresses of a row, by a fresh context.
+fn range_by<R: Reader, S: UnwindContextStorage<R::Offset>>(
+    alloc: Global,
+    rules: R,
+) -> Result<Range, Error> {
+    let mut context: UnwindContext<R::Offset, S> = UnwindContext::new_in(alloc)?;
+    let bases = BaseAddresses::default();
+    let section = DebugFrame::from(rules);
+    range_of(row_by_scan(&section, &bases, &mut context, 0x1000))
+}
+
+#[test]
+fn a_row_over_offsets_of_four_bytes(rt: HostRuntime) -> Result<(), Fail> {
+    let rules = NarrowSlice::new(&RULES, LittleEndian)?;
+    let found = range_by::<_, StoreOnHeap>(rt.alloc(), rules);
+    expect(&rt, "offsets of four bytes", &found, &Ok((0x1000, 0x1020)));
+    Ok(())
 }
