@@ -36,14 +36,16 @@ pub struct Room {
 }
 
 impl Room {
-    ghost use Rattle.std.specs.Prelude.{IfOk};
+    ghost use Rattle.std.specs.Prelude.{◌≡◌, IfErr, IfOk};
     ghost use Rattle.cfi_processes.specs.SampleStacks.{HasRoom};
     ghost use Rattle.cfi_frames.specs.Rooms.{KeepsNoRows};
 
-    /// Room for `FRAMES` frames and `ROWS` rows; none is kept. Fails where memory is refused.
+    /// Room for `FRAMES` frames and `ROWS` rows; none is kept. Fails with `OutOfMemory` where
+    /// memory is refused.
     pub fn new(alloc: Global) -> Result<Room, Error>
         ensures rows { IfOk result KeepsNoRows }
         ensures frames { IfOk result (λ room. HasRoom room.frames.items) }
+        ensures err { IfErr result (λ error. error ≡ Error.OutOfMemory) }
     {
         let context = UnwindContext::<usize>::new(alloc)?;
         let Ok(cache) = empty_rows(alloc) else {
