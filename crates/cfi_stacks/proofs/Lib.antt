@@ -8,6 +8,7 @@ mod PieceLemmas
 mod TurnLemmas
 mod AroundLemmas
 mod ShownLemmas
+mod NoticeLemmas
 mod SampleTurns
 mod TakenLemmas
 mod FoundLemmas

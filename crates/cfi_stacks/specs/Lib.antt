@@ -4,6 +4,7 @@ pub mod SampleMembers
 pub mod Choices
 pub mod ProfileErrors
 pub mod ProfileIndexes
+pub mod ProfileNotices
 pub mod SampleOutputs
 pub mod KnownSamples
 pub mod TakenSamples

@@ -1,5 +1,5 @@
 //! The stacks of a profile, by the files that it names.
-ghost use Rattle.std.specs.Prelude.{◌⊎◌, ℕ, List, map};
+ghost use Rattle.std.specs.Prelude.{◌⊎◌, ℕ, List, Some, map};
 ghost use Rattle.cfi_object.specs.FileInputs.{AreLeft};
 ghost use Rattle.cfi_perf.specs.Profiles.{records_by};
 ghost use Rattle.cfi_perf.specs.ProfileHeads.{head_view};
@@ -11,6 +11,7 @@ ghost use Rattle.cfi_processes.specs.Wanted.{wanted_view};
 ghost use Rattle.cfi_stacks.specs.Choices.{choice_view};
 ghost use Rattle.cfi_stacks.specs.ProfileIndexes.{AreBytesAt, AreBytesOf, HasRecords, HasRecordsAt};
 ghost use Rattle.cfi_stacks.specs.ProfileIndexes.{HoldsOf, IsIndex, IsReadAround, IsTallySaid};
+ghost use Rattle.cfi_stacks.specs.ProfileNotices.{IsHeadSaid, IsProfileSaid, IsWalkSaid};
 ghost use Rattle.cfi_stacks.specs.ProfileOutputs.{IsInputRefused, IsListingOwed, IsListingPrinted};
 ghost use Rattle.cfi_stacks.specs.ProfileOutputs.{IsOfArchitecture, IsOfRecords, IsProfileOfOpened};
 ghost use Rattle.cfi_stacks.specs.ProfileOutputs.{IsProfileOfSorted, IsProfileOfWanted};
@@ -90,11 +91,12 @@ pub fn list_profile<O: Opener, I: FileInput, W: Write>(
     input: &mut I,
     output: &mut W,
 ) -> io::Result<u8>
-    ensures { (bytes : List ℕ) × AreLeft (I.bytes input.old) bytes
+    ensures printed { (bytes : List ℕ) × AreLeft (I.bytes input.old) bytes
         × PrintsSome (λ line. IsListingOwed listing (choice_view choice.now)
         (O.may_open opener.now) O.File.remaining
         bytes line)
         (W.contents output.old) (W.contents output.new) result }
+    ensures said { IsProfileSaid (O.has_said opener.now) (I.bytes input.old) result }
 {
     let printing = Printing {
         alloc,
@@ -118,11 +120,12 @@ fn print_around<O: Opener, I: FileInput, W: Write>(
 ) -> io::Result<u8>
     requires { IsReadAround (I.bytes input.old) around.now.before.items around.now.behind.items
         around.now.length }
-    ensures { (bytes : List ℕ) × AreLeft (I.bytes input.old) bytes
+    ensures printed { (bytes : List ℕ) × AreLeft (I.bytes input.old) bytes
         × PrintsSome (λ line. IsListingOwed printing.now.listing
         (choice_view printing.now.choice.now) (O.may_open printing.now.opener.now)
         O.File.remaining bytes line)
         (W.contents output.old) (W.contents output.new) result }
+    ensures said { IsProfileSaid (O.has_said printing.now.opener.now) (I.bytes input.old) result }
 {
     let before = around.before.as_slice();
     match Profile::parse_around(before, around.behind.as_slice(), around.length) {
@@ -138,11 +141,12 @@ fn print_whole<O: Opener, I: FileInput, W: Write>(
     input: &mut I,
     output: &mut W,
 ) -> io::Result<u8>
-    ensures { (bytes : List ℕ) × AreLeft (I.bytes input.old) bytes
+    ensures printed { (bytes : List ℕ) × AreLeft (I.bytes input.old) bytes
         × PrintsSome (λ line. IsListingOwed printing.now.listing
         (choice_view printing.now.choice.now) (O.may_open printing.now.opener.now)
         O.File.remaining bytes line)
         (W.contents output.old) (W.contents output.new) result }
+    ensures said { IsProfileSaid (O.has_said printing.now.opener.now) (I.bytes input.old) result }
 {
     match read_whole(printing.alloc, input) {
         Ok(bytes) => print_bytes(printing, bytes.as_slice(), output),
@@ -159,9 +163,10 @@ pub fn unwind_profile<O: Opener, I: FileInput, W: Write>(
     input: &mut I,
     output: &mut W,
 ) -> io::Result<u8>
-    ensures { (bytes : List ℕ) × AreLeft (I.bytes input.old) bytes
+    ensures printed { (bytes : List ℕ) × AreLeft (I.bytes input.old) bytes
         × PrintsSome (λ line. IsUnwindOwed raw (O.may_open opener.now) O.File.remaining bytes line)
         (W.contents output.old) (W.contents output.new) result }
+    ensures said { IsProfileSaid (O.has_said opener.now) (I.bytes input.old) result }
 {
     list_profile(
         alloc,
@@ -179,10 +184,11 @@ fn print_bytes<O: Opener, W: Write>(
     bytes: &[u8],
     output: &mut W,
 ) -> io::Result<u8>
-    ensures { PrintsSome (λ line. IsProfileOutput printing.now.listing
+    ensures printed { PrintsSome (λ line. IsProfileOutput printing.now.listing
         (choice_view printing.now.choice.now) (O.may_open printing.now.opener.now)
         O.File.remaining bytes.now line)
         (W.contents output.old) (W.contents output.new) result }
+    ensures said { IsProfileSaid (O.has_said printing.now.opener.now) (Some bytes.now) result }
 {
     match Profile::parse(bytes) {
         Ok(profile) => {
@@ -203,12 +209,14 @@ fn print_profile<O: Opener, I: FileInput, W: Write>(
 ) -> io::Result<u8>
     requires { HasRecordsAt (I.bytes input.old) (head_view head.now).place
         (head_view head.now).size }
-    ensures { PrintsSome (λ line. (all : List ℕ)
+    ensures printed { PrintsSome (λ line. (all : List ℕ)
         × AreBytesAt (I.bytes input.old) (head_view head.now).place (head_view head.now).size all
         × IsOfArchitecture printing.now.listing (choice_view printing.now.choice.now)
         (O.may_open printing.now.opener.now) O.File.remaining
         (head_view head.now).architecture (records_by (head_view head.now) all) line)
         (W.contents output.old) (W.contents output.new) result }
+    ensures said { IsHeadSaid (O.has_said printing.now.opener.now) (I.bytes input.old)
+        (head_view head.now) result }
 {
     match head.architecture() {
         Ok(Some(name)) => match SampleMachine::named(name) {
@@ -229,11 +237,14 @@ fn print_records<O: Opener, I: FileInput, W: Write>(
     output: &mut W,
 ) -> io::Result<u8>
     requires { HasRecords (I.bytes input.old) walk }
-    ensures { PrintsSome (λ line. (all : List ℕ) × AreBytesOf (I.bytes input.old) walk.entry all
+    ensures printed { PrintsSome (λ line. (all : List ℕ)
+        × AreBytesOf (I.bytes input.old) walk.entry all
         × IsOfRecords printing.now.listing (choice_view printing.now.choice.now)
         (O.may_open printing.now.opener.now) O.File.remaining
         machine (records_in walk.entry all) line)
         (W.contents output.old) (W.contents output.new) result }
+    ensures said { IsWalkSaid (O.has_said printing.now.opener.now) (I.bytes input.old)
+        walk.entry result }
 {
     match index_records(printing.alloc, walk, input) {
         Ok(index) => {

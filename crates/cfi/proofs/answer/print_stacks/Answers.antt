@@ -21,7 +21,7 @@ returns-in-Some g c =
     let choice = choice_view c.args.choice.now in
     let folders = folders_view c.args.folders in
     let IsRight : Disk → Line → Type 0 = λ disk line. AreProfileStacks disk tree c.args.listing choice folders c.args.file.now line in
-    let (bytes, are, prints) = c.list_profile.ensures in
+    let (bytes, are, prints) = c.list_profile.ensures.printed in
     same_output may_open left g.S.File.FileInput.bytes g.met.S.System.same_bytes IsRight old _ c.list_profile.result
     (output_of disk (MayOpenProfile disk tree c.args.file.now) (IsListingOwed c.args.listing choice (MayOpenAt disk folders) left) c.in-Some.input old _ c.list_profile.result
     c.in-Some.ensures (bytes, subst (λ (known : Option (List ℕ)). AreLeft known bytes) (sym (g.met.S.System.same_bytes c.in-Some.input)) are, prints))
