@@ -48,8 +48,8 @@ fn counts_of(alloc: Global, bytes: &[u8]) -> Result<[Counts; 2], Error> {
 const CIE: &str = "10000000 ffffffff 04000800 017810 0c0708 9001";
 
 /// FDEs of a `.debug_frame`, after the CIE; how many steps and how many rows and errors the table
-/// has, counted by hand: equal rows once, and so `NoUnwindInfoForAddress`, another error for each
-/// of its steps.
+/// has, counted by hand: equal rows once, and so `NoUnwindInfoForAddress`, but another error for
+/// each of its steps.
 const SECTIONS: [(&str, (usize, usize)); 22] = [
     ("", (1, 1)),
     // three rows, and none before and after them
