@@ -35,6 +35,8 @@ UNORDERED = "No sample_id_all support, falling back to unordered processing"
 SAMPLE = re.compile(r"(?:(\d+) )?0x[0-9a-f]+ \[0x[0-9a-f]+\]: PERF_RECORD_SAMPLE\(IP, 0x([0-9a-f]+)\)")
 SIGNS = "perf prints the numbers of processes and threads with a sign"
 MODIFIERS = re.compile(":[uknHGpPhDIe]*$")
+# what perf makes of the attributes of an event that is neither of the processor nor of the kernel
+MADE_UP = re.compile(r"unknown|raw 0x[0-9a-f]+$|mem:0x[0-9a-f]+:|invalid-cache$|\w+/[\w-]+/$|(L1-[di]cache|LLC|[di]TLB|branch|node)-(load|store|prefetch)")
 Head = collections.namedtuple("Head", "comm pid tid time period event")
 
 # ---- changed profiles
@@ -209,7 +211,7 @@ def event_rule(_, mine, other, theirs):
     name = MODIFIERS.sub("", other.event)
     if mine.event == name:
         return "perf puts modifiers behind a name that isn't stored"
-    if mine.event == re.sub("^unknown.*", "unknown", name):
+    if mine.event == "unknown" and MADE_UP.match(name):
         return "an event without a name is unknown"
     return "perf names events by PERF_RECORD_EVENT_UPDATE, which cfi doesn't read" if theirs.has_updates else None
 
