@@ -129,13 +129,14 @@ struct outcome {
 
 static uint8_t *rooms[WINDOWS];
 
-/* Windows that overlap, touch, lie at the last addresses or are empty. */
+/* Windows that overlap, touch, lie at the last addresses, go past them or are empty. */
 static void make_windows(struct frame *frame) {
     uint64_t base = number() >> below(60);
     for (int i = 0; i < WINDOWS; i++) {
         size_t length = below(8) ? below(ROOM) : below(12);
         uint8_t *bytes = rooms[i] + ROOM - length;
-        frame->windows[i] = (CfiWindow){below(40) ? base : -(uint64_t)length, bytes, length};
+        uint64_t last = -(below(2) ? length : below(length + 1));
+        frame->windows[i] = (CfiWindow){below(40) ? base : last, bytes, length};
         for (size_t k = 0; k + 8 <= length; k += 8 + 8 * below(32)) {
             uint64_t word = below(3) ? base + below(ROOM) : below(2) ? any_code() : number();
             memcpy(bytes + k, &word, sizeof word);
