@@ -211,6 +211,8 @@ def event_rule(_, mine, other, theirs):
     name = MODIFIERS.sub("", other.event)
     if mine.event == name:
         return "perf puts modifiers behind a name that isn't stored"
+    if mine.event in (printable(name), printable(other.event)):
+        return "a name is printed escaped"
     if mine.event == "unknown" and MADE_UP.match(name):
         return "an event without a name is unknown"
     return "perf names events by PERF_RECORD_EVENT_UPDATE, which cfi doesn't read" if theirs.has_updates else None
