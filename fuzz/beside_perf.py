@@ -115,6 +115,7 @@ class Printed:
         self.heads, self.lost, self.said, self.guests = [], [0, 0], None, 0
         # of each thread that begins, its number and its parent's; and the threads that perf removes
         self.forks, self.removed, self.are_lacking, self.has_updates = [], set(), False, False
+        self.path = None
 
 
 def printed_by_cfi(text, errors):
@@ -215,7 +216,10 @@ def event_rule(_, mine, other, theirs):
         return "a name is printed escaped"
     if mine.event == "unknown" and MADE_UP.match(name):
         return "an event without a name is unknown"
-    return "perf names events by PERF_RECORD_EVENT_UPDATE, which cfi doesn't read" if theirs.has_updates else None
+    if theirs.has_updates:
+        return "perf names events by PERF_RECORD_EVENT_UPDATE, which cfi doesn't read"
+    header = output_of(["perf", "report", "--header-only", "-I", "-i", theirs.path])[1]
+    return "perf can't read all names of events, and takes none" if "event desc: not available" in header else None
 
 
 def number_rule(field, mine, other, _):
@@ -234,6 +238,7 @@ def compare(program, data, path, counts):
         yield f"perf ends with status {status}", ""
         return
     theirs = printed_by_perf(text, errors)
+    theirs.path = path
     counts["profiles"] += 1
     yield from compare_heads(ours, theirs, counts)
     if ours.lost == theirs.lost:

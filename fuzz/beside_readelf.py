@@ -187,7 +187,7 @@ def rows_of_readelf(text):
 # the name, the kind, the address, the offset, the size and the flags of a section
 SECTION = re.compile(r"^  \[ *(\d+)\] (.*?) +([A-Z]\S*|[0-9a-f]+: <unknown>) +([0-9a-f]{8,16}) ([0-9a-f]+) ([0-9a-f]+) [0-9a-f]+ ([A-Za-z ]{0,8})")
 # the value, the type, the section and the name of a symbol; names may have spaces
-SYMBOL = re.compile(r"^ +\d+: ([0-9a-f]+) +\S+ ([A-Z]+|<[^>]*>: \S+) +(?:[A-Z]+|<[^>]*>: \S+) +[A-Z]+ +(?:<other>: \w+ +)?"
+SYMBOL = re.compile(r"^ +\d+: ([0-9a-f]+) +\S+ ([A-Z]+|<[^>]*>: \S+) +(?:[A-Z]+|<[^>]*>: \S+) +[A-Z]+ +(?:\[?<other>: \w+\]? +)?"
                     r"(\d+|[A-Z]{2,3}(?: *\[\w+\])?|bad section index\[ *\d+\]) (.*)$")
 SIMPLE = re.compile(r"[A-Za-z_.][\w.$]*", re.ASCII)
 Section = collections.namedtuple("Section", "name kind address offset size flags")
@@ -201,6 +201,11 @@ def sections_of(text):
             number, name, kind, *numbers, flags = match.groups()
             found[int(number)] = Section(name, kind, *(int(number, 16) for number in numbers), flags)
     return found
+
+
+def is_named(text, name):
+    """Whether a section has the name."""
+    return any(section.name == name for section in sections_of(text).values())
 
 
 def symbols_of(text):
@@ -343,8 +348,10 @@ def compare_section(run, section, ours, theirs, said, complaint, is_object, thei
             rule = f"rows: {rule}"
         elif "cie=invalid" in theirs_text:
             rule = "rows: a CIE is read where its pointer leads, by readelf only where an entry begins"
-        elif not theirs and section == ".eh_frame" and not re.search(r"\] \.eh_frame ", run.readelf("-S")[0]):
+        elif not theirs and section == ".eh_frame" and not is_named(run.readelf("-S")[0], section):
             rule = "rows: no section is named .eh_frame, and cfi takes the segment"
+        elif not theirs and is_object and "should index a symtab section" in (run.readelf("-S")[1] or ""):
+            rule = "rows: relocations name no table of symbols, and cfi takes the file's"
         else:
             rule = None
         yield rule, f"{section} FDE {k}: cfi {mine}, readelf {other}"
@@ -446,6 +453,8 @@ def name_rule(data, text, name, ours, theirs, complaint):
     tables = [data[section.offset : section.offset + section.size] for section in sections if section.kind == "STRTAB"]
     if set(ours) <= set(theirs) and any(table.split(b"\0")[0] == name.encode() for table in tables):
         return "names: index 0 is no name, and readelf prints what its table begins with"
+    if not ours and any(name.encode() + b" \0" in table for table in tables):
+        return "names: a name ends with a space, which isn't seen in what readelf prints"
     if any(table.endswith(name.encode()) for table in tables):
         return "names: a name goes on to the end of its table, without a zero"
     if any(section.kind == "STRTAB" and section.offset < 20 and section.offset + section.size > 18 for section in sections):
