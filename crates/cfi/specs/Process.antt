@@ -14,7 +14,7 @@ use Rattle.cfi_text.specs.Lines.{Line}
 use Rattle.cfi_text.specs.WriterOutput.{IsBeginning}
 use Rattle.cfi_files.specs.FileOutputs.{IsOwed}
 use Rattle.cfi_files.specs.declared.request.Request.{Request}
-use Rattle.cfi_commands.specs.Checks.{AreChecked}
+use Rattle.cfi_checks.specs.Checks.{AreChecked}
 use Rattle.cfi_commands.specs.CommandLine.{cfi_app}
 use Rattle.cfi_commands.specs.Disks.{Disk}
 use Rattle.cfi_commands.specs.FlameOutputs.{IsSummaryOwed, OfStacks, graph, table}

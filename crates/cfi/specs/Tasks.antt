@@ -19,7 +19,7 @@ use Rattle.cfi_stacks.specs.Choices.{Choice, choice_view}
 use Rattle.cfi_stacks.specs.declared.listing.Listing.{Listing}
 use Rattle.cfi_stacks.specs.declared.listing.Listing.TheVariants.{Folded, Frames, Json}
 use Rattle.cfi_core_stacks.specs.declared.listing.ThreadListing.{ThreadListing}
-use Rattle.cfi_commands.specs.declared.checks.CheckStyle.{CheckStyle}
+use Rattle.cfi_checks.specs.declared.checks.CheckStyle.{CheckStyle}
 use Rattle.cfi_commands.specs.declared.times.Times.{Times}
 use Rattle.cfi_commands.specs.declared.words.Mistake.{Mistake as MistakeOfCode}
 use Rattle.cfi_commands.specs.declared.words.Mistake.TheVariants.{NoFiles, NoTimes, NoWidth}

@@ -2,7 +2,7 @@
 ghost use Rattle.std.specs.Prelude.{map};
 ghost use Rattle.cfi_text.specs.WriterOutput.{PrintsSome};
 ghost use Rattle.cfi_stacks.specs.Choices.{choice_view};
-ghost use Rattle.cfi_commands.specs.Checks.{AreChecked, AreTalliedChecks};
+ghost use Rattle.cfi_checks.specs.Checks.{AreChecked, AreTalliedChecks};
 ghost use Rattle.cfi_commands.specs.Disks.{disk_of};
 ghost use Rattle.cfi_commands.specs.FlameOutputs.{summary_view};
 ghost use Rattle.cfi_commands.specs.Folders.{folders_view};
@@ -13,10 +13,10 @@ ghost use Rattle.cfi.specs.Tasks.{of_request, task_view};
 ghost use Rattle.cfi_commands.specs.Trees.{tree_of};
 
 use crate::task::Task;
+use cfi_checks::{CheckStyle, check_files, count_findings, greatest_status, write_tally};
 use cfi_commands::{
-    CheckStyle, Folders, Names, ProfileOpener, Summary, System, Target, check_files,
-    count_findings, greatest_status, open_named, open_profile, print_folded, targets_of,
-    write_tally,
+    Folders, Names, ProfileOpener, Summary, System, Target, open_named, open_profile, print_folded,
+    targets_of,
 };
 use cfi_core_stacks::{ThreadListing, print_core};
 use cfi_files::{Request, run_on_file};

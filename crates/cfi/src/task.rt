@@ -11,7 +11,8 @@ ghost use Rattle.cfi.specs.Tasks.{unwinding_at};
 use crate::values::{
     choice_in, file_in, folders_in, format_in, is_asked, u64_at, value_for, values_at,
 };
-use cfi_commands::{ANY_TIME, CheckStyle, Folders, Mistake, Names, Times, time_of, times_of};
+use cfi_checks::CheckStyle;
+use cfi_commands::{ANY_TIME, Folders, Mistake, Names, Times, time_of, times_of};
 use cfi_core_stacks::ThreadListing;
 use cfi_files::{Printed, Request};
 use cfi_flame::Drawing;

@@ -1,4 +1,3 @@
-pub mod CheckLemmas
 mod ClapLemmas
 mod EndLemmas
 mod FlagLemmas
@@ -11,7 +10,6 @@ pub mod NumberLemmas
 mod ObjectLemmas
 mod OptionLemmas
 mod PlaceLemmas
-mod QuietLemmas
 mod ReadingLemmas
 mod RowLemmas
 mod StepLemmas

@@ -9,9 +9,8 @@ use Rattle.std.specs.Cmp.Lexicographic.{slice_cmp}
 use Rattle.std.specs.List.Sorted.{IsPermutation, IsSorted, IsSortedByKey}
 use Rattle.std.specs.Ordering.{nat_cmp, is_lt}
 use Rattle.clap.specs.Words.{Text}
-use Rattle.cfi_commands.specs.Checks.{AreTargets, IsListRead}
 use Rattle.cfi_commands.specs.Disks.{Disk}
-use Rattle.cfi_commands.specs.Targets.{Adds, AreOfNames, AreNamedFiles, AreIn, AreNamesInOrder, AreListedFiles, AreOfEntry, AreOfList, Names, TreeEntry, Target, found, of_files, of_list, rest_of, target_view, with_rest}
+use Rattle.cfi_commands.specs.Targets.{Adds, AreIn, AreListedFiles, AreNamedFiles, AreNamesInOrder, AreOfEntry, AreOfList, AreOfNames, AreTargets, IsListRead, Names, Target, TreeEntry, found, of_files, of_list, rest_of, target_view, with_rest}
 use Rattle.cfi_commands.specs.Trees.{Tree}
 use Rattle.cfi_commands.specs.declared.targets.Target.{Target as TargetOfCode}
 use Rattle.cfi_commands.proofs.NameLemmas.{names_more, text_of}

@@ -6,11 +6,9 @@ use Rattle.std.specs.Str.{chars}
 use Rattle.clap.specs.Words.{Text, fault_of}
 use Rattle.clap.specs.declared.error.kind.ErrorKind.TheVariants.{DisplayHelp, DisplayVersion, InvalidSubcommand}
 use Rattle.clap.proofs.OnLiterals.{clap_on_literals}
-use Rattle.cfi_text.specs.declared.style.Format.TheVariants as form
 use Rattle.hex.specs.Hex.{encode_with}
 use Rattle.cfi_commands.specs.CommandLine.{cfi_app}
 use Rattle.cfi_commands.specs.Disks.{path_of}
-use Rattle.cfi_commands.specs.Findings.{tally_in}
 use Rattle.cfi_commands.specs.Folders.{Folders, copy_path, debug_path, path_below}
 use Rattle.cfi_commands.specs.Forms.{LongOption, raw, text_option}
 use Rattle.cfi_commands.specs.Spelled.{spelled}
@@ -150,16 +148,6 @@ hexadecimal = refl
 
 no_number : asked (codes "cfi" ∷ codes "unwind" ∷ codes "--limit=many" ∷ codes "perf.data" ∷ []) ≡ None
 no_number = refl
-
--- ---- the count of a check
-
-counted : tally_in form.Text 3 2 1 ≡ codes "3 files, 2 tables, 1 faithful"
-unfolding digits
-counted = refl
-
-counted_object : tally_in form.Json 3 2 1 ≡ codes "{\"files\":3,\"tables\":2,\"faithful\":1}"
-unfolding digits
-counted_object = refl
 
 -- ---- words of stacks
 

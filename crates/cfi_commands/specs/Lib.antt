@@ -3,7 +3,6 @@ pub mod Times
 pub mod Values
 pub mod Forms
 pub mod CommandLine
-pub mod Findings
 pub mod Words
 pub mod Disks
 pub mod OpenedFiles
@@ -12,5 +11,4 @@ pub mod Targets
 pub mod FunctionObjects
 pub mod FlameOutputs
 pub mod Spelled
-pub mod Checks
 pub mod ProfileFiles

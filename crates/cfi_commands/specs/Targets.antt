@@ -3,6 +3,7 @@
 --     AreListedFiles tree recursive list targets      the files for the bytes of a list, in which
 --         each name is ended by a zero byte
 --     AreIn tree depth folder targets      the files in a folder, and in those in it
+--     AreTargets disk tree recursive names targets      the files for the words of a check
 use Rattle.std.specs.Prelude.{◌≡◌, ◌⊎◌, ◌==◌, ◌&&◌, ◌||◌, ℕ, zero, suc, Bool, true, false, List}
 use Rattle.std.specs.Prelude.{[], ◌∷◌, ◌++◌, Option, Some, None, codes, map, not, string_bytes}
 use Rattle.std.specs.Cmp.Lexicographic.{slice_cmp}
@@ -11,6 +12,7 @@ use Rattle.std.specs.List.Sorted.{IsPermutation, IsSorted}
 use Rattle.std.specs.Ordering.{nat_cmp}
 use Rattle.std.specs.Str.{IsUtf8, bytes_eq}
 use Rattle.clap.specs.Words.{Text}
+use Rattle.cfi_object.specs.FileInputs.{AreLeft}
 use Rattle.cfi_commands.specs.declared.system.Kind.{Kind}
 use Rattle.cfi_commands.specs.declared.system.Kind.TheVariants.{File, Folder, Other}
 use Rattle.cfi_commands.specs.declared.targets.TreeEntry.{TreeEntry as TreeEntryOfCode}
@@ -19,6 +21,7 @@ use Rattle.cfi_commands.specs.declared.targets.Target.{Target as TargetOfCode}
 use Rattle.cfi_commands.specs.declared.targets.Target.TheVariants as targets
 use Rattle.cfi_commands.specs.declared.words.Names.{Names as NamesOfCode}
 use Rattle.cfi_commands.specs.declared.words.Names.TheVariants as names_of_code
+use Rattle.cfi_commands.specs.Disks.{Disk, MayOpenNamed}
 use Rattle.cfi_commands.specs.Trees.{Tree, path_in}
 
 -- ---- names
@@ -167,6 +170,18 @@ IsListEntry tree recursive (c ∷ name) entry =
 abbrev pub AreListedFiles : Tree → Bool → List ℕ → List Target → Type 0
 AreListedFiles tree recursive list targets =
     AreOfNames (IsListEntry tree recursive) (AreIn tree depth_of_paths) (names_listed list) targets
+
+-- ---- the files of words
+
+-- the bytes of a list
+abbrev pub IsListRead : Disk → Text → List ℕ → Type 0
+IsListRead disk name bytes =
+    (file : disk.Handle) × MayOpenNamed disk name (Some file) × AreLeft (disk.bytes_of file) bytes
+
+abbrev pub AreTargets : Disk → Tree → Bool → Names → List Target → Type 0
+AreTargets disk tree recursive (of_files names) targets = AreNamedFiles tree recursive names targets
+AreTargets disk tree recursive (of_list name) targets =
+    (bytes : List ℕ) × IsListRead disk name bytes × AreListedFiles tree recursive bytes targets
 
 -- ---- as the code has them
 

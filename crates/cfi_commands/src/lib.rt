@@ -8,13 +8,11 @@
 //! (`host_file`): `files` opens those that are named, `profile_file` a profile, and `profile` those
 //! that a profile or a core file names, at the paths of `folders`.
 //!
-//! What it prints: `checks` checks the files that `targets` finds, and `tally` counts what was
-//! found; `flames` prints the flame graph or the report of folded stacks, as objects of JSON by
-//! `function_objects`.
+//! Which files a check is of: `targets` finds them. What is printed of folded stacks: `flames`
+//! prints the flame graph or the report, as objects of JSON by `function_objects`.
 #![tactic(auto)]
 
 mod arguments;
-pub mod checks;
 mod command_line;
 mod files;
 pub mod flames;
@@ -27,12 +25,10 @@ pub mod profile;
 mod profile_file;
 pub mod spelled;
 pub mod system;
-pub mod tally;
 pub mod targets;
 pub mod times;
 pub mod words;
 
-pub use checks::{CheckStyle, check_files, greatest_status};
 pub use command_line::matches_of;
 pub use files::open_named;
 pub use flames::{Summary, print_folded};
@@ -41,7 +37,6 @@ pub use host::Host;
 pub use profile::ProfileOpener;
 pub use profile_file::open_profile;
 pub use system::System;
-pub use tally::{count_findings, write_tally};
 pub use targets::{Target, targets_of};
 pub use times::{ANY_TIME, Times, time_of, times_of};
 pub use words::{Mistake, Names};

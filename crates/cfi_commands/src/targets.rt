@@ -2,11 +2,11 @@
 ghost use Rattle.std.specs.Prelude.{◌≡◌, ◌==◌, ◌++◌, [], ◌∷◌, IfOk, IfSome, OnOk, map};
 ghost use Rattle.std.specs.Prelude.{string_bytes};
 ghost use Rattle.std.specs.List.{slice_split};
-ghost use Rattle.cfi_commands.specs.Checks.{AreTargets, IsListRead};
 ghost use Rattle.cfi_commands.specs.Disks.{disk_of};
 ghost use Rattle.cfi_commands.specs.Targets.{Adds, AreIn, AreListedFiles, AreNamedFiles};
-ghost use Rattle.cfi_commands.specs.Targets.{AreNamesInOrder, AreOfEntry, IsAtPath, IsEntry};
-ghost use Rattle.cfi_commands.specs.Targets.{IsListEntry, IsNamedEntry, depth_of_paths};
+ghost use Rattle.cfi_commands.specs.Targets.{AreNamesInOrder, AreOfEntry, AreTargets, IsAtPath};
+ghost use Rattle.cfi_commands.specs.Targets.{IsEntry, IsListEntry, IsListRead, IsNamedEntry};
+ghost use Rattle.cfi_commands.specs.Targets.{depth_of_paths};
 ghost use Rattle.cfi_commands.specs.Targets.{found_entry, is_above, named_entry, names_listed};
 ghost use Rattle.cfi_commands.specs.Targets.{names_view, rest_of, target_view, tree_entry_view};
 ghost use Rattle.cfi_commands.specs.Trees.{path_in, tree_of};

@@ -2,7 +2,7 @@ use Rattle.std.proofs.Common.{ℕ, map}
 use Rattle.cfi_commands.specs.Disks.{disk_of}
 use Rattle.cfi_commands.specs.Targets.{names_view, target_view}
 use Rattle.cfi_commands.specs.Trees.{tree_of}
-use Rattle.cfi_commands.proofs.CheckLemmas.{checks_of, no_targets}
+use Rattle.cfi_checks.proofs.CheckLemmas.{checks_of, no_targets}
 use Rattle.cfi.proofs.answer.print_checks.Goals as goal
 
 pub returns-in-Some : goal.returns-in-Some

@@ -2,10 +2,10 @@ use Rattle.std.proofs.Common.{◌≡◌, ◌∙◌, ◌++◌, [], ◌∷◌, ℕ
 use Rattle.std.proofs.lemmas.Result.{IfOk-from_err}
 use Rattle.cfi_text.specs.WriterOutput.{Writes}
 use Rattle.cfi_text.proofs.WrittenLemmas.{writes_refused}
-use Rattle.cfi_commands.specs.Findings.{greatest_status, tally_in}
+use Rattle.cfi_checks.specs.Findings.{greatest_status, tally_in}
 use Rattle.cfi_commands.specs.Disks.{disk_of}
 use Rattle.cfi_commands.specs.Targets.{target_view}
-use Rattle.cfi_commands.proofs.CheckLemmas.{counted, tally_is, uncounted}
+use Rattle.cfi_checks.proofs.CheckLemmas.{counted, tally_is, uncounted}
 use Rattle.cfi.proofs.answer.print_counted.Goals as goal
 
 pub returns-in_err-findings : goal.returns-in_err-findings

@@ -7,7 +7,7 @@ use Rattle.cfi_text.specs.declared.style.Format.TheVariants.{Text, Json}
 use Rattle.cfi_files.specs.declared.finding.Finding.{Finding}
 use Rattle.cfi_files.specs.declared.finding.Finding.TheVariants.{Faithful, OtherFile}
 use Rattle.cfi_files.specs.Findings.{finding_status}
-use Rattle.cfi_commands.specs.declared.checks.CheckStyle.{CheckStyle}
+use Rattle.cfi_checks.specs.declared.checks.CheckStyle.{CheckStyle}
 
 -- a file with a faithful table may have no line, and one that isn't an ELF file
 abbrev pub has_no_line : CheckStyle → Finding → Bool

@@ -1,9 +1,9 @@
 use Rattle.std.proofs.Common.{◌≡◌, ℕ, true, false, List, Some, subst, rules}
 use Rattle.std.specs.Io.KnownBytes.{Appends}
 use Rattle.cfi_text.specs.WriterOutput.{IsBeginning}
-use Rattle.cfi_commands.specs.Findings.{has_no_line}
-use Rattle.cfi_commands.proofs.QuietLemmas.{begun, left_out, unmade, written}
-use Rattle.cfi_commands.proofs.checks.check_input.Goals as goal
+use Rattle.cfi_checks.specs.Findings.{has_no_line}
+use Rattle.cfi_checks.proofs.QuietLemmas.{begun, left_out, unmade, written}
+use Rattle.cfi_checks.proofs.checks.check_input.Goals as goal
 
 pub returns-in_err-finding : goal.returns-in_err-finding
 returns-in_err-finding g c =

@@ -12,12 +12,12 @@ use Rattle.cfi_files.specs.FileOutputs.{IsNamedCheck}
 use Rattle.cfi_files.specs.Findings.{ChecksSome, has_table, is_faithful}
 use Rattle.cfi_files.specs.declared.finding.Finding.{Finding}
 use Rattle.cfi_files.specs.declared.finding.Finding.TheVariants.{Unreadable}
-use Rattle.cfi_commands.specs.declared.checks.CheckStyle.{CheckStyle}
+use Rattle.cfi_checks.specs.declared.checks.CheckStyle.{CheckStyle}
 use Rattle.cfi_commands.specs.Disks.{Disk, MayOpenNamed}
-use Rattle.cfi_commands.specs.Findings.{greatest_status, has_no_line, of_elf_alone, tally_in}
+use Rattle.cfi_checks.specs.Findings.{greatest_status, has_no_line, of_elf_alone, tally_in}
 use Rattle.cfi_commands.specs.OpenedFiles.{no_line}
-use Rattle.cfi_commands.specs.Targets.{AreNamedFiles, AreListedFiles, Names, Target}
-use Rattle.cfi_commands.specs.Targets.{found as found_in_folder, named, of_files, of_list, unread}
+use Rattle.cfi_commands.specs.Targets.{AreTargets, Names, Target}
+use Rattle.cfi_commands.specs.Targets.{found as found_in_folder, named, unread}
 use Rattle.cfi_commands.specs.Trees.{Tree}
 
 -- the line of a file, which may be left out
@@ -87,17 +87,7 @@ abbrev pub AreTalliedChecks : Disk → CheckStyle → List Target → Line → T
 AreTalliedChecks disk style targets printed =
     (checks : Checks) × AreChecks disk style targets checks × (printed ≡ tallied style checks)
 
--- ---- which files a check is of
-
--- the bytes of a list
-abbrev pub IsListRead : Disk → Text → List ℕ → Type 0
-IsListRead disk name bytes =
-    (file : disk.Handle) × MayOpenNamed disk name (Some file) × AreLeft (disk.bytes_of file) bytes
-
-abbrev pub AreTargets : Disk → Tree → Bool → Names → List Target → Type 0
-AreTargets disk tree recursive (of_files names) targets = AreNamedFiles tree recursive names targets
-AreTargets disk tree recursive (of_list name) targets =
-    (bytes : List ℕ) × IsListRead disk name bytes × AreListedFiles tree recursive bytes targets
+-- ---- the check of the files that words name
 
 -- their lines and the count; or nothing, where the list can't be read or memory is refused
 abbrev pub AreChecked : Disk → Tree → Bool → Names → CheckStyle → Line → Type 0

@@ -1,14 +1,12 @@
 //! The checks of several files, one after the other.
 ghost use Rattle.std.specs.Prelude.{◌≡◌, map};
 ghost use Rattle.cfi_files.specs.Findings.{ChecksSome};
-ghost use Rattle.cfi_commands.specs.Checks.{ChecksStyled, IsFileCheck, IsTargetCheck, WritesChecks};
+ghost use Rattle.cfi_checks.specs.Checks.{ChecksStyled, IsFileCheck, IsTargetCheck, WritesChecks};
 ghost use Rattle.cfi_commands.specs.Disks.{disk_of};
-ghost use Rattle.cfi_commands.specs.Findings.{greatest_status, has_no_line, of_elf_alone};
+ghost use Rattle.cfi_checks.specs.Findings.{greatest_status, has_no_line, of_elf_alone};
 ghost use Rattle.cfi_commands.specs.Targets.{target_view};
 
-use crate::files::open_named;
-use crate::system::System;
-use crate::targets::Target;
+use cfi_commands::{System, Target, open_named};
 use cfi_files::{Finding, check_file};
 use cfi_object::FileInput;
 use cfi_text::lines::write_text;

@@ -14,13 +14,13 @@ use Rattle.cfi_object.specs.FileInputs.{AreLeft}
 use Rattle.cfi_files.specs.Findings.{ChecksSome, found_line, has_table, is_faithful}
 use Rattle.cfi_files.specs.declared.finding.Finding.{Finding}
 use Rattle.cfi_files.specs.declared.finding.Finding.TheVariants.{Unreadable}
-use Rattle.cfi_commands.specs.declared.checks.CheckStyle.{CheckStyle}
-use Rattle.cfi_commands.specs.Findings.{greatest_status, of_elf_alone, tally_in}
+use Rattle.cfi_checks.specs.declared.checks.CheckStyle.{CheckStyle}
+use Rattle.cfi_checks.specs.Findings.{greatest_status, of_elf_alone, tally_in}
 use Rattle.cfi_commands.specs.Trees.{Tree}
 use Rattle.cfi_text.specs.declared.style.Format.{Format}
-use Rattle.cfi_commands.specs.Targets.{Names, Target, found as found_target, named, unread}
+use Rattle.cfi_commands.specs.Targets.{AreTargets, Names, Target, found as found_target, named, unread}
 use Rattle.cfi_commands.specs.OpenedFiles.{no_line}
-use Rattle.cfi_commands.specs.Checks.{AreChecked, AreChecks, AreTalliedChecks, AreTargets, Checks, ChecksStyled, IsFileCheck, IsOpenedCheck, IsTargetCheck, WritesChecks, kept, no_checks, tallied, tally_line, with_check}
+use Rattle.cfi_checks.specs.Checks.{AreChecked, AreChecks, AreTalliedChecks, Checks, ChecksStyled, IsFileCheck, IsOpenedCheck, IsTargetCheck, WritesChecks, kept, no_checks, tallied, tally_line, with_check}
 use Rattle.cfi_commands.specs.Disks.{Disk, MayOpenNamed, of_any_kind, path_of}
 
 -- more checks behind these

@@ -10,9 +10,9 @@ use Rattle.cfi_text.proofs.WrittenLemmas.{none_yet, writes_refused}
 use Rattle.cfi_files.specs.FileOutputs.{ChecksNamed}
 use Rattle.cfi_files.specs.declared.finding.Finding.{Finding}
 use Rattle.cfi_files.specs.declared.finding.Finding.TheVariants.{Faithful, NoTable, OtherFile, Unfaithful, Unreadable}
-use Rattle.cfi_commands.specs.declared.checks.CheckStyle.{CheckStyle}
-use Rattle.cfi_commands.specs.Findings.{has_no_line}
-use Rattle.cfi_commands.specs.Checks.{ChecksStyled, kept}
+use Rattle.cfi_checks.specs.declared.checks.CheckStyle.{CheckStyle}
+use Rattle.cfi_checks.specs.Findings.{has_no_line}
+use Rattle.cfi_checks.specs.Checks.{ChecksStyled, kept}
 
 -- a line in full
 none_left_out : (style : CheckStyle) (finding : Finding) → style.quiet ≡ false → style.elf_alone ≡ false → has_no_line style finding ≡ false

@@ -1,14 +1,14 @@
 use Rattle.std.proofs.Common.{◌≡◌, ℕ, ◌+◌, ◌++◌, [], ◌∷◌, List, Option, Result, Ok, Err, get_or, map, take, drop, suc, subst, sym}
 use Rattle.cfi_files.specs.Findings.{ChecksSome}
 use Rattle.cfi_files.specs.declared.finding.Finding.{Finding}
-use Rattle.cfi_commands.specs.declared.checks.CheckStyle.{CheckStyle}
+use Rattle.cfi_checks.specs.declared.checks.CheckStyle.{CheckStyle}
 use Rattle.cfi_commands.specs.declared.targets.Target.{Target as TargetOfCode}
-use Rattle.cfi_commands.specs.Checks.{IsTargetCheck, WritesChecks}
+use Rattle.cfi_checks.specs.Checks.{IsTargetCheck, WritesChecks}
 use Rattle.cfi_commands.specs.Disks.{Disk, disk_of}
 use Rattle.cfi_commands.specs.Targets.{Target, target_view}
-use Rattle.cfi_commands.proofs.CheckLemmas.{next_failed, one_more, same_so_far, stopped}
+use Rattle.cfi_checks.proofs.CheckLemmas.{next_failed, one_more, same_so_far, stopped}
 use Rattle.cfi_commands.proofs.NameLemmas.{names_after, names_at, names_more}
-use Rattle.cfi_commands.proofs.checks.check_files.Goals as goal
+use Rattle.cfi_checks.proofs.checks.check_files.Goals as goal
 
 of_next : (E : Type 0) (disk : Disk) (style : CheckStyle) (next file : TargetOfCode) (mid new : Option (List ℕ)) (r : Result Finding E) → file ≡ next → ChecksSome (λ finding line. IsTargetCheck disk style (target_view file) finding line) mid new r
     → ChecksSome (λ finding line. IsTargetCheck disk style (target_view next) finding line) mid new r

@@ -1,8 +1,8 @@
 use Rattle.std.proofs.Common.{take, map}
 use Rattle.cfi_commands.specs.Disks.{disk_of}
 use Rattle.cfi_commands.specs.Targets.{target_view}
-use Rattle.cfi_commands.proofs.CheckLemmas.{SoFar}
-use Rattle.cfi_commands.proofs.checks.check_files.Given as goal
+use Rattle.cfi_checks.proofs.CheckLemmas.{SoFar}
+use Rattle.cfi_checks.proofs.checks.check_files.Given as goal
 
 abbrev pub invariant-loop-target : goal.invariant-loop-target
 invariant-loop-target g l =

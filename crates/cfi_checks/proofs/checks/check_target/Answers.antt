@@ -1,8 +1,8 @@
 use Rattle.std.proofs.Common.{ℕ, ap}
 use Rattle.cfi_commands.specs.Disks.{disk_of}
 use Rattle.cfi_commands.specs.Targets.{target_view}
-use Rattle.cfi_commands.proofs.CheckLemmas.{unread_target}
-use Rattle.cfi_commands.proofs.checks.check_target.Goals as goal
+use Rattle.cfi_checks.proofs.CheckLemmas.{unread_target}
+use Rattle.cfi_checks.proofs.checks.check_target.Goals as goal
 
 pub returns-in-Unread : goal.returns-in-Unread
 returns-in-Unread g c =

@@ -1,7 +1,7 @@
 use Rattle.std.proofs.Common.{ℕ}
 use Rattle.cfi_commands.specs.Disks.{disk_of}
-use Rattle.cfi_commands.proofs.CheckLemmas.{unreadable}
-use Rattle.cfi_commands.proofs.checks.check_one.Goals as goal
+use Rattle.cfi_checks.proofs.CheckLemmas.{unreadable}
+use Rattle.cfi_checks.proofs.checks.check_one.Goals as goal
 
 pub returns-in-None : goal.returns-in-None
 returns-in-None g c =

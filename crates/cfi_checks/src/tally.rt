@@ -3,7 +3,7 @@ ghost use Rattle.std.specs.Prelude.{◌≡◌, ◌++◌, [], ◌∷◌, OnOk, So
 ghost use Rattle.std.specs.List.{count_by};
 ghost use Rattle.cfi_text.specs.WriterOutput.{Writes};
 ghost use Rattle.cfi_files.specs.Findings.{has_table, is_faithful};
-ghost use Rattle.cfi_commands.specs.Findings.{tally_in, tally_object, tally_text};
+ghost use Rattle.cfi_checks.specs.Findings.{tally_in, tally_object, tally_text};
 
 use cfi_files::Finding;
 use cfi_text::json::push_number;

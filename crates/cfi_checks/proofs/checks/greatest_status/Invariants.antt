@@ -1,8 +1,8 @@
 use Rattle.std.proofs.Common.{◌≡◌, drop, max}
 use Rattle.std.specs.List.{fold}
 use Rattle.cfi_files.specs.Findings.{finding_status}
-use Rattle.cfi_commands.specs.Findings.{greatest_status}
-use Rattle.cfi_commands.proofs.checks.greatest_status.Given as goal
+use Rattle.cfi_checks.specs.Findings.{greatest_status}
+use Rattle.cfi_checks.proofs.checks.greatest_status.Given as goal
 
 abbrev pub invariant-loop-finding : goal.invariant-loop-finding
 invariant-loop-finding l =

@@ -1,0 +1,3 @@
+pub mod CheckLemmas
+mod QuietLemmas
+mod Worked
