@@ -1,5 +1,6 @@
 -- A small core of x86-64 by computation: its mapped files, its memory, a thread and its registers, as readelf -n and gdb print them.
 use Rattle.std.proofs.Common.{◌≡◌, ℕ, ◌-◌, ◌+◌, ◌*◌, List, [], ◌∷◌, ◌++◌, codes, true, false, Option, Some, None, Ok, Err, refl}
+use Rattle.std.specs.Fmt.{digits}
 use Rattle.std.specs.Prelude.{nat_lt, if◌then◌else◌, take, drop, option_map}
 use Rattle.cfi_elf.specs.ElfFiles.{any_file, core_file, elf_file_of, file_by, header_bytes, identification}
 use Rattle.cfi_elf.specs.Fields.{entries}
@@ -17,6 +18,7 @@ use Rattle.cfi_cores.specs.CoreFiles.{core_of}
 use Rattle.cfi_cores.specs.CoreRegisters.{core_place, core_place_x86_64}
 use Rattle.cfi_cores.specs.CoreSegments.{CoreSegment, last_up_to}
 use Rattle.cfi_cores.specs.CoreThreads.{CoreThread, thread_register, thread_in}
+use Rattle.cfi_cores.specs.ErrorTexts.{text_of_core}
 use Rattle.cfi_cores.specs.MappedFiles.{CoreMapping, file_table, files_in}
 use Rattle.cfi_cores.specs.ProcessNames.{process_name}
 use Rattle.cfi_cores.specs.Vdso.{vdso_by}
@@ -260,3 +262,13 @@ no_build = refl
 
 no_image : mapped_image (take 1 images) two_mappings (codes "/a") ≡ None
 no_image = refl
+
+-- ---- what errors say
+
+machine_in_a_sentence : text_of_core (UnknownMachine 40) ≡ codes "unknown machine 40"
+unfolding digits
+machine_in_a_sentence = refl
+
+file_in_a_sentence : text_of_core (Elf (NotCore 2)) ≡ codes "not a core file, but of type 2"
+unfolding digits
+file_in_a_sentence = refl

@@ -1,4 +1,5 @@
 pub mod ErrorNames
+pub mod ErrorTexts
 pub mod CoreRegisters
 pub mod CoreThreads
 pub mod MappedFiles

@@ -1,6 +1,7 @@
 //! Why a core file can't be read.
-ghost use Rattle.std.specs.Prelude.{◌≡◌};
+ghost use Rattle.std.specs.Prelude.{◌≡◌, Some};
 ghost use Rattle.cfi_cores.specs.ErrorNames.{name_of_core};
+ghost use Rattle.cfi_cores.specs.ErrorTexts.{text_of_core};
 
 use cfi_elf::ElfError;
 use std::fmt;
@@ -25,6 +26,8 @@ pub enum CoreError {
 }
 
 impl fmt::Display for CoreError {
+    ghost output = { λ error. Some (text_of_core error) };
+
     fn fmt<W: fmt::Write>(&self, f: &mut fmt::Formatter<W>) -> fmt::Result {
         match self {
             CoreError::Elf(error) => write!(f, "{error}"),
