@@ -346,6 +346,8 @@ def compare_section(run, section, ours, theirs, said, complaint, is_object, thei
             rule = f"rows: readelf warns: {complaint}"
         elif rule := mine and other and fde_rule(run, mine, other, is_object):
             rule = f"rows: {rule}"
+        elif mine and other and re.search(r"\baddresses=0x\w?[19]\b", run.cfi("dump")):
+            rule = "rows: addresses are LEB128 by their encoding, and readelf reads as many bytes as an address has"
         elif "cie=invalid" in theirs_text:
             rule = "rows: a CIE is read where its pointer leads, by readelf only where an entry begins"
         elif not theirs and section == ".eh_frame" and not is_named(run.readelf("-S")[0], section):
@@ -448,7 +450,8 @@ def name_rule(data, text, name, ours, theirs, complaint):
         return "names: the address of a function of PowerPC64 is in its descriptor"
     if theirs[:1] == ours and sum(section.name == name for section in sections) > 1:
         return "names: of several sections of a name cfi takes the first"
-    if not ours and all(section.kind == "NULL" for section in sections if section.name == name):
+    kinds = [section.kind for section in sections if section.name == name]
+    if "NULL" in kinds and set(ours) < set(theirs) and (ours or set(kinds) == {"NULL"}):
         return "names: a section of type SHT_NULL has no name"
     tables = [data[section.offset : section.offset + section.size] for section in sections if section.kind == "STRTAB"]
     if set(ours) <= set(theirs) and any(table.split(b"\0")[0] == name.encode() for table in tables):
@@ -459,16 +462,18 @@ def name_rule(data, text, name, ours, theirs, complaint):
         return "names: a name goes on to the end of its table, without a zero"
     if any(section.kind == "STRTAB" and section.offset < 20 and section.offset + section.size > 18 for section in sections):
         return "names: names are in the file's header, where readelf is given another machine"
-    if is_overlapped(sections):
-        return "names: an object's call frames overlap another section, and relocations are written there"
+    if is_overlapped(data, sections):
+        return "names: an object's call frames overlap another section or the headers, and relocations are written there"
     return f"names: readelf warns: {complaint}" if complaint else None
 
 
-def is_overlapped(sections):
-    """Whether call frames have bytes of another section."""
+def is_overlapped(data, sections):
+    """Whether call frames have bytes of another section, or of the section headers."""
+    file = Elf(data)
+    headers = Section("", "", 0, file.sections, file.each * file.count, "")
     frames = [section for section in sections if section.name in (".eh_frame", ".debug_frame")]
     return any(one != other and one.offset < other.offset + other.size and other.offset < one.offset + one.size
-               for one in frames for other in sections)
+               for one in frames for other in [*sections, headers])
 
 
 def compare_threads(run):
@@ -490,6 +495,8 @@ def thread_rule(data, text, errors, said, theirs):
         return f"threads: cfi refuses {said}"
     if has_wide_notes(data):
         return "threads: libelf pads to eight bytes in a segment of notes that is aligned to 8"
+    if not said and "garbage data" in errors and lacks_padding(data):
+        return "threads: the padding of a last note is missing, and eu-readelf doesn't take it"
     if errors and "garbage data" not in errors:
         return f"threads: eu-readelf says {errors.split(': ')[-1].strip()[:60]}"
     if data[60:62] != bytes(2) or data[40:48] != bytes(8):
@@ -499,13 +506,32 @@ def thread_rule(data, text, errors, said, theirs):
     return None
 
 
-def has_wide_notes(data):
-    """Whether a segment of notes of a core of 64 bits is aligned to 8."""
+def segments_of_notes(data):
+    """Where the segments of notes of a core of 64 bits are, and to how many bytes each is aligned."""
     order = "<" if data[5] == 1 else ">"
     start, = struct.unpack_from(order + "Q", data, 32)
     each, count = struct.unpack_from(order + "2H", data, 54)
     headers = (struct.unpack_from(order + "II5QQ", data, at) for at in range(start, start + count * each, each or 1) if at + 56 <= len(data))
-    return any(header[0] == 4 and header[-1] == 8 for header in headers)
+    return [(header[2], header[2] + header[5], header[-1]) for header in headers if header[0] == 4]
+
+
+def has_wide_notes(data):
+    """Whether a segment of notes is aligned to 8."""
+    return any(alignment == 8 for _, _, alignment in segments_of_notes(data))
+
+
+def lacks_padding(data):
+    """Whether the last note of a segment is whole, and the segment ends in its padding to four bytes."""
+    order = "<" if data[5] == 1 else ">"
+    for at, end, _ in segments_of_notes(data):
+        end = min(end, len(data))
+        while at + 12 <= end:
+            name, description = struct.unpack_from(order + "2I", data, at)
+            body = at + 12 + (name + 3) // 4 * 4
+            at = body + (description + 3) // 4 * 4
+            if body + description <= end < at:
+                return True
+    return False
 
 
 def compare(run, data):
