@@ -3,7 +3,7 @@
 //! Compilers write hundreds of FDEs in a row that point to one CIE, and the same FDE is looked up
 //! again and again. Each closure here asks a `CieCache`, which keeps the CIE that it read last. The
 //! clauses `part` and `cie_part` of an FDE are what its own calls require of it.
-ghost use Rattle.std.specs.Prelude.{◌≡◌, ◌⊎◌, IfOk, Ok, Result};
+ghost use Rattle.std.specs.Prelude.{◌≡◌, IfOk, Ok, Result};
 ghost use Rattle.gimli_cfi.specs.Words.{Covers, Error as Refusal, Fde, GetsCie, HasCieOf};
 ghost use Rattle.gimli_cfi.specs.Words.{IsRowByScan, IsRowOfFound, chosen_fde, fde_at, fde_by};
 ghost use Rattle.gimli_cfi.specs.Words.{eh_frame_view, fde_view, map_ok, partial_bases};
@@ -85,43 +85,6 @@ pub fn fde_with_cached_cies<R: Reader, S: UnwindSection<R>>(
                 bases.now cache.entry (R.Offset.number (S.Offset.offset offset))
                 result cache.exit }
         { cache.get(from, bases, offset) },
-    )
-}
-
-/// The FDE of the address in the first section, or else in the second one. Each section needs a
-/// cache of its own, since a CIE of the first is not a CIE of the second.
-pub fn fde_in_either<R: Reader, S: UnwindSection<R>>(
-    first: &S,
-    second: &S,
-    bases: &BaseAddresses,
-    address: u64,
-) -> Result<FrameDescriptionEntry<R>>
-    ensures { let found = map_ok (fde_view R.position R.Offset.number) result in
-        (found ≡ chosen_fde (section_of (S.view first.now) bases.now) address)
-        ⊎ (found ≡ chosen_fde (section_of (S.view second.now) bases.now) address) }
-{
-    let mut cache: CieCache<R> = CieCache::new();
-    let in_first = first.fde_for_address(
-        bases,
-        address,
-        |from: &S, bases: &BaseAddresses, offset: S::Offset|
-            ensures { GetsCie R.position R.Offset.number (S.view from.now)
-                bases.now cache.entry (R.Offset.number (S.Offset.offset offset))
-                result cache.exit }
-        { cache.get(from, bases, offset) },
-    );
-    if in_first.is_ok() {
-        return in_first;
-    }
-    let mut second_cache: CieCache<R> = CieCache::new();
-    second.fde_for_address(
-        bases,
-        address,
-        |from: &S, bases: &BaseAddresses, offset: S::Offset|
-            ensures { GetsCie R.position R.Offset.number (S.view from.now)
-                bases.now second_cache.entry (R.Offset.number (S.Offset.offset offset))
-                result second_cache.exit }
-        { second_cache.get(from, bases, offset) },
     )
 }
 
