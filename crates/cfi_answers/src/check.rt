@@ -1,8 +1,9 @@
 //! Whether a table is faithful, and rows by one that is.
 use crate::answers::Answers;
+use crate::asked::Asked;
+use crate::rows::{RowsAt, put_task};
 use gimli_cfi::{
-    BaseAddresses, EhFrame, EhHdrTable, FaithfulTable, Reader, TableStarts, Unfaithful,
-    UnwindContext, UnwindContextStorage, check_table,
+    BaseAddresses, EhFrame, EhHdrTable, FaithfulTable, Reader, TableStarts, Unfaithful, check_table,
 };
 use std::alloc::Global;
 
@@ -48,8 +49,9 @@ fn put_reason(reason: Unfaithful, answers: &mut Answers<'_>) {
 }
 
 /// The row of each address by the table, or the reason why it isn't faithful.
-pub fn put_rows<R: Reader, S: UnwindContextStorage<R::Offset>>(
+pub fn put_rows<R: Reader<Offset = usize>>(
     alloc: Global,
+    asked: &Asked,
     table: &EhHdrTable<'_, R>,
     frame: &EhFrame<R>,
     bases: &BaseAddresses,
@@ -57,24 +59,10 @@ pub fn put_rows<R: Reader, S: UnwindContextStorage<R::Offset>>(
     answers: &mut Answers<'_>,
 ) {
     match FaithfulTable::new(table, frame, bases) {
-        Ok(checked) => match UnwindContext::<R::Offset, S>::new_in(alloc) {
-            Ok(mut context) => put_rows_in(&checked, &mut context, addresses, answers),
-            Err(error) => answers.put_error(error),
-        },
-        Err(reason) => put_reason(reason, answers),
-    }
-}
-
-fn put_rows_in<R: Reader, S: UnwindContextStorage<R::Offset>>(
-    checked: &FaithfulTable<'_, R>,
-    context: &mut UnwindContext<R::Offset, S>,
-    addresses: &[u64],
-    answers: &mut Answers<'_>,
-) {
-    for address in addresses {
-        match checked.row(context, *address) {
-            Ok(row) => answers.put_row(row),
-            Err(error) => answers.put_error(error),
+        Ok(checked) => {
+            let source = &checked;
+            put_task::<R, _>(alloc, asked, &RowsAt { source, addresses }, answers);
         }
+        Err(reason) => put_reason(reason, answers),
     }
 }

@@ -1,11 +1,11 @@
 //! Which answers are asked for, of which section and in which storage.
 use crate::answers::Answers;
 use crate::asked::{Asked, bases_of, endian_of, size_of, vendor_of};
-use crate::storage::Small;
-use crate::{check, entries, header, rows};
+use crate::rows::{AllRows, ByHeader, RowsAt, Scan, put_task};
+use crate::{check, entries, header};
 use gimli_cfi::{
-    BaseAddresses, DebugFrame, EhFrame, EhFrameHdr, EndianSlice, Reader, StoreGrowing, StoreOnHeap,
-    UnwindContextStorage, UnwindSection,
+    BaseAddresses, DebugFrame, EhFrame, EhFrameHdr, EndianSlice, ParsedEhFrameHdr, Reader,
+    UnwindSection,
 };
 use std::alloc::Global;
 
@@ -77,28 +77,13 @@ fn over_section<R: Reader<Offset = usize>, S: UnwindSection<R>>(
     addresses: &[u64],
     answers: &mut Answers<'_>,
 ) {
-    if asked.what == 0 {
-        entries::put_entries(section, bases, answers);
-        return;
-    }
-    match asked.storage {
-        0 => by_context::<R, S, StoreOnHeap>(alloc, asked, section, bases, addresses, answers),
-        1 => by_context::<R, S, StoreGrowing>(alloc, asked, section, bases, addresses, answers),
-        _ => by_context::<R, S, Small>(alloc, asked, section, bases, addresses, answers),
-    }
-}
-
-fn by_context<R: Reader<Offset = usize>, Section: UnwindSection<R>, S: UnwindContextStorage<usize>>(
-    alloc: Global,
-    asked: &Asked,
-    section: &Section,
-    bases: &BaseAddresses,
-    addresses: &[u64],
-    answers: &mut Answers<'_>,
-) {
     match asked.what {
-        1 => rows::put_rows::<R, Section, S>(alloc, section, bases, answers),
-        _ => rows::put_scans::<R, Section, S>(alloc, section, bases, addresses, answers),
+        0 => entries::put_entries(section, bases, answers),
+        1 => put_task::<R, _>(alloc, asked, &AllRows { section, bases }, answers),
+        _ => {
+            let source = &Scan { section, bases };
+            put_task::<R, _>(alloc, asked, &RowsAt { source, addresses }, answers);
+        }
     }
 }
 
@@ -115,16 +100,10 @@ fn in_header<R: Reader<Offset = usize>>(
     frame.set_address_size(size_of(asked));
     frame.set_vendor(vendor_of(asked));
     let header = EhFrameHdr::from(header);
-    match asked.storage {
-        0 => over_header::<R, StoreOnHeap>(alloc, asked, &header, &frame, &bases, numbers, answers),
-        1 => over_header::<R, StoreGrowing>(
-            alloc, asked, &header, &frame, &bases, numbers, answers,
-        ),
-        _ => over_header::<R, Small>(alloc, asked, &header, &frame, &bases, numbers, answers),
-    }
+    over_header(alloc, asked, &header, &frame, &bases, numbers, answers);
 }
 
-fn over_header<R: Reader<Offset = usize>, S: UnwindContextStorage<usize>>(
+fn over_header<R: Reader<Offset = usize>>(
     alloc: Global,
     asked: &Asked,
     header: &EhFrameHdr<R>,
@@ -134,15 +113,42 @@ fn over_header<R: Reader<Offset = usize>, S: UnwindContextStorage<usize>>(
     answers: &mut Answers<'_>,
 ) {
     if asked.what == 5 {
-        let size = size_of(asked);
-        rows::put_rows_by_header::<R, S>(alloc, header, size, frame, bases, numbers, answers);
-        return;
+        return put_by_header(alloc, asked, header, frame, bases, numbers, answers);
     }
-    let parsed = match header.parse(bases, size_of(asked)) {
-        Ok(parsed) => parsed,
-        Err(error) => return answers.put_error(error),
+    match header.parse(bases, size_of(asked)) {
+        Ok(parsed) => over_parsed(alloc, asked, &parsed, frame, bases, numbers, answers),
+        Err(error) => answers.put_error(error),
+    }
+}
+
+fn put_by_header<R: Reader<Offset = usize>>(
+    alloc: Global,
+    asked: &Asked,
+    header: &EhFrameHdr<R>,
+    frame: &EhFrame<R>,
+    bases: &BaseAddresses,
+    addresses: &[u64],
+    answers: &mut Answers<'_>,
+) {
+    let source = &ByHeader {
+        header,
+        asked,
+        frame,
+        bases,
     };
-    answers.put_header(&parsed);
+    put_task::<R, _>(alloc, asked, &RowsAt { source, addresses }, answers);
+}
+
+fn over_parsed<R: Reader<Offset = usize>>(
+    alloc: Global,
+    asked: &Asked,
+    parsed: &ParsedEhFrameHdr<R>,
+    frame: &EhFrame<R>,
+    bases: &BaseAddresses,
+    numbers: &[u64],
+    answers: &mut Answers<'_>,
+) {
+    answers.put_header(parsed);
     let Some(table) = parsed.table() else {
         return;
     };
@@ -150,6 +156,6 @@ fn over_header<R: Reader<Offset = usize>, S: UnwindContextStorage<usize>>(
         3 => header::put_steps(&table, bases, numbers, answers),
         4 => header::put_lookups(&table, bases, numbers, answers),
         6 => check::put_check(&table, frame, bases, answers),
-        _ => check::put_rows::<R, S>(alloc, &table, frame, bases, numbers, answers),
+        _ => check::put_rows(alloc, asked, &table, frame, bases, numbers, answers),
     }
 }

@@ -28,15 +28,25 @@ pub fn put_entries<R: Reader, S: UnwindSection<R>>(
 fn put_entry<R: Reader, S: UnwindSection<R>>(entry: CieOrFde<'_, S, R>, answers: &mut Answers<'_>) {
     match entry {
         CieOrFde::Cie(cie) => answers.put_cie(&cie),
-        CieOrFde::Fde(partial) => put_fde(&partial, answers),
+        CieOrFde::Fde(partial) => {
+            put_partial(&partial, answers);
+            put_fde(&partial, answers);
+        }
     }
+}
+
+fn put_partial<R: Reader, S: UnwindSection<R>>(
+    partial: &PartialFrameDescriptionEntry<'_, S, R>,
+    answers: &mut Answers<'_>,
+) {
+    let offset = partial.offset().into_u64();
+    answers.put_partial(offset, partial.entry_len().into_u64());
 }
 
 fn put_fde<R: Reader, S: UnwindSection<R>>(
     partial: &PartialFrameDescriptionEntry<'_, S, R>,
     answers: &mut Answers<'_>,
 ) {
-    answers.put_partial(partial.offset().into_u64(), partial.entry_len().into_u64());
     match whole(partial) {
         Ok(fde) => answers.put_fde(&fde),
         Err(error) => answers.put_error(error),

@@ -1,32 +1,149 @@
 //! Rows, in a storage of the caller's choice.
 ghost use Rattle.std.specs.Prelude.{◌≡◌};
 ghost use Rattle.cfi_read_core.specs.CallFrameSections.{IsOf};
-ghost use Rattle.cfi_read_core.specs.Addresses.{IsAddressSize};
 
 use crate::answers::Answers;
+use crate::asked::{Asked, size_of};
 use crate::entries::whole;
+use crate::storage::Small;
 use gimli_cfi::{
-    BaseAddresses, CieOrFde, EhFrame, EhFrameHdr, FrameDescriptionEntry,
-    PartialFrameDescriptionEntry, Reader, UnwindContext, UnwindContextStorage, UnwindSection,
-    row_by_header, row_by_scan,
+    BaseAddresses, CieOrFde, EhFrame, EhFrameHdr, FaithfulTable, FrameDescriptionEntry,
+    PartialFrameDescriptionEntry, Reader, Result, StoreGrowing, StoreOnHeap, UnwindContext,
+    UnwindContextStorage, UnwindSection, UnwindTable, UnwindTableRow, row_by_header, row_by_scan,
 };
 use std::alloc::Global;
 
-/// Each FDE, and its rows by `next_row`, which is called until there are no more, also after
-/// errors.
-pub fn put_rows<R: Reader, Section: UnwindSection<R>, S: UnwindContextStorage<R::Offset>>(
+/// What is asked of rows, over a context of any storage.
+pub trait RowTask<R: Reader> {
+    fn put<S: UnwindContextStorage<R::Offset>>(
+        &self,
+        context: &mut UnwindContext<R::Offset, S>,
+        answers: &mut Answers<'_>,
+    );
+}
+
+/// The answers of a task, with a context of the storage that is asked for.
+pub fn put_task<R: Reader<Offset = usize>, Task: RowTask<R>>(
     alloc: Global,
-    section: &Section,
-    bases: &BaseAddresses,
+    asked: &Asked,
+    task: &Task,
+    answers: &mut Answers<'_>,
+) {
+    match asked.storage {
+        0 => put_in::<R, Task, StoreOnHeap>(alloc, task, answers),
+        1 => put_in::<R, Task, StoreGrowing>(alloc, task, answers),
+        _ => put_in::<R, Task, Small>(alloc, task, answers),
+    }
+}
+
+fn put_in<R: Reader, Task: RowTask<R>, S: UnwindContextStorage<R::Offset>>(
+    alloc: Global,
+    task: &Task,
     answers: &mut Answers<'_>,
 ) {
     match UnwindContext::<R::Offset, S>::new_in(alloc) {
-        Ok(mut context) => put_rows_in(section, bases, &mut context, answers),
+        Ok(mut context) => task.put(&mut context, answers),
         Err(error) => answers.put_error(error),
     }
 }
 
-fn put_rows_in<R: Reader, Section: UnwindSection<R>, S: UnwindContextStorage<R::Offset>>(
+/// The row of each address, by a source of rows.
+#[derive(Drop)]
+pub struct RowsAt<'a, Source> {
+    pub source: &'a Source,
+    pub addresses: &'a [u64],
+}
+
+impl<R: Reader, Source: RowSource<R>> RowTask<R> for RowsAt<'_, Source> {
+    fn put<S: UnwindContextStorage<R::Offset>>(
+        &self,
+        context: &mut UnwindContext<R::Offset, S>,
+        answers: &mut Answers<'_>,
+    ) {
+        for address in self.addresses {
+            match self.source.row(context, *address) {
+                Ok(row) => answers.put_row(row),
+                Err(error) => answers.put_error(error),
+            }
+        }
+    }
+}
+
+/// What returns the row of an address.
+pub trait RowSource<R: Reader> {
+    fn row<'ctx, S: UnwindContextStorage<R::Offset>>(
+        &self,
+        context: &'ctx mut UnwindContext<R::Offset, S>,
+        address: u64,
+    ) -> Result<&'ctx UnwindTableRow<R::Offset, S::Rules>>;
+}
+
+/// A section whose rows are found by a scan.
+#[derive(Drop)]
+pub struct Scan<'a, Section> {
+    pub section: &'a Section,
+    pub bases: &'a BaseAddresses,
+}
+
+impl<R: Reader, Section: UnwindSection<R>> RowSource<R> for Scan<'_, Section> {
+    fn row<'ctx, S: UnwindContextStorage<R::Offset>>(
+        &self,
+        context: &'ctx mut UnwindContext<R::Offset, S>,
+        address: u64,
+    ) -> Result<&'ctx UnwindTableRow<R::Offset, S::Rules>> {
+        row_by_scan(self.section, self.bases, context, address)
+    }
+}
+
+/// A header that is parsed for each row.
+#[derive(Drop)]
+pub struct ByHeader<'a, R> {
+    pub header: &'a EhFrameHdr<R>,
+    pub asked: &'a Asked,
+    pub frame: &'a EhFrame<R>,
+    pub bases: &'a BaseAddresses,
+}
+
+impl<R: Reader> RowSource<R> for ByHeader<'_, R> {
+    fn row<'ctx, S: UnwindContextStorage<R::Offset>>(
+        &self,
+        context: &'ctx mut UnwindContext<R::Offset, S>,
+        address: u64,
+    ) -> Result<&'ctx UnwindTableRow<R::Offset, S::Rules>> {
+        let size = size_of(self.asked);
+        row_by_header(self.header, size, self.frame, self.bases, context, address)
+    }
+}
+
+impl<R: Reader> RowSource<R> for FaithfulTable<'_, R> {
+    fn row<'ctx, S: UnwindContextStorage<R::Offset>>(
+        &self,
+        context: &'ctx mut UnwindContext<R::Offset, S>,
+        address: u64,
+    ) -> Result<&'ctx UnwindTableRow<R::Offset, S::Rules>> {
+        FaithfulTable::row(self, context, address)
+    }
+}
+
+/// Each FDE, and its rows by `next_row`, which is called until there are no more, also after
+/// errors.
+#[derive(Drop)]
+pub struct AllRows<'a, Section> {
+    pub section: &'a Section,
+    pub bases: &'a BaseAddresses,
+}
+
+impl<R: Reader, Section: UnwindSection<R>> RowTask<R> for AllRows<'_, Section> {
+    fn put<S: UnwindContextStorage<R::Offset>>(
+        &self,
+        context: &mut UnwindContext<R::Offset, S>,
+        answers: &mut Answers<'_>,
+    ) {
+        put_rows(self.section, self.bases, context, answers);
+    }
+}
+
+fn put_rows<R: Reader, Section: UnwindSection<R>, S: UnwindContextStorage<R::Offset>>(
     section: &Section,
     bases: &BaseAddresses,
     context: &mut UnwindContext<R::Offset, S>,
@@ -70,88 +187,20 @@ fn put_rows_of<'x, R: Reader, Section: UnwindSection<R>, S: UnwindContextStorage
     requires cie { IsOf (R.position fde.now.cie.initial_instructions)
         (Section.view section.now).position }
 {
-    let mut table = match fde.rows(section, bases, context) {
-        Ok(table) => table,
-        Err(error) => return answers.put_error(error),
-    };
+    match fde.rows(section, bases, context) {
+        Ok(mut table) => put_rows_left(&mut table, answers),
+        Err(error) => answers.put_error(error),
+    }
+}
+
+fn put_rows_left<R: Reader, S: UnwindContextStorage<R::Offset>>(
+    table: &mut UnwindTable<'_, '_, R, S>,
+    answers: &mut Answers<'_>,
+) {
     for _ in 0..u64::MAX {
         match table.next_row() {
             Ok(None) => break,
             Ok(Some(row)) => answers.put_row(row),
-            Err(error) => answers.put_error(error),
-        }
-    }
-}
-
-/// The row of each address, by a scan.
-pub fn put_scans<R: Reader, Section: UnwindSection<R>, S: UnwindContextStorage<R::Offset>>(
-    alloc: Global,
-    section: &Section,
-    bases: &BaseAddresses,
-    addresses: &[u64],
-    answers: &mut Answers<'_>,
-) {
-    match UnwindContext::<R::Offset, S>::new_in(alloc) {
-        Ok(mut context) => put_scans_in(section, bases, &mut context, addresses, answers),
-        Err(error) => answers.put_error(error),
-    }
-}
-
-fn put_scans_in<R: Reader, Section: UnwindSection<R>, S: UnwindContextStorage<R::Offset>>(
-    section: &Section,
-    bases: &BaseAddresses,
-    context: &mut UnwindContext<R::Offset, S>,
-    addresses: &[u64],
-    answers: &mut Answers<'_>,
-) {
-    for address in addresses {
-        match row_by_scan(section, bases, context, *address) {
-            Ok(row) => answers.put_row(row),
-            Err(error) => answers.put_error(error),
-        }
-    }
-}
-
-/// The row of each address, by a header that is parsed for each.
-pub fn put_rows_by_header<R: Reader, S: UnwindContextStorage<R::Offset>>(
-    alloc: Global,
-    header: &EhFrameHdr<R>,
-    address_size: u8,
-    frame: &EhFrame<R>,
-    bases: &BaseAddresses,
-    addresses: &[u64],
-    answers: &mut Answers<'_>,
-)
-    requires { IsAddressSize address_size }
-{
-    match UnwindContext::<R::Offset, S>::new_in(alloc) {
-        Ok(mut context) => put_rows_by_header_in(
-            header,
-            address_size,
-            frame,
-            bases,
-            &mut context,
-            addresses,
-            answers,
-        ),
-        Err(error) => answers.put_error(error),
-    }
-}
-
-fn put_rows_by_header_in<R: Reader, S: UnwindContextStorage<R::Offset>>(
-    header: &EhFrameHdr<R>,
-    address_size: u8,
-    frame: &EhFrame<R>,
-    bases: &BaseAddresses,
-    context: &mut UnwindContext<R::Offset, S>,
-    addresses: &[u64],
-    answers: &mut Answers<'_>,
-)
-    requires { IsAddressSize address_size }
-{
-    for address in addresses {
-        match row_by_header(header, address_size, frame, bases, context, *address) {
-            Ok(row) => answers.put_row(row),
             Err(error) => answers.put_error(error),
         }
     }
