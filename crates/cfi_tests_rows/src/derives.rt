@@ -65,6 +65,22 @@ struct Defaults(
     HasDefault<CfaRule<usize>>,
 );
 
+/// Whether three defaults are as they should be.
+fn three_defaults() -> [bool; 3] {
+    let cfa = CfaRule::<usize>::default();
+    [
+        matches!(Pointer::default(), Pointer::Direct(0)),
+        matches!(RegisterRule::<usize>::default(), RegisterRule::Undefined),
+        matches!(
+            cfa,
+            CfaRule::RegisterAndOffset {
+                register: Register(0),
+                offset: 0
+            }
+        ),
+    ]
+}
+
 fn orders_of_bytes() -> [bool; 4] {
     [
         LittleEndian.is_big_endian(),
@@ -76,16 +92,11 @@ fn orders_of_bytes() -> [bool; 4] {
 
 #[test]
 fn values_that_stand_beside_their_body(rt: HostRuntime) {
-    let cfa: CfaRule<usize> = CfaRule::RegisterAndOffset {
-        register: Register(0),
-        offset: 0,
-    };
-    let rule: RegisterRule<usize> = RegisterRule::Undefined;
-    let defaults = (
-        Pointer::default(),
-        RegisterRule::default(),
-        CfaRule::default(),
+    expect(&rt, "defaults", &three_defaults(), &[true; 3]);
+    expect(
+        &rt,
+        "orders of bytes",
+        &orders_of_bytes(),
+        &[false, true, false, true],
     );
-    let expected = ((Pointer::Direct(0), rule, cfa), [false, true, false, true]);
-    expect(&rt, "values", &(defaults, orders_of_bytes()), &expected);
 }

@@ -1,7 +1,7 @@
 //! Tests of the header's calls, and of how often a call asks for CIEs and reads starts. The
 //! expected values were worked out by hand.
 
-mod asked;
+pub(crate) mod asked;
 mod counted;
 mod searches;
 mod with_context;

@@ -3,7 +3,8 @@ ghost use Rattle.std.specs.Prelude.{◌≡◌, ◌==◌};
 ghost use Rattle.gimli_cfi.specs.Words.{cie_id, has_sizes, id_width, width_of, zero_length_ends};
 
 use crate::comparison::expect;
-use crate::rows::{Range, range_of};
+use crate::header::asked::{Asked, start_of};
+use crate::rows::range_of;
 use gimli_cfi::{
     _UnwindSectionPrivate, BaseAddresses, CieOffsetEncoding, CommonInformationEntry, DebugFrame,
     Error, Format, Reader, UnwindContext, UnwindContextStorage, UnwindSection, Vendor, row_by_scan,
@@ -93,26 +94,24 @@ impl<R: Reader, S: UnwindSection<R>> UnwindSection<R> for CountedCies<'_, S> {
     }
 }
 
-/// A row, and how many CIEs were read by their offsets.
-type Counted = (Result<Range, Error>, u32);
-
-/// The row for an address by a scan.
+/// The first address of the row for an address by a scan, and how many CIEs were read by their
+/// offsets.
 fn by_scan<R: Reader, C: UnwindContextStorage<R::Offset>>(
     inner: DebugFrame<R>,
     context: &mut UnwindContext<R::Offset, C>,
     address: u64,
-) -> Counted {
+) -> Asked {
     let cies = Cell::new(0u32);
     let section = CountedCies { inner, cies: &cies };
     let bases = BaseAddresses::default();
     let row = range_of(row_by_scan(&section, &bases, context, address));
-    (row, cies.get())
+    (start_of(row), cies.get())
 }
 
 /// Addresses, their rows, and that a CIE is read once for the FDEs in a row that point to it.
-const ROWS: [(u64, Counted); 3] = [
-    (0x1000, (Ok((0x1000, 0x1020)), 1)),
-    (0x2000, (Ok((0x2000, 0x2020)), 1)),
+const ROWS: [(u64, Asked); 3] = [
+    (0x1000, (Ok(0x1000), 1)),
+    (0x2000, (Ok(0x2000), 1)),
     (0x3000, (Err(Error::NoUnwindInfoForAddress), 1)),
 ];
 

@@ -9,8 +9,8 @@ use crate::rows::{Range, range_of};
 use cfi_tests_bytes::{THREE_ROWS, bytes_of};
 use gimli_cfi::{
     ArrayLike, BaseAddresses, CopyList, DebugFrame, EndianSlice, Error, LittleEndian, Reader,
-    ReaderOffset, Refused, Register, RegisterRule, StoreGrowing, UnwindContext,
-    UnwindContextStorage, UnwindTableRow, Vendor, Why, row_by_scan,
+    ReaderOffset, Refused, Register, RegisterRule, UnwindContext, UnwindContextStorage,
+    UnwindTableRow, Vendor, Why, row_by_scan,
 };
 use std::alloc::{AllocFailed, Global};
 use std::cell::Cell;
@@ -368,10 +368,10 @@ fn check_growths<S: UnwindContextStorage<usize>>(
     Ok(of_rows > 0)
 }
 
-/// Checks such an unwind for the section of a text.
-fn check_section<S: UnwindContextStorage<usize>, G: UnwindContextStorage<usize>>(
+/// Checks such an unwind for the section of a text, with a context to which nothing is refused.
+fn check_section<S: UnwindContextStorage<usize>>(
     rt: &(impl Abort + AllocGlobal),
-    growing: &mut UnwindContext<usize, G>,
+    growing: &mut UnwindContext<usize, S>,
     text: &str,
     address: u64,
 ) -> Result<bool, Fail> {
@@ -386,22 +386,30 @@ fn check_section<S: UnwindContextStorage<usize>, G: UnwindContextStorage<usize>>
     Ok(check_growths::<S>(rt, &of)?)
 }
 
-/// The same for each of the sections, whose rows are those of a growing storage; some of their
-/// growths are of rows.
-fn check_sections<S: UnwindContextStorage<usize>, G: UnwindContextStorage<usize>>(
+/// The same for each of the sections; returns whether a growth was of rows.
+fn check_sections<S: UnwindContextStorage<usize>>(
     rt: &(impl Abort + AllocGlobal),
-) -> Result<(), Fail> {
-    let mut growing: UnwindContext<usize, G> = UnwindContext::new_in(rt.alloc())?;
+    growing: &mut UnwindContext<usize, S>,
+) -> Result<bool, Fail> {
     let mut grew_rows = false;
     for (text, address) in &SECTIONS {
         // A row that the stack once allocated is used again, so not every section grows it.
-        grew_rows |= check_section::<S, G>(rt, &mut growing, text, *address)?;
+        grew_rows |= check_section(rt, growing, text, *address)?;
     }
+    Ok(grew_rows)
+}
+
+/// The same with a fresh context; some of the growths are of rows.
+fn check_afresh<S: UnwindContextStorage<usize>>(
+    rt: &(impl Abort + AllocGlobal),
+) -> Result<(), Fail> {
+    let mut growing: UnwindContext<usize, S> = UnwindContext::new_in(rt.alloc())?;
+    let grew_rows = check_sections(rt, &mut growing)?;
     expect(rt, "growths of rows", &grew_rows, &true);
     Ok(())
 }
 
 #[test]
 fn each_growth_fails_in_turn(rt: HostRuntime) -> Result<(), Fail> {
-    check_sections::<StoreRefusing, StoreGrowing>(&rt)
+    check_afresh::<StoreRefusing>(&rt)
 }

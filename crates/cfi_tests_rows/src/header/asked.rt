@@ -1,14 +1,17 @@
 //! How often each of the six calls with a `get_cie` calls it, on every exit path.
 //!
 //! The contracts of calls that take the closure by value say nothing of its last state, so the
-//! counts are tested here.
+//! counts are tested here. All calls on a section are passed one closure, and so are those on a
+//! table, since each closure takes longer to check than a call.
+ghost use Rattle.gimli_cfi.specs.Words.{GivesCiesOf, debug_frame_view, eh_frame_view};
+
 use crate::comparison::expect;
 use crate::header::searches::{read_header, table_of};
 use crate::rows::{Range, bases, range_of};
 use gimli_cfi::{
-    BaseAddresses, CommonInformationEntry, DebugFrame, DebugFrameOffset, EhFrame, EhHdrTable,
-    Error, FrameDescriptionEntry, Reader, ReaderOffsetId, UnwindContext, UnwindContextStorage,
-    UnwindSection,
+    BaseAddresses, CommonInformationEntry, DebugFrame, DebugFrameOffset, EhFrame, EhFrameOffset,
+    EhHdrTable, Error, FrameDescriptionEntry, Reader, ReaderOffsetId, UnwindContext,
+    UnwindContextStorage, UnwindSection,
 };
 use std::process::Abort;
 
@@ -34,123 +37,204 @@ fn offset_of<R: Reader<Offset = usize>>(
     }
 }
 
-fn start_of(row: Result<Range, Error>) -> Result<u64, Error> {
+/// Where a row starts.
+pub(crate) fn start_of(row: Result<Range, Error>) -> Result<u64, Error> {
     match row {
         Ok((start, _)) => Ok(start),
         Err(refusal) => Err(refusal),
     }
 }
 
-/// What the closures for FDEs return. Those for rows call the section themselves, since a CIE has
-/// to be of the section there, which only that call promises.
-fn debug_frame_cie<R: Reader<Offset = usize>>(
-    from: &DebugFrame<R>,
-    bases: &BaseAddresses,
-    offset: DebugFrameOffset<usize>,
-    refuses: bool,
-) -> Result<CommonInformationEntry<R>, Error> {
-    if refuses {
-        return Err(Error::UnknownAugmentation);
-    }
-    from.cie_from_offset(bases, offset)
-}
+type Cie<R> = Result<CommonInformationEntry<R>, Error>;
 
 /// `PartialFrameDescriptionEntry::parse` of the FDE at an offset.
-fn parsed<R: Reader<Offset = usize>>(
+fn parsed<R: Reader<Offset = usize>, F>(
     section: &DebugFrame<R>,
-    offset: usize,
-    refuses: bool,
-) -> Asked {
-    let bases = BaseAddresses::default();
-    let mut asked = 0u32;
-    let read = match section.partial_fde_from_offset(&bases, DebugFrameOffset(offset)) {
-        Ok(partial) => partial.parse(|from, bases, offset| {
-            asked = asked.saturating_add(1);
-            debug_frame_cie(from, bases, offset, refuses)
-        }),
+    bases: &BaseAddresses,
+    offset: u64,
+    get_cie: F,
+) -> Result<u64, Error>
+where
+    F: FnMut(&DebugFrame<R>, &BaseAddresses, DebugFrameOffset<usize>) -> Cie<R>,
+    requires { F.IsAlwaysCallable get_cie }
+{
+    match section.partial_fde_from_offset(bases, DebugFrameOffset(offset as usize)) {
+        Ok(partial) => offset_of(partial.parse(get_cie)),
         Err(refusal) => Err(refusal),
-    };
-    (offset_of(read), asked)
+    }
 }
 
 /// `UnwindSection::fde_from_offset`.
-fn at_offset<R: Reader<Offset = usize>>(
+fn at_offset<R: Reader<Offset = usize>, F>(
     section: &DebugFrame<R>,
-    offset: usize,
-    refuses: bool,
-) -> Asked {
-    let bases = BaseAddresses::default();
-    let mut asked = 0u32;
-    let read = section.fde_from_offset(&bases, DebugFrameOffset(offset), |from, bases, offset| {
-        asked = asked.saturating_add(1);
-        debug_frame_cie(from, bases, offset, refuses)
-    });
-    (offset_of(read), asked)
+    bases: &BaseAddresses,
+    offset: u64,
+    get_cie: F,
+) -> Result<u64, Error>
+where
+    F: FnMut(&DebugFrame<R>, &BaseAddresses, DebugFrameOffset<usize>) -> Cie<R>,
+    requires { F.IsAlwaysCallable get_cie }
+{
+    offset_of(section.fde_from_offset(bases, DebugFrameOffset(offset as usize), get_cie))
 }
 
 /// `UnwindSection::fde_for_address`.
-fn for_address<R: Reader<Offset = usize>>(
+fn for_address<R: Reader<Offset = usize>, F>(
     section: &DebugFrame<R>,
+    bases: &BaseAddresses,
     address: u64,
-    refuses: bool,
-) -> Asked {
-    let bases = BaseAddresses::default();
-    let mut asked = 0u32;
-    let found = section.fde_for_address(&bases, address, |from, bases, offset| {
-        asked = asked.saturating_add(1);
-        debug_frame_cie(from, bases, offset, refuses)
-    });
-    (offset_of(found), asked)
+    get_cie: F,
+) -> Result<u64, Error>
+where
+    F: FnMut(&DebugFrame<R>, &BaseAddresses, DebugFrameOffset<usize>) -> Cie<R>,
+    requires { F.IsAlwaysCallable get_cie }
+{
+    offset_of(section.fde_for_address(bases, address, get_cie))
 }
 
 /// `UnwindSection::unwind_info_for_address`.
-fn row_for_address<R: Reader<Offset = usize>, S: UnwindContextStorage<usize>>(
-    context: &mut UnwindContext<usize, S>,
+fn row_for_address<R: Reader<Offset = usize>, S: UnwindContextStorage<usize>, F>(
     section: &DebugFrame<R>,
+    bases: &BaseAddresses,
+    context: &mut UnwindContext<usize, S>,
     address: u64,
+    get_cie: F,
+) -> Result<u64, Error>
+where
+    F: FnMut(&DebugFrame<R>, &BaseAddresses, DebugFrameOffset<usize>) -> Cie<R>,
+    requires callable { F.IsAlwaysCallable get_cie }
+    requires of_section { GivesCiesOf F.FnMut R.position
+        (debug_frame_view R.position section.now).position section.now bases.now get_cie }
+{
+    start_of(range_of(section.unwind_info_for_address(bases, context, address, get_cie)))
+}
+
+/// The calls on a section, for the FDE at an offset or for an address.
+#[derive(Clone, Copy)]
+enum OnSection {
+    Parse,
+    FdeAt,
+    FdeFor,
+    RowFor,
+}
+
+fn by_section<R: Reader<Offset = usize>, S: UnwindContextStorage<usize>, F>(
+    call: OnSection,
+    section: &DebugFrame<R>,
+    bases: &BaseAddresses,
+    context: &mut UnwindContext<usize, S>,
+    at: u64,
+    get_cie: F,
+) -> Result<u64, Error>
+where
+    F: FnMut(&DebugFrame<R>, &BaseAddresses, DebugFrameOffset<usize>) -> Cie<R>,
+    requires callable { F.IsAlwaysCallable get_cie }
+    requires of_section { GivesCiesOf F.FnMut R.position
+        (debug_frame_view R.position section.now).position section.now bases.now get_cie }
+{
+    match call {
+        OnSection::Parse => parsed(section, bases, at, get_cie),
+        OnSection::FdeAt => at_offset(section, bases, at, get_cie),
+        OnSection::FdeFor => for_address(section, bases, at, get_cie),
+        OnSection::RowFor => row_for_address(section, bases, context, at, get_cie),
+    }
+}
+
+/// What one of these calls returns, and how often it calls a closure that may refuse the CIE.
+fn asked_by_section<R: Reader<Offset = usize>, S: UnwindContextStorage<usize>>(
+    call: OnSection,
+    section: &DebugFrame<R>,
+    context: &mut UnwindContext<usize, S>,
+    at: u64,
     refuses: bool,
 ) -> Asked {
     let bases = BaseAddresses::default();
     let mut asked = 0u32;
-    let found = section.unwind_info_for_address(&bases, context, address, |from, bases, offset| {
+    let found = by_section(call, section, &bases, context, at, |from, bases, offset| {
         asked = asked.saturating_add(1);
         if refuses {
             return Err(Error::UnknownAugmentation);
         }
         from.cie_from_offset(bases, offset)
     });
-    (start_of(range_of(found)), asked)
+    (found, asked)
 }
 
 /// `EhHdrTable::fde_for_address`.
-pub(crate) fn fde_by_table<R: Reader<Offset = usize>>(
+fn fde_by_table<R: Reader<Offset = usize>, F>(
     table: &EhHdrTable<'_, R>,
     frame: &EhFrame<R>,
+    bases: &BaseAddresses,
     address: u64,
-    refuses: bool,
-) -> Asked {
-    let mut asked = 0u32;
-    let found = table.fde_for_address(frame, &bases(), address, |from, bases, offset| {
-        asked = asked.saturating_add(1);
-        if refuses {
-            return Err(Error::UnknownAugmentation);
-        }
-        from.cie_from_offset(bases, offset)
-    });
-    (offset_of(found), asked)
+    get_cie: F,
+) -> Result<u64, Error>
+where
+    F: FnMut(&EhFrame<R>, &BaseAddresses, EhFrameOffset<usize>) -> Cie<R>,
+    requires { F.IsAlwaysCallable get_cie }
+{
+    offset_of(table.fde_for_address(frame, bases, address, get_cie))
 }
 
 /// `EhHdrTable::unwind_info_for_address`.
-pub(crate) fn row_by_cies<R: Reader<Offset = usize>, S: UnwindContextStorage<usize>>(
-    context: &mut UnwindContext<usize, S>,
+fn row_by_cies<R: Reader<Offset = usize>, S: UnwindContextStorage<usize>, F>(
     table: &EhHdrTable<'_, R>,
     frame: &EhFrame<R>,
+    bases: &BaseAddresses,
+    context: &mut UnwindContext<usize, S>,
+    address: u64,
+    get_cie: F,
+) -> Result<u64, Error>
+where
+    F: FnMut(&EhFrame<R>, &BaseAddresses, EhFrameOffset<usize>) -> Cie<R>,
+    requires callable { F.IsAlwaysCallable get_cie }
+    requires of_section { GivesCiesOf F.FnMut R.position
+        (eh_frame_view R.position frame.now).position frame.now bases.now get_cie }
+{
+    start_of(range_of(table.unwind_info_for_address(frame, bases, context, address, get_cie)))
+}
+
+/// The calls on a header's table.
+#[derive(Clone, Copy)]
+pub(crate) enum OnTable {
+    Fde,
+    Row,
+}
+
+fn by_table<R: Reader<Offset = usize>, S: UnwindContextStorage<usize>, F>(
+    call: OnTable,
+    table: &EhHdrTable<'_, R>,
+    frame: &EhFrame<R>,
+    bases: &BaseAddresses,
+    context: &mut UnwindContext<usize, S>,
+    address: u64,
+    get_cie: F,
+) -> Result<u64, Error>
+where
+    F: FnMut(&EhFrame<R>, &BaseAddresses, EhFrameOffset<usize>) -> Cie<R>,
+    requires callable { F.IsAlwaysCallable get_cie }
+    requires of_section { GivesCiesOf F.FnMut R.position
+        (eh_frame_view R.position frame.now).position frame.now bases.now get_cie }
+{
+    match call {
+        OnTable::Fde => fde_by_table(table, frame, bases, address, get_cie),
+        OnTable::Row => row_by_cies(table, frame, bases, context, address, get_cie),
+    }
+}
+
+/// What one of these calls returns, and how often it calls a closure that may refuse the CIE.
+pub(crate) fn asked_by_table<R: Reader<Offset = usize>, S: UnwindContextStorage<usize>>(
+    call: OnTable,
+    table: &EhHdrTable<'_, R>,
+    frame: &EhFrame<R>,
+    context: &mut UnwindContext<usize, S>,
     address: u64,
     refuses: bool,
 ) -> Asked {
-    let mut asked = 0u32;
     let bases = bases();
-    let found = table.unwind_info_for_address(
+    let mut asked = 0u32;
+    let found = by_table(
+        call,
+        table,
         frame,
         &bases,
         context,
@@ -163,94 +247,7 @@ pub(crate) fn row_by_cies<R: Reader<Offset = usize>, S: UnwindContextStorage<usi
             from.cie_from_offset(bases, offset)
         },
     );
-    (start_of(range_of(found)), asked)
-}
-
-/// The offset of an FDE, and whether `get_cie` fails; the result, and how often the closure was
-/// called.
-const FDES_AT: [(usize, bool, Asked); 6] = [
-    (20, false, (Ok(20), 1)),
-    (44, false, (Ok(44), 1)),
-    (
-        68,
-        false,
-        (Err(Error::UnexpectedEof(ReaderOffsetId(84))), 1),
-    ),
-    (0, false, (Err(Error::NotCiePointer(0)), 0)),
-    (
-        84,
-        false,
-        (Err(Error::UnexpectedEof(ReaderOffsetId(84))), 0),
-    ),
-    (44, true, (Err(Error::UnknownAugmentation), 1)),
-];
-
-/// Checks both calls for the FDE at an offset.
-pub(crate) fn one_fde_asks_once<R: Reader<Offset = usize>>(rt: &impl Abort, fdes: R) {
-    let section = DebugFrame::from(fdes);
-    for (offset, refuses, asked) in &FDES_AT {
-        let by_both = [
-            at_offset(&section, *offset, *refuses),
-            parsed(&section, *offset, *refuses),
-        ];
-        expect(rt, *offset, &by_both, &[*asked; 2]);
-    }
-}
-
-/// The offset of the FDE and the start address of the row, or an error.
-type Found = Result<(u64, u64), Error>;
-
-/// The results of both calls.
-fn both(found: Found, asked: u32) -> [Asked; 2] {
-    match found {
-        Ok((offset, start)) => [(Ok(offset), asked), (Ok(start), asked)],
-        Err(refusal) => [(Err(refusal), asked); 2],
-    }
-}
-
-/// The length of the section, an address, and whether `get_cie` fails; the result, and how often
-/// the closure was called.
-const SCANS: [(usize, u64, bool, Found, u32); 6] = [
-    (84, 0x1008, false, Ok((20, 0x1000)), 1),
-    (84, 0x201f, false, Ok((44, 0x2000)), 2),
-    (68, 0x3000, false, Err(Error::NoUnwindInfoForAddress), 2),
-    (
-        66,
-        0x2008,
-        false,
-        Err(Error::UnexpectedEof(ReaderOffsetId(48))),
-        1,
-    ),
-    (
-        84,
-        0x3000,
-        false,
-        Err(Error::UnexpectedEof(ReaderOffsetId(84))),
-        3,
-    ),
-    (84, 0x2008, true, Err(Error::UnknownAugmentation), 1),
-];
-
-/// The section of the first bytes of a reader.
-fn cut<R: Reader<Offset = usize>>(reader: R, length: usize) -> DebugFrame<R> {
-    let mut whole = reader;
-    DebugFrame::from(whole.split(length).unwrap_or(reader))
-}
-
-/// Checks both calls for an address.
-pub(crate) fn a_scan_asks_once_an_fde<R: Reader<Offset = usize>, S: UnwindContextStorage<usize>>(
-    rt: &impl Abort,
-    fdes: R,
-    context: &mut UnwindContext<usize, S>,
-) {
-    for (length, address, refuses, found, asked) in &SCANS {
-        let section = cut(fdes, *length);
-        let by_scan = [
-            for_address(&section, *address, *refuses),
-            row_for_address(context, &section, *address, *refuses),
-        ];
-        expect(rt, *address, &by_scan, &both(*found, *asked));
-    }
+    (found, asked)
 }
 
 /// The section whose second FDE is longer than the rest of the section.
@@ -272,61 +269,172 @@ pub(crate) const INDIRECT: [u8; 20] = [
     1, 0x1b, 0x03, 0xbb, 0xfc, 0, 0, 0, 1, 0, 0, 0, 0, 0xf1, 0xff, 0xff, 0x18, 1, 0, 0,
 ];
 
-const NONE: Found = Err(Error::NoUnwindInfoForAddress);
+/// The readers of sections and headers: those that are as they should be, the cut section, a header
+/// that leads to the CIE, an indirect one, and the section of `FDES`, whole and cut twice.
+pub(crate) type Readers<R> = [R; 8];
 
-/// Sections and headers: those that are as they should be, the cut section, a header that leads to
-/// the CIE, and an indirect one.
-pub(crate) type Listings<R> = [R; 5];
+/// The first bytes of a reader.
+pub(crate) fn cut<R: Reader<Offset = usize>>(reader: R, length: usize) -> R {
+    let mut whole = reader;
+    match whole.split(length) {
+        Ok(part) => part,
+        Err(_) => reader,
+    }
+}
 
-/// Which section and header, an address, and whether `get_cie` fails; the result, and how often the
-/// closure was called.
-const BY_TABLES: [([usize; 2], u64, bool, Found, u32); 8] = [
-    ([0, 1], 0x1018, false, Ok((44, 0x1011)), 1),
-    ([0, 1], 0x103f, false, Ok((64, 0x1020)), 1),
-    ([0, 1], 0xff0, false, NONE, 1),
-    ([0, 1], 0x1040, false, NONE, 1),
-    ([0, 1], 0x1018, true, Err(Error::UnknownAugmentation), 1),
-    (
-        [2, 1],
-        0x1018,
-        false,
-        Err(Error::UnexpectedEof(ReaderOffsetId(61))),
-        1,
-    ),
-    ([0, 3], 0x1018, false, Err(Error::NotCiePointer(0)), 0),
-    (
-        [0, 4],
-        0x1000,
-        false,
-        Err(Error::UnsupportedIndirectPointer),
-        0,
-    ),
-];
+/// Two calls, and which readers they are passed: for the FDE at an offset, or for an address, by a
+/// scan or by a header's table.
+#[derive(Clone, Copy)]
+enum Calls {
+    AtOffset(usize),
+    ByScan(usize),
+    ByTable(usize, usize),
+}
 
-/// Both calls for an address, by a header's table.
-fn by_table<R: Reader<Offset = usize>, S: UnwindContextStorage<usize>>(
+/// Both calls on a section, for an offset or an address.
+fn both_by_section<R: Reader<Offset = usize>, S: UnwindContextStorage<usize>>(
+    calls: [OnSection; 2],
+    section: R,
     context: &mut UnwindContext<usize, S>,
+    at: u64,
+    refuses: bool,
+) -> [Asked; 2] {
+    let section = DebugFrame::from(section);
+    [
+        asked_by_section(calls[0], &section, context, at, refuses),
+        asked_by_section(calls[1], &section, context, at, refuses),
+    ]
+}
+
+/// Both calls for an address, by a table.
+fn both_by_table<R: Reader<Offset = usize>, S: UnwindContextStorage<usize>>(
+    table: &EhHdrTable<'_, R>,
+    section: R,
+    context: &mut UnwindContext<usize, S>,
+    address: u64,
+    refuses: bool,
+) -> [Asked; 2] {
+    let frame = EhFrame::from(section);
+    [
+        asked_by_table(OnTable::Fde, table, &frame, context, address, refuses),
+        asked_by_table(OnTable::Row, table, &frame, context, address, refuses),
+    ]
+}
+
+/// The same by a header.
+fn both_by_header<R: Reader<Offset = usize>, S: UnwindContextStorage<usize>>(
     section: R,
     header: R,
+    context: &mut UnwindContext<usize, S>,
     address: u64,
     refuses: bool,
 ) -> Result<[Asked; 2], Error> {
     let parsed = read_header(header)?;
     let table = table_of(&parsed)?;
-    let frame = EhFrame::from(section);
-    let fde = fde_by_table(&table, &frame, address, refuses);
-    Ok([fde, row_by_cies(context, &table, &frame, address, refuses)])
+    Ok(both_by_table(&table, section, context, address, refuses))
 }
 
-/// Checks both calls for an address, by a table.
-pub(crate) fn a_table_asks_once<R: Reader<Offset = usize>, S: UnwindContextStorage<usize>>(
+fn both<R: Reader<Offset = usize>, S: UnwindContextStorage<usize>>(
+    calls: Calls,
+    of: &Readers<R>,
+    context: &mut UnwindContext<usize, S>,
+    at: u64,
+    refuses: bool,
+) -> Result<[Asked; 2], Error> {
+    match calls {
+        Calls::AtOffset(section) => {
+            let calls = [OnSection::Parse, OnSection::FdeAt];
+            Ok(both_by_section(calls, of[section.min(7)], context, at, refuses))
+        }
+        Calls::ByScan(section) => {
+            let calls = [OnSection::FdeFor, OnSection::RowFor];
+            Ok(both_by_section(calls, of[section.min(7)], context, at, refuses))
+        }
+        Calls::ByTable(section, header) => {
+            both_by_header(of[section.min(7)], of[header.min(7)], context, at, refuses)
+        }
+    }
+}
+
+/// Two calls, an offset or an address, and whether `get_cie` fails; what each of them returns, and
+/// how often it calls the closure.
+type Case = (Calls, u64, bool, [Asked; 2]);
+
+const NONE: Result<u64, Error> = Err(Error::NoUnwindInfoForAddress);
+
+const UNKNOWN: Result<u64, Error> = Err(Error::UnknownAugmentation);
+
+const CUT_AT_84: Result<u64, Error> = Err(Error::UnexpectedEof(ReaderOffsetId(84)));
+
+const CUT_AT_61: Result<u64, Error> = Err(Error::UnexpectedEof(ReaderOffsetId(61)));
+
+const CUT_AT_48: Result<u64, Error> = Err(Error::UnexpectedEof(ReaderOffsetId(48)));
+
+const NO_FDE: Result<u64, Error> = Err(Error::NotCiePointer(0));
+
+const NOT_DIRECT: Result<u64, Error> = Err(Error::UnsupportedIndirectPointer);
+
+const CASES: [Case; 20] = [
+    (Calls::AtOffset(5), 20, false, [(Ok(20), 1); 2]),
+    (Calls::AtOffset(5), 44, false, [(Ok(44), 1); 2]),
+    (Calls::AtOffset(5), 68, false, [(CUT_AT_84, 1); 2]),
+    (Calls::AtOffset(5), 0, false, [(NO_FDE, 0); 2]),
+    (Calls::AtOffset(5), 84, false, [(CUT_AT_84, 0); 2]),
+    (Calls::AtOffset(5), 44, true, [(UNKNOWN, 1); 2]),
+    (
+        Calls::ByScan(5),
+        0x1008,
+        false,
+        [(Ok(20), 1), (Ok(0x1000), 1)],
+    ),
+    (
+        Calls::ByScan(5),
+        0x201f,
+        false,
+        [(Ok(44), 2), (Ok(0x2000), 2)],
+    ),
+    (Calls::ByScan(6), 0x3000, false, [(NONE, 2); 2]),
+    (Calls::ByScan(7), 0x2008, false, [(CUT_AT_48, 1); 2]),
+    (Calls::ByScan(5), 0x3000, false, [(CUT_AT_84, 3); 2]),
+    (Calls::ByScan(5), 0x2008, true, [(UNKNOWN, 1); 2]),
+    (
+        Calls::ByTable(0, 1),
+        0x1018,
+        false,
+        [(Ok(44), 1), (Ok(0x1011), 1)],
+    ),
+    (
+        Calls::ByTable(0, 1),
+        0x103f,
+        false,
+        [(Ok(64), 1), (Ok(0x1020), 1)],
+    ),
+    (Calls::ByTable(0, 1), 0xff0, false, [(NONE, 1); 2]),
+    (Calls::ByTable(0, 1), 0x1040, false, [(NONE, 1); 2]),
+    (Calls::ByTable(0, 1), 0x1018, true, [(UNKNOWN, 1); 2]),
+    (Calls::ByTable(2, 1), 0x1018, false, [(CUT_AT_61, 1); 2]),
+    (Calls::ByTable(0, 3), 0x1018, false, [(NO_FDE, 0); 2]),
+    (Calls::ByTable(0, 4), 0x1000, false, [(NOT_DIRECT, 0); 2]),
+];
+
+fn check<R: Reader<Offset = usize>, S: UnwindContextStorage<usize>>(
     rt: &impl Abort,
-    listings: &Listings<R>,
+    of: &Readers<R>,
+    context: &mut UnwindContext<usize, S>,
+    case: &Case,
+) {
+    let (calls, at, refuses, asked) = case;
+    let found = both(*calls, of, context, *at, *refuses);
+    expect(rt, *at, &found, &Ok(*asked));
+}
+
+/// Checks both calls in each case.
+pub(crate) fn each_call_asks_once_an_fde<R: Reader<Offset = usize>, S: UnwindContextStorage<usize>>(
+    rt: &impl Abort,
+    of: &Readers<R>,
     context: &mut UnwindContext<usize, S>,
 ) {
-    for (which, address, refuses, found, asked) in &BY_TABLES {
-        let (section, header) = (listings[which[0].min(4)], listings[which[1].min(4)]);
-        let by_table = by_table(context, section, header, *address, *refuses);
-        expect(rt, *address, &by_table, &Ok(both(*found, *asked)));
+    for case in &CASES {
+        check(rt, of, context, case);
     }
 }

@@ -3,9 +3,9 @@ ghost use Rattle.std.specs.Ordering.{on};
 ghost use Rattle.std.specs.Cmp.{on_per, on_equiv};
 
 use crate::comparison::expect;
-use crate::header::asked::{Asked, fde_by_table, row_by_cies};
+use crate::header::asked::{OnTable, asked_by_table, start_of};
 use crate::header::searches::{Listed, read_header, table_of};
-use crate::rows::{Range, bases, range_of};
+use crate::rows::{bases, range_of};
 use gimli_cfi::{
     EhFrame, EhFrameHdr, EhHdrTable, Error, FaithfulTable, Pointer, Reader, StartSource,
     TableStarts, UnwindContext, UnwindContextStorage, row_by_header, row_by_table,
@@ -130,45 +130,49 @@ struct Listing<'a, R: Reader> {
     counts: &'a Counts<'a>,
 }
 
-/// What a call returns, and how many numbers were read.
-type Answer<T> = (T, Reads);
+/// What a call returns, as the address of the FDE, its offset or the first address of the row, and
+/// how many numbers were read.
+type Answer = (Result<u64, Error>, Reads);
+
+fn address_of(target: Result<Pointer, Error>) -> Result<u64, Error> {
+    match target {
+        Ok(target) => target.direct(),
+        Err(refusal) => Err(refusal),
+    }
+}
 
 /// By the calls that take no source: `lookup`, `fde_for_address`, `unwind_info_for_address`.
-type ByTable = (Answer<Result<Pointer, Error>>, Answer<Asked>, Answer<Asked>);
-
 fn by_table<R: Reader<Offset = usize>, S: UnwindContextStorage<usize>>(
     of: &Listing<'_, R>,
     context: &mut UnwindContext<usize, S>,
     address: u64,
-) -> ByTable {
+) -> [Answer; 3] {
     let _before = of.counts.since();
-    let target = of.table.lookup(address, &bases());
+    let target = address_of(of.table.lookup(address, &bases()));
     let looked_up = (target, of.counts.since());
-    let fde = fde_by_table(&of.table, of.frame, address, false);
+    let (fde, _) = asked_by_table(OnTable::Fde, &of.table, of.frame, context, address, false);
     let found = (fde, of.counts.since());
-    let row = row_by_cies(context, &of.table, of.frame, address, false);
-    (looked_up, found, (row, of.counts.since()))
+    let (row, _) = asked_by_table(OnTable::Row, &of.table, of.frame, context, address, false);
+    [looked_up, found, (row, of.counts.since())]
 }
 
 /// By a source of starts: `lookup_in` and `row_by_table`.
-type BySource = (Answer<Result<Pointer, Error>>, Answer<Result<Range, Error>>);
-
 fn by_source<R: Reader<Offset = usize>, S: UnwindContextStorage<usize>, I: StartSource>(
     of: &Listing<'_, R>,
     starts: &mut I,
     context: &mut UnwindContext<usize, S>,
     address: u64,
-) -> BySource {
+) -> [Answer; 2] {
     let (bases, _before) = (bases(), of.counts.since());
-    let target = of.table.lookup_in(starts, address, &bases);
+    let target = address_of(of.table.lookup_in(starts, address, &bases));
     let looked_up = (target, of.counts.since());
     let row = range_of(row_by_table(&of.table, starts, of.frame, &bases, context, address));
-    (looked_up, (row, of.counts.since()))
+    [looked_up, (start_of(row), of.counts.since())]
 }
 
 /// By the table's own starts: what making them reads, what both calls read, and what the start of
 /// row 1 then reads.
-type ByStarts = Result<(Reads, BySource, Answer<Result<u64, Error>>), Error>;
+type ByStarts = Result<(Reads, [Answer; 2], Answer), Error>;
 
 fn by_starts<R: Reader<Offset = usize>, S: UnwindContextStorage<usize>>(
     of: &Listing<'_, R>,
@@ -188,27 +192,25 @@ fn by_list<R: Reader<Offset = usize>, S: UnwindContextStorage<usize>>(
     of: &Listing<'_, R>,
     context: &mut UnwindContext<usize, S>,
     address: u64,
-) -> (BySource, u32) {
+) -> ([Answer; 2], u32) {
     let mut starts = Listed::new(&[0x1000, 0x1010, 0x1020]);
     let found = by_source(of, &mut starts, context, address);
     (found, starts.made)
 }
 
-/// By a table that was checked.
-type ByChecked = Option<Answer<Result<Range, Error>>>;
-
+/// By a table that was checked, if it passes.
 fn by_checked_table<R: Reader<Offset = usize>, S: UnwindContextStorage<usize>>(
     of: &Listing<'_, R>,
     context: &mut UnwindContext<usize, S>,
     address: u64,
-) -> ByChecked {
+) -> Option<Answer> {
     let bases = bases();
     let Ok(checked) = FaithfulTable::new(&of.table, of.frame, &bases) else {
         return None;
     };
     let _before = of.counts.since();
     let row = range_of(checked.row(context, address));
-    Some((row, of.counts.since()))
+    Some((start_of(row), of.counts.since()))
 }
 
 /// By a header that isn't parsed yet.
@@ -218,21 +220,37 @@ fn by_header<R: Reader<Offset = usize>, S: UnwindContextStorage<usize>>(
     counts: &Counts<'_>,
     context: &mut UnwindContext<usize, S>,
     address: u64,
-) -> Answer<Result<Range, Error>> {
+) -> Answer {
     let header = EhFrameHdr::from(header);
     let _before = counts.since();
     let row = range_of(row_by_header(&header, 8, frame, &bases(), context, address));
-    (row, counts.since())
+    (start_of(row), counts.since())
 }
 
 /// What each call returns and reads for an address.
 type All = (
-    ByTable,
+    [Answer; 3],
     ByStarts,
-    (BySource, u32),
-    ByChecked,
-    Answer<Result<Range, Error>>,
+    ([Answer; 2], u32),
+    Option<Answer>,
+    Answer,
 );
+
+/// By a table.
+fn by_each<R: Reader<Offset = usize>, S: UnwindContextStorage<usize>>(
+    of: &Listing<'_, R>,
+    context: &mut UnwindContext<usize, S>,
+    address: u64,
+    by_header: Answer,
+) -> All {
+    (
+        by_table(of, context, address),
+        by_starts(of, context, address),
+        by_list(of, context, address),
+        by_checked_table(of, context, address),
+        by_header,
+    )
+}
 
 fn all<R: Reader<Offset = usize>, S: UnwindContextStorage<usize>>(
     header: R,
@@ -248,13 +266,7 @@ fn all<R: Reader<Offset = usize>, S: UnwindContextStorage<usize>>(
         frame,
         counts,
     };
-    Ok((
-        by_table(&of, context, address),
-        by_starts(&of, context, address),
-        by_list(&of, context, address),
-        by_checked_table(&of, context, address),
-        by_header,
-    ))
+    Ok(by_each(&of, context, address, by_header))
 }
 
 fn counting<'a, R>(inner: R, reads: &'a Cell<u32>) -> Counted<'a, R> {
@@ -304,23 +316,23 @@ const HEAD: u32 = 6;
 /// Two starts, which is as many as halving three rows takes, and a target.
 const SEARCH: u32 = 2 + 1;
 
-const TARGET: Result<Pointer, Error> = Ok(Pointer::Direct(0x202c));
+const TARGET: Result<u64, Error> = Ok(0x202c);
 
-const ROW: Result<Range, Error> = Ok((0x1011, 0x1020));
+const ROW: Result<u64, Error> = Ok(0x1011);
 
 /// What the calls return and read for 0x1018, whose row is the second of the FDE at 44.
 const ALL: Result<All, Error> = Ok((
-    (
+    [
         (TARGET, (SEARCH, 0)),
-        ((Ok(44), 1), (SEARCH, FDE)),
-        ((Ok(0x1011), 1), (SEARCH, FDE + ROWS)),
-    ),
+        (Ok(44), (SEARCH, FDE)),
+        (ROW, (SEARCH, FDE + ROWS)),
+    ],
     Ok((
         (0, 0),
-        ((TARGET, (SEARCH, 0)), (ROW, (SEARCH, FDE + ROWS))),
+        [(TARGET, (SEARCH, 0)), (ROW, (SEARCH, FDE + ROWS))],
         (Ok(0x1010), (1, 0)),
     )),
-    (((TARGET, (1, 0)), (ROW, (1, FDE + ROWS))), 4),
+    ([(TARGET, (1, 0)), (ROW, (1, FDE + ROWS))], 4),
     Some((ROW, (SEARCH, FDE + ROWS))),
     (ROW, (HEAD + SEARCH, FDE + ROWS)),
 ));

@@ -1,8 +1,7 @@
 //! The checks that take a context, which is made here once for all of them: what makes one takes
 //! longer to prove than most of them.
 use crate::header::asked::{
-    CUT, FDES, INDIRECT, Listings, TO_THE_CIE, a_scan_asks_once_an_fde, a_table_asks_once,
-    one_fde_asks_once,
+    CUT, FDES, INDIRECT, Readers, TO_THE_CIE, cut, each_call_asks_once_an_fde,
 };
 use crate::header::counted::what_each_call_reads;
 use crate::header::searches::{HEADER, SECTION, rows_passed_at_once};
@@ -12,43 +11,42 @@ use gimli_cfi::{Error, Reader, StoreOnHeap, UnwindContext, UnwindContextStorage}
 use std::process::Abort;
 use std::test::Fail;
 
-/// The checks with a context of one storage, of entries with a cut one, and of two CIEs.
+/// The checks with a context of one storage, of these readers and of two CIEs.
 fn check_context<R: Reader<Offset = usize>, S: UnwindContextStorage<usize>>(
     rt: &impl Abort,
-    listings: &Listings<R>,
-    fdes: R,
+    readers: &Readers<R>,
     two_cies: R,
     context: &mut UnwindContext<usize, S>,
 ) {
-    rows_passed_at_once(rt, listings[1]);
-    one_fde_asks_once(rt, fdes);
-    a_scan_asks_once_an_fde(rt, fdes, context);
-    a_table_asks_once(rt, listings, context);
-    what_each_call_reads(rt, listings[0], listings[1], context);
+    rows_passed_at_once(rt, readers[1]);
+    each_call_asks_once_an_fde(rt, readers, context);
+    what_each_call_reads(rt, readers[0], readers[1], context);
     a_scan_reads_a_cie_once(rt, two_cies, context);
 }
 
 /// The same with a fresh context.
 fn check_fresh<R: Reader<Offset = usize>, S: UnwindContextStorage<usize>>(
     rt: &(impl Abort + AllocGlobal),
-    listings: &Listings<R>,
-    fdes: R,
+    readers: &Readers<R>,
     two_cies: R,
 ) -> Result<(), Error> {
     let mut context: UnwindContext<usize, S> = UnwindContext::new_in(rt.alloc())?;
-    check_context(rt, listings, fdes, two_cies, &mut context);
+    check_context(rt, readers, two_cies, &mut context);
     Ok(())
 }
 
 #[test]
 fn scans_and_tables(rt: HostRuntime) -> Result<(), Fail> {
-    let listings = [
+    let fdes = slice(&FDES);
+    let readers = [
         slice(&SECTION),
         slice(&HEADER),
         slice(&CUT),
         slice(&TO_THE_CIE),
         slice(&INDIRECT),
+        fdes,
+        cut(fdes, 68),
+        cut(fdes, 66),
     ];
-    let (fdes, two_cies) = (slice(&FDES), slice(&TWO_CIES));
-    Ok(check_fresh::<Slice, StoreOnHeap>(&rt, &listings, fdes, two_cies)?)
+    Ok(check_fresh::<Slice, StoreOnHeap>(&rt, &readers, slice(&TWO_CIES))?)
 }
