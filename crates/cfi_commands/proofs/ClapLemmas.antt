@@ -1,7 +1,7 @@
 -- What the commands of clap are.
-use Rattle.std.proofs.Common.{◌≡◌, ◌∙◌, ◌||◌, Bool, ap, ap₂, refl, List, [], Result, Ok, Err, IfErr, IsErrAnd, inl, false, true}
+use Rattle.std.proofs.Common.{◌≡◌, ◌∙◌, ◌||◌, Bool, ap, ap₂, refl, subst, List, [], ◌∷◌, Result, Ok, Err, IfErr, IsErrAnd, inl, false, true}
 use Rattle.std.specs.Borrow.{Bor}
-use Rattle.clap.specs.Built.{AddsArg, AddsSubcommand}
+use Rattle.clap.specs.Built.{AddsArg, AddsInTurn, AddsSubcommand}
 use Rattle.clap.specs.Words.{App, FailsBy, Kinds, Rule, Text, app_of, is_simple, is_simple_and_free, kind_of, rule_of, with_rule, with_subcommand}
 use Rattle.clap.specs.declared.builder.arg.Arg.{Arg}
 use Rattle.clap.specs.declared.builder.command.Command.TheViews.{out-Command}
@@ -10,7 +10,7 @@ use Rattle.clap.specs.declared.error.Error.{Error}
 use Rattle.clap.specs.declared.error.kind.ErrorKind.TheVariants.{OutOfMemory}
 use Rattle.clap.proofs.OnLiterals.{clap_on_literals}
 use Rattle.clap.specs.declared.builder.command.Command.{Command}
-use Rattle.cfi_commands.specs.CommandLine.{AddsOptions, IsApp, cfi_app, option_rule, with_options}
+use Rattle.cfi_commands.specs.CommandLine.{AddsOptions, HaveRules, IsApp, cfi_app, option_rule, with_options, with_rules}
 use Rattle.cfi_commands.specs.Forms.{LongOption, Value}
 
 pub adds_app : (old sub new : Command) (a b : App) → IsApp a old → IsApp b sub → AddsSubcommand old sub new → IsApp (with_subcommand a b.top) new
@@ -21,6 +21,14 @@ adds_app old sub new a b above below h =
 pub adds_rule : (old new : Command) (a : Arg) (r : Rule) (app : App) → IsApp app old → rule_of a ≡ r → a.global ≡ false → AddsArg old a new → IsApp (with_rule app r) new
 adds_rule old new a r app above is local h =
     (h.shape local ∙ ap₂ with_rule above.0 is, h.globals ∙ ap₂ (λ x y. x || y) above.1 local)
+
+pub adds_rules : (rules : List Rule) (args : List Arg) (old new : Command) (app : App) → IsApp app old → HaveRules rules args → AddsInTurn AddsArg old args new → IsApp (with_rules rules app) new
+adds_rules [] [] old new app above have h = subst (IsApp app) h above
+adds_rules [] (arg ∷ args) old new app above have h = absurd have
+adds_rules (rule ∷ rules) [] old new app above have h = absurd have
+adds_rules (rule ∷ rules) (arg ∷ args) old new app above have h =
+    let (mid, first, others) = h in
+    adds_rules rules args mid new (with_rule app rule) (adds_rule old mid arg rule app above have.0 have.1 first) have.2 others
 
 pub adds_options : (options : List LongOption) (old new : Command) (app : App) → IsApp app old → AddsOptions options old new → IsApp (with_options options app) new
 adds_options options old new app above h = (h.0 ∙ ap (with_options options) above.0, h.1 ∙ above.1)

@@ -4,15 +4,16 @@
 --         where there is no kind
 --     command_by_matches matched      the command that clap matched, with its values
 use Rattle.std.specs.Prelude.{◌≡◌, ℕ, true, false, List, [], ◌∷◌, ◌++◌, Option, Result, Some, None}
-use Rattle.std.specs.Prelude.{codes, map, unwrap_or}
+use Rattle.std.specs.Prelude.{⊤, codes, map, unwrap_or}
 use Rattle.std.specs.Borrow.{Bor}
 use Rattle.std.specs.List.{fold as fold_over}
 use Rattle.clap.specs.Lexer.{usize_max}
 use Rattle.clap.specs.Words.{App, FailsBy, Row, Rule, Text, all_of, app_of, fault_of, new_app}
-use Rattle.clap.specs.Words.{new_rule, with_rule, with_subcommand}
+use Rattle.clap.specs.Words.{new_rule, rule_of, with_rule, with_subcommand}
 use Rattle.clap.specs.Simple.{on_top}
 use Rattle.clap.specs.declared.builder.action.ArgAction.{ArgAction}
 use Rattle.clap.specs.declared.builder.action.ArgAction.TheVariants.{SetTrue}
+use Rattle.clap.specs.declared.builder.arg.Arg.{Arg as ClapArg}
 use Rattle.clap.specs.declared.builder.command.Command.{Command as ClapCommand}
 use Rattle.clap.specs.declared.builder.command.Command.TheViews.{out-Command}
 use Rattle.clap.specs.declared.builder.value_parser.ValueParser.{ValueParser}
@@ -118,6 +119,18 @@ cfi_app names =
 -- the command of clap is the one that is described so
 abbrev pub IsApp : App → ClapCommand → Type 0
 IsApp app command = (app_of command ≡ app) × ((out-Command command).has_globals ≡ false)
+
+-- the same command with these rules behind its own
+abbrev pub with_rules : List Rule → App → App
+with_rules rules app = fold_over with_rule app rules
+
+-- the arguments have these rules, and are of one command alone
+abbrev pub HaveRules : List Rule → List ClapArg → Type 0
+HaveRules [] [] = ⊤
+HaveRules [] (arg ∷ args) = ⊥
+HaveRules (rule ∷ rules) [] = ⊥
+HaveRules (rule ∷ rules) (arg ∷ args) =
+    (rule_of arg ≡ rule) × (arg.global ≡ false) × HaveRules rules args
 
 -- the same command with these options behind its rules
 abbrev pub with_options : List LongOption → App → App

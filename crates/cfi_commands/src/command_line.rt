@@ -1,9 +1,11 @@
 //! The command line of the program, as clap is told of it.
-ghost use Rattle.std.specs.Prelude.{◌≡◌, IfErr, IfOk, IsSome, map, option_map};
-ghost use Rattle.clap.specs.Words.{kind_of, subcommand_rows_of};
+ghost use Rattle.std.specs.Prelude.{◌≡◌, List, IfErr, IfOk, IsSome, map, option_map};
+ghost use Rattle.clap.specs.Words.{App, Rule, kind_of, new_app, subcommand_rows_of};
+ghost use Rattle.clap.specs.Words.{with_subcommand};
 ghost use Rattle.clap.specs.declared.builder.value_parser.ValueParser.TheVariants.{Names};
 ghost use Rattle.cfi_commands.specs.CommandLine.{AddsOptions, FailsAsCfi, IsApp, cfi_app, form_app};
-ghost use Rattle.cfi_commands.specs.CommandLine.{command_by_matches, plain_app, top_app};
+ghost use Rattle.cfi_commands.specs.CommandLine.{HaveRules, command_by_matches, plain_app, top_app};
+ghost use Rattle.cfi_commands.specs.CommandLine.{with_rules};
 ghost use Rattle.cfi_commands.specs.Forms.{check_form, dump_form, flame_form, fold_form};
 ghost use Rattle.cfi_commands.specs.Forms.{folder_options, format_names, report_form, row_form};
 ghost use Rattle.cfi_commands.specs.Forms.{rows_form, sample_options, stack_form, table_form};
@@ -15,7 +17,7 @@ use crate::options::{
     one_file, profile, raw_flag, raw_frames_flag, text_option,
 };
 use clap::error::ErrorKind;
-use clap::{ArgMatches, Error};
+use clap::{Arg, ArgMatches, Error};
 use std::alloc::{AllocError, Global};
 use std::convert::AsStr;
 
@@ -49,17 +51,27 @@ fn format_names<'w>() -> &'w [&'w str]
 fn cfi<'w>(alloc: Global, formats: &'w [&'w str]) -> Result<clap::Command<'w>, AllocError>
     ensures { IfOk result (IsApp (cfi_app formats.entry)) }
 {
-    top(alloc)?
-        .subcommand(row(alloc, formats)?)?
-        .subcommand(rows(alloc, formats)?)?
-        .subcommand(dump(alloc)?)?
-        .subcommand(check(alloc, formats)?)?
-        .subcommand(table(alloc)?)?
-        .subcommand(unwind(alloc, formats)?)?
-        .subcommand(stack(alloc, formats)?)?
-        .subcommand(flame(alloc)?)?
-        .subcommand(report(alloc, formats)?)?
-        .subcommand(fold(alloc)?)
+    let command = with_command(top(alloc), row(alloc, formats));
+    let command = with_command(command, rows(alloc, formats));
+    let command = with_command(command, dump(alloc));
+    let command = with_command(command, check(alloc, formats));
+    let command = with_command(command, table(alloc));
+    let command = with_command(command, unwind(alloc, formats));
+    let command = with_command(command, stack(alloc, formats));
+    let command = with_command(command, flame(alloc));
+    let command = with_command(command, report(alloc, formats));
+    with_command(command, fold(alloc))
+}
+
+/// Adds a command below another, if memory was refused for neither.
+fn with_command<'w>(
+    command: Result<clap::Command<'w>, AllocError>,
+    below: Result<clap::Command<'w>, AllocError>,
+) -> Result<clap::Command<'w>, AllocError>
+    ensures { (app sub : App) → IfOk command.entry (IsApp app) → IfOk below.entry (IsApp sub)
+        → IfOk result (IsApp (with_subcommand app sub.top)) }
+{
+    command?.subcommand(below?)
 }
 
 /// Returns the program's own command, without those below it.
@@ -74,74 +86,111 @@ fn top<'w>(alloc: Global) -> Result<clap::Command<'w>, AllocError>
     command.bin_name("cfi")
 }
 
+/// Returns a command with these arguments.
+fn command_with<'w>(
+    alloc: Global,
+    name: &'w str,
+    about: &'w str,
+    args: Vec<Arg<'w>>,
+) -> Result<clap::Command<'w>, AllocError>
+    ensures { (rules : List Rule) → HaveRules rules args.entry.items
+        → IfOk result (IsApp (with_rules rules (new_app name.entry.now))) }
+{
+    clap::Command::new(alloc, name).about(about).args(args)
+}
+
 /// Returns the command `row`.
 fn row<'w>(alloc: Global, formats: &'w [&'w str]) -> Result<clap::Command<'w>, AllocError>
     ensures { IfOk result (IsApp (form_app (Names formats.entry) row_form)) }
 {
-    clap::Command::new(alloc, "row")
-        .about("Prints the row of each address: its range, the CFA and the rule of each register")
-        .arg(raw_flag(alloc))?
-        .arg(format_option(alloc, formats))?
-        .arg(elf_file(alloc))?
-        .arg(addresses(alloc))
+    let args = vec![in alloc;
+        raw_flag(alloc),
+        format_option(alloc, formats),
+        elf_file(alloc),
+        addresses(alloc),
+    ]?;
+    command_with(
+        alloc,
+        "row",
+        "Prints the row of each address: its range, the CFA and the rule of each register",
+        args,
+    )
 }
 
 /// Returns the command `rows`.
 fn rows<'w>(alloc: Global, formats: &'w [&'w str]) -> Result<clap::Command<'w>, AllocError>
     ensures { IfOk result (IsApp (form_app (Names formats.entry) rows_form)) }
 {
-    clap::Command::new(alloc, "rows")
-        .about("Prints the rows of every function, or of the one at an address")
-        .arg(raw_flag(alloc))?
-        .arg(format_option(alloc, formats))?
-        .arg(elf_file(alloc))?
-        .arg(address(alloc))
+    let args = vec![in alloc;
+        raw_flag(alloc),
+        format_option(alloc, formats),
+        elf_file(alloc),
+        address(alloc),
+    ]?;
+    command_with(
+        alloc,
+        "rows",
+        "Prints the rows of every function, or of the one at an address",
+        args,
+    )
 }
 
 /// Returns the command `dump`.
 fn dump<'w>(alloc: Global) -> Result<clap::Command<'w>, AllocError>
     ensures { IfOk result (IsApp (plain_app dump_form)) }
 {
-    clap::Command::new(alloc, "dump")
-        .about("Prints every entry, with its instructions' rows")
-        .arg(raw_flag(alloc))?
-        .arg(elf_file(alloc))
+    let args = vec![in alloc; raw_flag(alloc), elf_file(alloc)]?;
+    command_with(
+        alloc,
+        "dump",
+        "Prints every entry, with its instructions' rows",
+        args,
+    )
 }
 
 /// Returns the command `check`.
 fn check<'w>(alloc: Global, formats: &'w [&'w str]) -> Result<clap::Command<'w>, AllocError>
     ensures { IfOk result (IsApp (form_app (Names formats.entry) check_form)) }
 {
-    clap::Command::new(alloc, "check")
-        .about("Checks that the table of .eh_frame_hdr lists the entries of .eh_frame faithfully")
-        .arg(flag(
+    let args = vec![in alloc;
+        flag(
             alloc,
             "quiet",
             "Prints no line for a file whose table is faithful",
-        ))?
-        .arg(format_option(alloc, formats))?
-        .arg(flag(
+        ),
+        format_option(alloc, formats),
+        flag(
             alloc,
             "recursive",
             "Checks the files in folders and below, follows no links there; -r is short for it",
-        ))?
-        .arg(text_option(
+        ),
+        text_option(
             alloc,
             "files0-from",
             "LIST",
             "Checks the files that LIST names, each name ended by a zero byte; - is standard input",
-        ))?
-        .arg(elf_files(alloc))
+        ),
+        elf_files(alloc),
+    ]?;
+    command_with(
+        alloc,
+        "check",
+        "Checks that the table of .eh_frame_hdr lists the entries of .eh_frame faithfully",
+        args,
+    )
 }
 
 /// Returns the command `table`.
 fn table<'w>(alloc: Global) -> Result<clap::Command<'w>, AllocError>
     ensures { IfOk result (IsApp (plain_app table_form)) }
 {
-    clap::Command::new(alloc, "table")
-        .about("Prints the compiled table: the rows of all addresses, in their order")
-        .arg(raw_flag(alloc))?
-        .arg(elf_file(alloc))
+    let args = vec![in alloc; raw_flag(alloc), elf_file(alloc)]?;
+    command_with(
+        alloc,
+        "table",
+        "Prints the compiled table: the rows of all addresses, in their order",
+        args,
+    )
 }
 
 /// Returns the command `unwind`.
@@ -175,31 +224,40 @@ fn stack<'w>(alloc: Global, formats: &'w [&'w str]) -> Result<clap::Command<'w>,
 fn flame<'w>(alloc: Global) -> Result<clap::Command<'w>, AllocError>
     ensures { IfOk result (IsApp (plain_app flame_form)) }
 {
-    clap::Command::new(alloc, "flame")
-        .about("Prints the flame graph of folded stacks, an SVG")
-        .arg(text_option(alloc, "title", "TEXT", "What stands above the graph"))?
-        .arg(flag(
+    let args = vec![in alloc;
+        text_option(alloc, "title", "TEXT", "What stands above the graph"),
+        flag(
             alloc,
             "reverse",
             "Reads stacks from the innermost function out: above a function lie its callers",
-        ))?
-        .arg(text_option(
+        ),
+        text_option(
             alloc,
             "min-width",
             "PIXELS",
             "Leaves out narrower boxes, as if the graph had 1,200 pixels; decimals may follow",
-        ))?
-        .arg(folded_file(alloc))
+        ),
+        folded_file(alloc),
+    ]?;
+    command_with(
+        alloc,
+        "flame",
+        "Prints the flame graph of folded stacks, an SVG",
+        args,
+    )
 }
 
 /// Returns the command `report`.
 fn report<'w>(alloc: Global, formats: &'w [&'w str]) -> Result<clap::Command<'w>, AllocError>
     ensures { IfOk result (IsApp (form_app (Names formats.entry) report_form)) }
 {
-    clap::Command::new(alloc, "report")
-        .about("Prints the functions of folded stacks, by their samples")
-        .arg(format_option(alloc, formats))?
-        .arg(folded_file(alloc))
+    let args = vec![in alloc; format_option(alloc, formats), folded_file(alloc)]?;
+    command_with(
+        alloc,
+        "report",
+        "Prints the functions of folded stacks, by their samples",
+        args,
+    )
 }
 
 /// Returns the command `fold`.

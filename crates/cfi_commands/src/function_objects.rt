@@ -1,5 +1,5 @@
 //! The functions of folded stacks as objects of JSON (RFC 8259).
-ghost use Rattle.std.specs.Prelude.{◌≡◌, ◌++◌, OnOk, codes, map};
+ghost use Rattle.std.specs.Prelude.{◌≡◌, ◌++◌, [], ◌∷◌, OnOk, codes, map};
 ghost use Rattle.std.specs.List.{flat_map};
 ghost use Rattle.cfi_flame.specs.Functions.{row_view};
 ghost use Rattle.cfi_text.specs.JsonTexts.{json_number};
@@ -28,10 +28,7 @@ pub fn write_objects<W: Write>(output: &mut W, all: u64, rows: &[Function<'_>]) 
 fn write_samples<W: Write>(output: &mut W, all: u64) -> io::Result<()>
     ensures { Writes (W.contents output.old) (W.contents output.new) result (samples_object all) }
 {
-    let mut text = Text::new();
-    push_member(&mut text, b"{\"samples\":", all)?;
-    push(&mut text, b"}\n")?;
-    write_text(output, text.as_slice())
+    write_ended(output, b"{\"samples\":", all)
 }
 
 /// Writes that the line of this number isn't folded.
@@ -39,9 +36,16 @@ pub fn write_not_folded_object<W: Write>(output: &mut W, number: u64) -> io::Res
     ensures { Writes (W.contents output.old) (W.contents output.new) result
         (not_folded_object number) }
 {
+    write_ended(output, b"{\"error\":\"NotFolded\",\"line\":", number)
+}
+
+/// Writes an object of which this is the beginning, and a number the end.
+fn write_ended<W: Write>(output: &mut W, before: &[u8], number: u64) -> io::Result<()>
+    ensures { Writes (W.contents output.old) (W.contents output.new) result
+        (before.now ++ (json_number number ++ (codes "}" ++ 10 ∷ []))) }
+{
     let mut text = Text::new();
-    push_member(&mut text, b"{\"error\":\"NotFolded\",\"line\":", number)?;
-    push(&mut text, b"}\n")?;
+    push_ended(&mut text, before, number)?;
     write_text(output, text.as_slice())
 }
 
@@ -72,10 +76,26 @@ fn write_counts<W: Write>(output: &mut W, row: &Function<'_>) -> io::Result<()>
         (counts_members (row_view row.now)) }
 {
     let mut text = Text::new();
-    push_member(&mut text, b"\",\"self\":", row.own)?;
-    push_member(&mut text, b",\"total\":", row.total)?;
-    push(&mut text, b"}\n")?;
+    push_counts(&mut text, row)?;
     write_text(output, text.as_slice())
+}
+
+/// Appends the samples of a function. Fails where there is no room.
+fn push_counts(text: &mut Text, row: &Function<'_>) -> fmt::Result
+    ensures { OnOk result (text.new.items ≡ text.old.items ++ counts_members (row_view row.now)) }
+{
+    push_member(text, b"\",\"self\":", row.own)?;
+    push_ended(text, b",\"total\":", row.total)
+}
+
+/// Appends the last member of an object, with this beginning and a number. Fails where there is no
+/// room.
+fn push_ended(text: &mut Text, before: &[u8], number: u64) -> fmt::Result
+    ensures { OnOk result (text.new.items
+        ≡ text.old.items ++ (before.now ++ (json_number number ++ (codes "}" ++ 10 ∷ [])))) }
+{
+    push_member(text, before, number)?;
+    push(text, b"}\n")
 }
 
 /// Appends a member with this beginning and a number. Fails where there is no room.

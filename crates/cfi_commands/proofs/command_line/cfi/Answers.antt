@@ -1,21 +1,32 @@
-use Rattle.std.proofs.lemmas.Result.{IfOk-weaker}
 use Rattle.clap.specs.Simple.{App}
+use Rattle.clap.specs.Words.{with_subcommand}
 use Rattle.clap.specs.declared.builder.value_parser.ValueParser.TheVariants.{Names}
 use Rattle.cfi_commands.specs.CommandLine.{form_app, top_app}
 use Rattle.cfi_commands.specs.Forms.{Form, check_form, dump_form, flame_form, fold_form, report_form, row_form, rows_form, stack_form, table_form, unwind_form}
-use Rattle.cfi_commands.proofs.ClapLemmas.{adds_app}
 use Rattle.cfi_commands.proofs.command_line.cfi.Goals as goal
+
+abbrev below : App → App → App
+below app sub = with_subcommand app sub.top
 
 pub returns : goal.returns
 returns c =
-    let as_app : Form → App = form_app (Names c.args.formats) in
-    let with_row = adds_app _ _ c.in_ok-subcommand.field-0 top_app (as_app row_form) c.in_ok-top.ensures c.in_ok-row.ensures c.in_ok-subcommand.ensures in
-    let with_rows = adds_app _ _ c.in_ok-subcommand-2.field-0 _ (as_app rows_form) with_row c.in_ok-rows.ensures c.in_ok-subcommand-2.ensures in
-    let with_dump = adds_app _ _ c.in_ok-subcommand-3.field-0 _ (as_app dump_form) with_rows c.in_ok-dump.ensures c.in_ok-subcommand-3.ensures in
-    let with_check = adds_app _ _ c.in_ok-subcommand-4.field-0 _ (as_app check_form) with_dump c.in_ok-check.ensures c.in_ok-subcommand-4.ensures in
-    let with_table = adds_app _ _ c.in_ok-subcommand-5.field-0 _ (as_app table_form) with_check c.in_ok-table.ensures c.in_ok-subcommand-5.ensures in
-    let with_unwind = adds_app _ _ c.in_ok-subcommand-6.field-0 _ (as_app unwind_form) with_table c.in_ok-unwind.ensures c.in_ok-subcommand-6.ensures in
-    let with_stack = adds_app _ _ c.in_ok-subcommand-7.field-0 _ (as_app stack_form) with_unwind c.in_ok-stack.ensures c.in_ok-subcommand-7.ensures in
-    let with_flame = adds_app _ _ c.in_ok-subcommand-8.field-0 _ (as_app flame_form) with_stack c.in_ok-flame.ensures c.in_ok-subcommand-8.ensures in
-    let with_report = adds_app _ _ c.in_ok-subcommand-9.field-0 _ (as_app report_form) with_flame c.in_ok-report.ensures c.in_ok-subcommand-9.ensures in
-    IfOk-weaker c.subcommand-10.result _ _ (λ command h. adds_app _ _ command _ (as_app fold_form) with_report c.in_ok-fold.ensures h) c.subcommand-10.ensures
+    let of : Form → App = form_app (Names c.args.formats) in
+    let row : App = below top_app (of row_form) in
+    let rows : App = below row (of rows_form) in
+    let dump : App = below rows (of dump_form) in
+    let check : App = below dump (of check_form) in
+    let table : App = below check (of table_form) in
+    let unwind : App = below table (of unwind_form) in
+    let stack : App = below unwind (of stack_form) in
+    let flame : App = below stack (of flame_form) in
+    let report : App = below flame (of report_form) in
+    let with_row = c.with_command-command.ensures top_app (of row_form) c.top.ensures c.row.ensures in
+    let with_rows = c.with_command-command-2.ensures row (of rows_form) with_row c.rows.ensures in
+    let with_dump = c.with_command-command-3.ensures rows (of dump_form) with_rows c.dump.ensures in
+    let with_check = c.with_command-command-4.ensures dump (of check_form) with_dump c.check.ensures in
+    let with_table = c.with_command-command-5.ensures check (of table_form) with_check c.table.ensures in
+    let with_unwind = c.with_command-command-6.ensures table (of unwind_form) with_table c.unwind.ensures in
+    let with_stack = c.with_command-command-7.ensures unwind (of stack_form) with_unwind c.stack.ensures in
+    let with_flame = c.with_command-command-8.ensures stack (of flame_form) with_stack c.flame.ensures in
+    let with_report = c.with_command-command-9.ensures flame (of report_form) with_flame c.report.ensures in
+    c.with_command.ensures report (of fold_form) with_report c.fold.ensures
