@@ -160,7 +160,9 @@ def printed_by_perf(text, errors):
             found.are_lacking |= ": -1/-1: " in line
     if UNORDERED in text:
         # perf reads records in the order of the file then; for cfi those without a time stand before all samples
-        found.heads = [head._replace(comm=names.get(head.tid) or head.comm) for _, head in sorted(zip(times, found.heads), key=operator.itemgetter(0))]
+        in_order = [head for _, head in sorted(zip(times, found.heads), key=operator.itemgetter(0))]
+        # the last name of a thread may be empty
+        found.heads = [head if names.get(head.tid) is None else head._replace(comm=names[head.tid]) for head in in_order]
     complaints = [line for line in errors.split("\n") if line.strip() and not re.match("Warning:|Processed |Check |$", line)]
     found.said = complaints[0] if complaints else None
     return found

@@ -373,6 +373,8 @@ def fde_rule(run, mine, other, is_object):
         rules.append((is_signed, "the number of addresses is signed by its encoding, and readelf reads it without a sign"))
     if rows != other_rows and in_32_bits(rows) == other_rows:
         rules.append((True, "readelf prints offsets as numbers of 32 bits"))
+    elif rows != other_rows and other_rows in (signed := with_signs(run, rows), in_32_bits(signed)):
+        rules.append((True, "the offset of DW_CFA_GNU_negative_offset_extended is unsigned, and readelf reads it with a sign"))
     elif rows != other_rows:
         rules.append((has_lost_expression(other, rows, other_rows), "readelf loses a CFA of the CIE that is an expression"))
     return "; ".join(rule for _, rule in rules) if all(is_so for is_so, _ in rules) else None
@@ -391,6 +393,17 @@ def in_32_bits(rows):
         return re.sub(r"[+-]\d+$", lambda found: f"{(int(found[0]) + (1 << 31)) % (1 << 32) - (1 << 31):+}", rule)
 
     return [(start, narrow(cfa), {register: narrow(rule) for register, rule in rules.items()}) for start, cfa, rules in rows]
+
+
+def with_signs(run, rows):
+    """The same with the offsets of DW_CFA_GNU_negative_offset_extended as readelf reads them: the last bit of the LEB128 is a sign."""
+    dump = run.cfi("dump")
+    factors = {int(factor) for factor in re.findall(r"^cie .* data=(-?\d+)", dump, re.M)}
+    read = {(register, int(offset)) for register, offset in
+            re.findall(r"DW_CFA_GNU_negative_offset_extended register=(\w+) factored_offset=(\d+)", dump)}
+    signed = {(register, f"c{-offset * factor:+}"): f"c{((1 << offset.bit_length()) - offset) * factor:+}"
+              for register, offset in read if offset and offset.bit_length() % 7 == 0 for factor in factors}
+    return [(start, cfa, {register: signed.get((register, rule), rule) for register, rule in rules.items()}) for start, cfa, rules in rows]
 
 
 def has_lost_expression(other, rows, other_rows):
