@@ -9,8 +9,8 @@ use Rattle.std.specs.Prelude.{ℕ, ◌==◌, Bool, List, [], ◌∷◌, ◌++◌
 use Rattle.std.specs.Prelude.{option_map, take, unwrap_or, if◌then◌else◌}
 use Rattle.std.specs.List.{list_any}
 use Rattle.std.specs.Str.{bytes_eq}
-use Rattle.cfi_processes.specs.declared.wanted.LinkFolder.{LinkFolder}
-use Rattle.cfi_processes.specs.declared.wanted.LinkFolder.TheVariants.{Below, Beside, Central}
+use Rattle.cfi_mapped.specs.declared.wanted.LinkFolder.{LinkFolder}
+use Rattle.cfi_mapped.specs.declared.wanted.LinkFolder.TheVariants.{Below, Beside, Central}
 use Rattle.clap.specs.Words.{Text}
 use Rattle.hex.specs.Hex.{encode_lower}
 use Rattle.cfi_commands.specs.declared.folders.Folders.{Folders as FoldersOfCode}

@@ -4,9 +4,9 @@
 --     MayOpenProfile disk tree name opened      a profile, or none
 use Rattle.std.specs.Prelude.{◌⊎◌, true, Option, IsNone, codes}
 use Rattle.clap.specs.Words.{Text}
-use Rattle.cfi_processes.specs.CodeMaps.{map_name}
-use Rattle.cfi_processes.specs.Wanted.{FilePlace, at_path, code_map, copy_of, debug_of}
-use Rattle.cfi_processes.specs.Wanted.{kernel_symbols, linked}
+use Rattle.cfi_mapped.specs.CodeMaps.{map_name}
+use Rattle.cfi_mapped.specs.Wanted.{FilePlace, at_path, code_map, copy_of, debug_of}
+use Rattle.cfi_mapped.specs.Wanted.{kernel_symbols, linked}
 use Rattle.cfi_commands.specs.Disks.{Disk, of_any_kind, path_of, regular}
 use Rattle.cfi_commands.specs.Folders.{Folders, copy_path, debug_path, folder_of, linked_path}
 use Rattle.cfi_commands.specs.Folders.{path_below}

@@ -3,7 +3,7 @@ ghost use Rattle.std.specs.Prelude.{◌≡◌, ◌++◌, IfSome, codes, string_b
 ghost use Rattle.cfi_commands.specs.Folders.{build_path, debug_folder, debug_path, folder_of};
 ghost use Rattle.cfi_commands.specs.Folders.{folders_view, linked_path, path_below};
 
-use cfi_processes::LinkFolder;
+use cfi_mapped::LinkFolder;
 use std::alloc::Global;
 
 /// The folders in which the files are that a profile or a core file names.

@@ -6,8 +6,8 @@ ghost use Rattle.cfi_commands.specs.ProfileFiles.{MayOpenAt};
 
 use crate::folders::{Folders, copy_path, debug_path, folder_of, linked_path, path_below};
 use crate::system::System;
-use cfi_processes::code_map::map_name;
-use cfi_processes::{LinkFolder, Opener};
+use cfi_mapped::code_map::map_name;
+use cfi_mapped::{LinkFolder, Opener};
 use std::alloc::Global;
 use std::str;
 

@@ -2,12 +2,12 @@
 use Rattle.std.proofs.Common.{◌≡◌, ◌∙◌, ◌⊎◌, ℕ, List, Option, Result, Ok, Err, not, sym, ap, subst, inl, inr}
 use Rattle.cfi_text.specs.Lines.{Line}
 use Rattle.cfi_text.specs.WriterOutput.{PrintsSome}
-use Rattle.cfi_processes.specs.declared.mappings.MappedCode.{MappedCode}
+use Rattle.cfi_mapped.specs.declared.mappings.MappedCode.{MappedCode}
 use Rattle.cfi_processes.specs.declared.registers.SampleMachine.{SampleMachine}
 use Rattle.cfi_processes.specs.KnownFiles.{KnownFile}
-use Rattle.cfi_processes.specs.OpenedFiles.{Opened}
+use Rattle.cfi_mapped.specs.OpenedFiles.{Opened}
 use Rattle.cfi_processes.specs.ProfileFiles.{AreProfileFilesOf}
-use Rattle.cfi_processes.specs.Wanted.{FilePlace}
+use Rattle.cfi_mapped.specs.Wanted.{FilePlace}
 use Rattle.cfi_cores.specs.declared.core_file.Core.{Core as CoreOfCode}
 use Rattle.cfi_cores.specs.declared.error.CoreError.{CoreError}
 use Rattle.cfi_cores.specs.declared.error.CoreError.TheVariants.{OutOfMemory}

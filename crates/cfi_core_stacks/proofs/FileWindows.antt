@@ -3,10 +3,10 @@ use Rattle.std.proofs.Common.{◌≡◌, ◌∙◌, ◌&&◌, ℕ, Bool, true, f
 use Rattle.std.specs.List.{find}
 use Rattle.std.specs.Option.{option_and_then}
 use Rattle.std.specs.Str.{bytes_eq}
-use Rattle.cfi_processes.specs.declared.opened_file.OpenedFile.{OpenedFile}
-use Rattle.cfi_processes.specs.CodeParts.{beginning_in, is_whole}
-use Rattle.cfi_processes.specs.OpenedFiles.{AreOpenedAs, IsOpenedAs, Opened, are_whole}
-use Rattle.cfi_processes.proofs.CodeImages.{whole_first}
+use Rattle.cfi_mapped.specs.declared.opened_file.OpenedFile.{OpenedFile}
+use Rattle.cfi_mapped.specs.CodeParts.{beginning_in, is_whole}
+use Rattle.cfi_mapped.specs.OpenedFiles.{AreOpenedAs, IsOpenedAs, Opened, are_whole}
+use Rattle.cfi_mapped.proofs.CodeImages.{whole_first}
 use Rattle.cfi_core_stacks.specs.CoreWindows.{bytes_named}
 
 both : (a b : Bool) → (a && b) ≡ true → (a ≡ true) × (b ≡ true)

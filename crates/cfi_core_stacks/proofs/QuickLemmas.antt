@@ -3,7 +3,7 @@ use Rattle.std.proofs.Common.{◌≡◌, ◌∙◌, ◌==◌, ◌&&◌, ◌||◌
 use Rattle.std.specs.Prelude.{if◌then◌else◌}
 use borrow.Author.Tests.{eqb-true}
 use Rattle.std.proofs.lemmas.Bool.Decides.{nat_tests}
-use Rattle.cfi_processes.specs.FileBuilds.{id_of}
+use Rattle.cfi_mapped.specs.FileBuilds.{id_of}
 use Rattle.std.specs.List.{find, fold}
 use Rattle.std.specs.List.Sorted.{IsNonDecreasingBy}
 use Rattle.std.specs.Option.{option_and_then, option_map}
@@ -22,17 +22,17 @@ use Rattle.cfi_step.specs.declared.step.Caller.{Caller}
 use Rattle.cfi_step.specs.declared.walk.End.{End}
 use Rattle.cfi_step.specs.Walks.{State}
 use Rattle.cfi_step.proofs.LesserWalks.{IsAll, IsLess, steps_more, walk_by_more}
-use Rattle.cfi_processes.specs.declared.mappings.MappedCode.{MappedCode}
+use Rattle.cfi_mapped.specs.declared.mappings.MappedCode.{MappedCode}
 use Rattle.cfi_processes.specs.declared.registers.SampleMachine.{SampleMachine}
 use Rattle.cfi_processes.specs.declared.sample_stack.NoFrames.{NoFrames}
 use Rattle.cfi_processes.specs.KnownFiles.{KnownFile}
-use Rattle.cfi_processes.specs.Mappings.{mapped_over}
-use Rattle.cfi_processes.specs.OpenedFiles.{Opened}
+use Rattle.cfi_mapped.specs.Mappings.{mapped_over}
+use Rattle.cfi_mapped.specs.OpenedFiles.{Opened}
 use Rattle.cfi_processes.specs.Registers.{pc_number}
 use Rattle.cfi_processes.specs.Registers.{machine_abi}
-use Rattle.cfi_processes.specs.WantedFiles.{with_file}
+use Rattle.cfi_mapped.specs.WantedFiles.{with_file}
 use Rattle.cfi_processes.specs.SampleStacks.{WalkRoom}
-use Rattle.cfi_processes.specs.Wanted.{Wanted}
+use Rattle.cfi_mapped.specs.Wanted.{Wanted}
 use Rattle.cfi_cores.specs.Builds.{build_of, mapped_image}
 use Rattle.cfi_cores.specs.Builds.{mapped_start}
 use Rattle.cfi_cores.specs.CoreFiles.{Core}
@@ -48,10 +48,10 @@ use Rattle.cfi_object.specs.FileParts.{AreOfInput}
 use Rattle.cfi_inputs.specs.Refusals.{input_refusal}
 use Rattle.cfi_text.specs.Lines.{Line}
 use Rattle.cfi_text.specs.WriterOutput.{Prints, PrintsSome}
-use Rattle.cfi_processes.specs.declared.opened_file.OpenedFile.{OpenedFile}
-use Rattle.cfi_processes.specs.OpenedFiles.{AreOpenedAs}
-use Rattle.cfi_processes.specs.FileReads.{AreOpened}
-use Rattle.cfi_processes.specs.Wanted.{FilePlace}
+use Rattle.cfi_mapped.specs.declared.opened_file.OpenedFile.{OpenedFile}
+use Rattle.cfi_mapped.specs.OpenedFiles.{AreOpenedAs}
+use Rattle.cfi_mapped.specs.FileReads.{AreOpened}
+use Rattle.cfi_mapped.specs.Wanted.{FilePlace}
 use Rattle.cfi_cores.specs.declared.partial_cores.PartialCore.{PartialCore}
 use Rattle.cfi_cores.specs.declared.error.CoreError.{CoreError}
 use Rattle.cfi_cores.specs.CoreFiles.{core_view}

@@ -2,14 +2,14 @@
 use Rattle.std.proofs.Common.{◌≡◌, ◌∙◌, ◌==◌, ◌||◌, ◌++◌, ◌∷◌, ℕ, Bool, true, false, not, List, [], length, Option, Some, None, refl, sym, ap, subst, arith, option_map, string_bytes}
 use Rattle.std.proofs.lemmas.Bool.Decides.{nat_tests}
 use Rattle.cfi_elf.specs.Images.{Image, IsImageOf, whole}
-use Rattle.cfi_processes.specs.declared.code_parts.CodeParts.{CodeParts}
-use Rattle.cfi_processes.specs.declared.opened_file.OpenedFile.{OpenedFile}
-use Rattle.cfi_processes.specs.CodeParts.{ArePartsOfBytes, is_whole, parts_of}
-use Rattle.cfi_processes.specs.FileReads.{AreOpened}
-use Rattle.cfi_processes.specs.OpenedFiles.{AreOpenedAs, IsOpenedAs, Opened}
-use Rattle.cfi_processes.specs.Wanted.{FilePlace, Wanted}
+use Rattle.cfi_mapped.specs.declared.code_parts.CodeParts.{CodeParts}
+use Rattle.cfi_mapped.specs.declared.opened_file.OpenedFile.{OpenedFile}
+use Rattle.cfi_mapped.specs.CodeParts.{ArePartsOfBytes, is_whole, parts_of}
+use Rattle.cfi_mapped.specs.FileReads.{AreOpened}
+use Rattle.cfi_mapped.specs.OpenedFiles.{AreOpenedAs, IsOpenedAs, Opened}
+use Rattle.cfi_mapped.specs.Wanted.{FilePlace, Wanted}
 use Rattle.cfi_object.proofs.WholeParts.{whole_is}
-use Rattle.cfi_processes.proofs.FileLemmas.{opened_pushed}
+use Rattle.cfi_mapped.proofs.FileLemmas.{opened_pushed}
 use Rattle.cfi_cores.specs.Builds.{build_of, mapped_image}
 use Rattle.cfi_cores.specs.CoreFiles.{Core}
 use Rattle.cfi_cores.specs.Vdso.{vdso_name}

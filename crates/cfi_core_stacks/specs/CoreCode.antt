@@ -9,14 +9,14 @@ use Rattle.std.specs.Prelude.{None, fold, not, position, if◌then◌else◌}
 use Rattle.std.specs.List.{list_all}
 use Rattle.std.specs.Option.{option_map}
 use Rattle.std.specs.Str.{bytes_eq}
-use Rattle.cfi_processes.specs.declared.mappings.MappedCode.{MappedCode}
+use Rattle.cfi_mapped.specs.declared.mappings.MappedCode.{MappedCode}
 use Rattle.cfi_processes.specs.KnownFiles.{KnownFile}
-use Rattle.cfi_processes.specs.Mappings.{mapped_over}
-use Rattle.cfi_processes.specs.declared.opened_file.OpenedFile.{OpenedFile}
-use Rattle.cfi_processes.specs.OpenedFiles.{IsOpenedAs, Opened}
-use Rattle.cfi_processes.specs.FileReads.{AreOpened}
-use Rattle.cfi_processes.specs.WantedFiles.{with_file}
-use Rattle.cfi_processes.specs.Wanted.{FilePlace, Wanted}
+use Rattle.cfi_mapped.specs.Mappings.{mapped_over}
+use Rattle.cfi_mapped.specs.declared.opened_file.OpenedFile.{OpenedFile}
+use Rattle.cfi_mapped.specs.OpenedFiles.{IsOpenedAs, Opened}
+use Rattle.cfi_mapped.specs.FileReads.{AreOpened}
+use Rattle.cfi_mapped.specs.WantedFiles.{with_file}
+use Rattle.cfi_mapped.specs.Wanted.{FilePlace, Wanted}
 use Rattle.cfi_cores.specs.Builds.{build_of, mapped_image}
 use Rattle.cfi_cores.specs.CoreFiles.{Core}
 use Rattle.cfi_cores.specs.CoreSegments.{CoreSegment}

@@ -13,10 +13,10 @@ use Rattle.cfi_text.specs.Lines.{Line}
 use Rattle.cfi_text.specs.Refusals.{reason_line as why_line, refusal_saying}
 use Rattle.cfi_text.specs.WriterOutput.{PrintsSome}
 use Rattle.cfi_processes.specs.KnownFiles.{KnownFile}
-use Rattle.cfi_processes.specs.OpenedFiles.{Opened}
+use Rattle.cfi_mapped.specs.OpenedFiles.{Opened}
 use Rattle.cfi_processes.specs.ProfileFiles.{AreProfileFilesOf}
-use Rattle.cfi_processes.specs.FileReads.{AreOpened}
-use Rattle.cfi_processes.specs.Wanted.{FilePlace, Wanted}
+use Rattle.cfi_mapped.specs.FileReads.{AreOpened}
+use Rattle.cfi_mapped.specs.Wanted.{FilePlace, Wanted}
 use Rattle.cfi_cores.specs.declared.error.CoreError.{CoreError}
 use Rattle.cfi_cores.specs.CoreFiles.{Core, IsSortedCore, core_of}
 use Rattle.cfi_cores.specs.CoreMemories.{memory_number}

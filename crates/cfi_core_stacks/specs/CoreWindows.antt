@@ -4,7 +4,7 @@ use Rattle.std.specs.Prelude.{ℕ, ◌-◌, false, List, Option, drop, find, tak
 use Rattle.std.specs.List.{filter_map}
 use Rattle.std.specs.Option.{option_and_then, option_map}
 use Rattle.std.specs.Str.{bytes_eq}
-use Rattle.cfi_processes.specs.OpenedFiles.{Opened}
+use Rattle.cfi_mapped.specs.OpenedFiles.{Opened}
 use Rattle.cfi_cores.specs.CoreSegments.{AreSortedByAddress, CoreSegment}
 use Rattle.cfi_cores.specs.MappedFiles.{CoreMapping}
 

@@ -7,17 +7,18 @@ ghost use Rattle.cfi_processes.specs.FileModules.{AreModulesOfFiles};
 ghost use Rattle.cfi_processes.specs.KnownFiles.{known_view};
 ghost use Rattle.cfi_processes.specs.ProcessModules.{modules_in};
 ghost use Rattle.cfi_processes.specs.Modules.{loaded_module_view};
-ghost use Rattle.cfi_processes.specs.OpenedFiles.{AreOpenedAs, Opened, are_whole};
+ghost use Rattle.cfi_mapped.specs.OpenedFiles.{AreOpenedAs, Opened, are_whole};
 ghost use Rattle.cfi_core_stacks.specs.CoreWindows.{AreWindows};
 ghost use Rattle.cfi_core_stacks.specs.CoreCode.{core_mapped_code, core_mappings};
 
 use crate::core_files::is_code;
 use crate::core_windows::file_windows;
 use cfi_cores::{Core, CoreMapping, CoreSegment};
-use cfi_processes::mappings::{MappedCode, Mappings};
+use cfi_mapped::mappings::{MappedCode, Mappings};
+use cfi_mapped::opened_file::OpenedFile;
 use cfi_processes::process_code::ProcessCode;
 use cfi_processes::process_modules::FileModule;
-use cfi_processes::profile_files::{OpenedFile, ProfileFile};
+use cfi_processes::profile_files::ProfileFile;
 use std::alloc::{AllocError, Global};
 
 /// What is mapped as code in the process of a core, the modules of that, and what the files have of

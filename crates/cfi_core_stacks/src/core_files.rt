@@ -3,9 +3,9 @@ ghost use Rattle.std.specs.Prelude.{◌≡◌, List, IfOk, IfSome, OnOk, map, op
 ghost use Rattle.cfi_cores.specs.CoreSegments.{segment_view};
 ghost use Rattle.cfi_cores.specs.CoreFiles.{core_view};
 ghost use Rattle.cfi_cores.specs.MappedFiles.{mapping_view};
-ghost use Rattle.cfi_processes.specs.CodeParts.{is_whole};
-ghost use Rattle.cfi_processes.specs.OpenedFiles.{AreOpenedAs, Opened, are_whole};
-ghost use Rattle.cfi_processes.specs.Wanted.{wanted_view};
+ghost use Rattle.cfi_mapped.specs.CodeParts.{is_whole};
+ghost use Rattle.cfi_mapped.specs.OpenedFiles.{AreOpenedAs, Opened, are_whole};
+ghost use Rattle.cfi_mapped.specs.Wanted.{wanted_view};
 ghost use Rattle.cfi_core_stacks.specs.CoreCode.{AreOpenedFor, IsVdsoAs, core_code_file};
 ghost use Rattle.cfi_core_stacks.specs.CoreCode.{core_code_files, is_code, is_file_of_code};
 ghost use Rattle.cfi_core_stacks.specs.CoreCode.{vdso_file};
@@ -14,12 +14,12 @@ ghost use Rattle.cfi_core_stacks.specs.CoreCode.{with_vdso_file};
 use cfi_cores::builds::{build_of, image_of};
 use cfi_cores::vdso::vdso_name;
 use cfi_cores::{Core, CoreMapping, CoreSegment};
-use cfi_processes::Opener;
-use cfi_processes::code_parts::CodeParts;
-use cfi_processes::profile_files::OpenedFile;
-use cfi_processes::read_files::read_files;
-use cfi_processes::wanted::WantedFile;
-use cfi_processes::wanted_files::push_file;
+use cfi_mapped::Opener;
+use cfi_mapped::code_parts::CodeParts;
+use cfi_mapped::opened_file::OpenedFile;
+use cfi_mapped::read_files::read_files;
+use cfi_mapped::wanted::WantedFile;
+use cfi_mapped::wanted_files::push_file;
 use std::alloc::{AllocError, Global};
 
 /// The files that are mapped as code, each once, in the order of the mappings, with the builds that

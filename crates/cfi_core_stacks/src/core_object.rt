@@ -2,8 +2,8 @@
 ghost use Rattle.std.specs.Prelude.{◌≤◌, IfOk, length, map};
 ghost use Rattle.cfi_cores.specs.CoreThreads.{thread_view};
 ghost use Rattle.cfi_processes.specs.KnownFiles.{known_view};
-ghost use Rattle.cfi_processes.specs.Mappings.{AreMappedInOrder};
-ghost use Rattle.cfi_processes.specs.ThreadNames.{name_bytes};
+ghost use Rattle.cfi_mapped.specs.Mappings.{AreMappedInOrder};
+ghost use Rattle.cfi_mapped.specs.ThreadNames.{name_bytes};
 ghost use Rattle.cfi_text.specs.WriterOutput.{Writes};
 ghost use Rattle.cfi_core_stacks.specs.ThreadOutputs.{thread_object};
 
@@ -13,7 +13,7 @@ use cfi_frames::frame_objects::write_object_end;
 use cfi_frames::frame_style::FrameStyle;
 use cfi_frames::reasons::reason_for;
 use cfi_frames::walk_objects::write_walk;
-use cfi_processes::Name;
+use cfi_mapped::Name;
 use cfi_processes::process_code::ProcessCode;
 use cfi_processes::sample_stack::NoFrames;
 use cfi_step::{StackFrame, Walk};

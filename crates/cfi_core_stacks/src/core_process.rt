@@ -1,5 +1,5 @@
 //! The process of a core file.
-use cfi_processes::Name;
+use cfi_mapped::Name;
 use cfi_processes::process_code::ProcessCode;
 use cfi_processes::process_modules::FileModule;
 use cfi_processes::registers::SampleMachine;

@@ -9,7 +9,7 @@ ghost use Rattle.cfi_processes.specs.FileModules.{AreModulesOfFiles};
 ghost use Rattle.cfi_processes.specs.KnownFiles.{known_view};
 ghost use Rattle.cfi_processes.specs.ProcessModules.{modules_in};
 ghost use Rattle.cfi_processes.specs.Modules.{loaded_module_view};
-ghost use Rattle.cfi_processes.specs.OpenedFiles.{AreOpenedAs, Opened, are_whole};
+ghost use Rattle.cfi_mapped.specs.OpenedFiles.{AreOpenedAs, Opened, are_whole};
 ghost use Rattle.cfi_processes.specs.SampleStacks.{HasRoom};
 ghost use Rattle.cfi_text.specs.WriterOutput.{PrintsSome};
 ghost use Rattle.cfi_frames.specs.Outputs.{no_memory};
@@ -33,10 +33,11 @@ use cfi_cores::{Core, CoreMemory, partial_core, read_core, read_core_parts};
 use cfi_frames::names::shown_name;
 use cfi_frames::room::Room;
 use cfi_inputs::write_input_refusal;
+use cfi_mapped::Opener;
+use cfi_mapped::opened_file::OpenedFile;
 use cfi_object::{FileInput, FileParts, read_whole};
-use cfi_processes::Opener;
 use cfi_processes::process_code::ProcessCode;
-use cfi_processes::profile_files::{OpenedFile, ProfileFile, profile_files};
+use cfi_processes::profile_files::{ProfileFile, profile_files};
 use cfi_text::refusals::{write_reason, write_refusal_in};
 use gimli_cfi::Error;
 use std::alloc::Global;
@@ -53,7 +54,7 @@ use std::io::Write;
 /// With `Format::Json` there is a line for each thread instead, an object with the same, and what
 /// is printed below in place of stacks is the member `error` of one (`write_reason`). The files of
 /// code are opened by the names that the core file has for them, and where it has the build of one,
-/// only a file of that build is taken (`cfi_processes::profile_files::read_files`); what it doesn't
+/// only a file of that build is taken (`cfi_mapped::read_files::read_files`); what it doesn't
 /// have of their memory is read in them. The vdso is read in the core file.
 ///
 /// Of the core file only the parts are read that are needed (`cfi_cores::read_core_parts`): the

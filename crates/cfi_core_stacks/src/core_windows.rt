@@ -3,13 +3,13 @@ ghost use Rattle.std.specs.Prelude.{◌≡◌, List, IfOk, map, option_map, take
 ghost use Rattle.std.specs.List.{filter_map};
 ghost use Rattle.cfi_cores.specs.CoreSegments.{AreByAddress, segment_view};
 ghost use Rattle.cfi_cores.specs.MappedFiles.{mapping_view};
-ghost use Rattle.cfi_processes.specs.OpenedFiles.{AreOpenedAs, Opened, are_whole};
+ghost use Rattle.cfi_mapped.specs.OpenedFiles.{AreOpenedAs, Opened, are_whole};
 ghost use Rattle.cfi_core_stacks.specs.CoreWindows.{AreWindows, bytes_named, file_window};
 ghost use Rattle.cfi_core_stacks.specs.CoreWindows.{mapped_part};
 
 use cfi_cores::{CoreMapping, CoreSegment};
 use cfi_elf::bytes::bytes_from;
-use cfi_processes::profile_files::OpenedFile;
+use cfi_mapped::opened_file::OpenedFile;
 use std::alloc::{AllocError, Global};
 
 /// What the files have of the memory, in the order of addresses. Fails where memory is refused.

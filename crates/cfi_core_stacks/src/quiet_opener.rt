@@ -1,8 +1,8 @@
 //! An opener that says nothing.
 ghost use Rattle.std.specs.Prelude.{⊤};
 
-use cfi_processes::opener::Opener;
-use cfi_processes::wanted::LinkFolder;
+use cfi_mapped::opener::Opener;
+use cfi_mapped::wanted::LinkFolder;
 
 /// Opens what another opener does, and says nothing: for files that are opened again, of which that
 /// one has said what there was to say.

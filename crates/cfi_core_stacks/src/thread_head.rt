@@ -2,14 +2,14 @@
 ghost use Rattle.std.specs.Prelude.{◌≡◌, ◌++◌, OnOk, Some, option_map};
 ghost use Rattle.cfi_cores.specs.CoreThreads.{thread_view};
 ghost use Rattle.cfi_text.specs.WriterOutput.{Writes};
-ghost use Rattle.cfi_processes.specs.ThreadNames.{name_bytes};
+ghost use Rattle.cfi_mapped.specs.ThreadNames.{name_bytes};
 ghost use Rattle.cfi_core_stacks.specs.ThreadHeads.{fault_text, process_text, signal_name_text};
 ghost use Rattle.cfi_core_stacks.specs.ThreadHeads.{thread_line, thread_signal, thread_start};
 
 use crate::signals::signal_name;
 use cfi_cores::{CoreThread, Fault};
 use cfi_frames::names::write_known_name;
-use cfi_processes::Name;
+use cfi_mapped::Name;
 use cfi_text::lines::write_text;
 use cfi_text::numbers::{push_address, push_decimal};
 use cfi_text::text::{Text, push};

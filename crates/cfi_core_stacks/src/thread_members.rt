@@ -1,7 +1,7 @@
 //! What the object of a thread of a core file has before its frames (RFC 8259).
 ghost use Rattle.std.specs.Prelude.{◌≡◌, ◌++◌, OnOk, option_map};
 ghost use Rattle.cfi_cores.specs.CoreThreads.{thread_view};
-ghost use Rattle.cfi_processes.specs.ThreadNames.{name_bytes};
+ghost use Rattle.cfi_mapped.specs.ThreadNames.{name_bytes};
 ghost use Rattle.cfi_text.specs.WriterOutput.{Writes};
 ghost use Rattle.cfi_core_stacks.specs.ThreadMembers.{fault_members, process_member};
 ghost use Rattle.cfi_core_stacks.specs.ThreadMembers.{signal_members};
@@ -10,7 +10,7 @@ ghost use Rattle.cfi_core_stacks.specs.ThreadMembers.{tid_and_signal};
 
 use crate::signals::signal_name;
 use cfi_cores::{CoreThread, Fault};
-use cfi_processes::Name;
+use cfi_mapped::Name;
 use cfi_text::json::push_number;
 use cfi_text::lines::write_text;
 use cfi_text::names::write_name_member;

@@ -5,7 +5,7 @@
 use Rattle.std.specs.Prelude.{ℕ, ◌&&◌, List, find, Option, option_map, ◌==◌}
 use Rattle.std.specs.Option.{option_and_then}
 use Rattle.std.specs.Str.{bytes_eq}
-use Rattle.cfi_processes.specs.FileBuilds.{id_of}
+use Rattle.cfi_mapped.specs.FileBuilds.{id_of}
 use Rattle.cfi_cores.specs.CoreSegments.{CoreSegment, bytes_at}
 use Rattle.cfi_cores.specs.MappedFiles.{CoreMapping}
 

@@ -6,7 +6,7 @@ ghost use Rattle.cfi_cores.specs.MappedFiles.{mapping_view};
 
 use crate::mapped_files::CoreMapping;
 use crate::segments::{CoreSegment, bytes_at};
-use cfi_processes::file_builds::id_of;
+use cfi_mapped::file_builds::id_of;
 
 /// Returns the bytes that the core has of the file with this name, from its first byte on: of the
 /// first mapping of that byte, those of the first segment that begins there. `None` where there is

@@ -9,7 +9,8 @@ ghost use Rattle.cfi_frames.specs.FrameLines.{frame_line, number_column, place_l
 
 use crate::names::{push_known_name, push_name, write_known_name};
 use cfi_elf::FunctionPlace;
-use cfi_processes::{Name, Site};
+use cfi_mapped::Name;
+use cfi_processes::Site;
 use cfi_text::lines::write_text;
 use cfi_text::names::write_name;
 use cfi_text::numbers::push_address;

@@ -3,7 +3,7 @@ ghost use Rattle.std.specs.Prelude.{◌≡◌, ◌++◌, OnOk, Some, map, option
 ghost use Rattle.cfi_elf.specs.FunctionPlaces.{place_view};
 ghost use Rattle.cfi_processes.specs.KnownFiles.{known_view};
 ghost use Rattle.cfi_processes.specs.Sites.{site_of};
-ghost use Rattle.cfi_processes.specs.Mappings.{AreMappedInOrder};
+ghost use Rattle.cfi_mapped.specs.Mappings.{AreMappedInOrder};
 ghost use Rattle.cfi_processes.specs.Sites.{site_view};
 ghost use Rattle.cfi_text.specs.WriterOutput.{Writes};
 ghost use Rattle.cfi_frames.specs.Reasons.{reason_view};
@@ -13,8 +13,9 @@ ghost use Rattle.cfi_frames.specs.FrameObjects.{reason_member, shown_function};
 
 use crate::reasons::Reason;
 use cfi_elf::FunctionPlace;
+use cfi_mapped::Name;
+use cfi_processes::Site;
 use cfi_processes::process_code::ProcessCode;
-use cfi_processes::{Name, Site};
 use cfi_text::json::push_number;
 use cfi_text::lines::{write_between, write_text};
 use cfi_text::names::{write_json_name, write_name_member};

@@ -2,9 +2,9 @@
 ghost use Rattle.std.specs.Prelude.{◌≡◌, ◌++◌, OnOk, option_map};
 ghost use Rattle.cfi_names.specs.Names.{shown};
 ghost use Rattle.cfi_text.specs.WriterOutput.{Writes};
-ghost use Rattle.cfi_processes.specs.ThreadNames.{name_bytes};
+ghost use Rattle.cfi_mapped.specs.ThreadNames.{name_bytes};
 
-use cfi_processes::Name;
+use cfi_mapped::Name;
 use cfi_text::lines::write_text;
 use cfi_text::names::write_parts;
 use cfi_text::text::{Text, push};

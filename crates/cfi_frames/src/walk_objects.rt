@@ -2,7 +2,7 @@
 ghost use Rattle.std.specs.Prelude.{◌≡◌, ◌≤◌, ◌++◌, IfOk, OnOk, length, map};
 ghost use Rattle.cfi_processes.specs.KnownFiles.{known_view};
 ghost use Rattle.cfi_processes.specs.Sites.{site_of};
-ghost use Rattle.cfi_processes.specs.Mappings.{AreMappedInOrder};
+ghost use Rattle.cfi_mapped.specs.Mappings.{AreMappedInOrder};
 ghost use Rattle.cfi_text.specs.JsonTexts.{separated};
 ghost use Rattle.cfi_text.specs.WriterOutput.{Writes};
 ghost use Rattle.cfi_frames.specs.FrameObjects.{comma_before, frame_address};

@@ -8,11 +8,11 @@ use Rattle.cfi_read_core.specs.declared.endianity.RunTimeEndian.{RunTimeEndian}
 use Rattle.cfi_step.specs.declared.module.LoadedModule.{LoadedModule}
 use Rattle.cfi_step.specs.CodeRanges.{begins_from}
 use Rattle.cfi_step.specs.Modules.{are_sorted, code_end, code_start}
-use Rattle.cfi_processes.specs.declared.mappings.MappedCode.{MappedCode}
+use Rattle.cfi_mapped.specs.declared.mappings.MappedCode.{MappedCode}
 use Rattle.cfi_processes.specs.KnownFiles.{KnownCode, KnownFile}
 use Rattle.cfi_processes.specs.Sites.{mapped_at}
 use Rattle.cfi_processes.specs.ProcessModules.{mapped_module, file_module, modules_in}
-use Rattle.cfi_processes.specs.Mappings.{AreMappedInOrder, has_byte_at}
+use Rattle.cfi_mapped.specs.Mappings.{AreMappedInOrder, has_byte_at}
 use Rattle.cfi_processes.specs.Modules.{FileModule, loaded_module, loaded_module_view}
 use Rattle.cfi_processes.specs.Objects.{bias_of, debug_by, object_module}
 

@@ -1,16 +1,8 @@
-pub mod MappedOver
-pub mod MappedOrder
-pub mod AfterChanges
-pub mod ByPid
-pub mod Worked
 mod RegisterTables
 mod Unwinding
 mod WorkedSamples
-mod WorkedSymbols
+mod WorkedSites
 pub mod CodeLemmas
 pub mod ModuleLemmas
-pub mod CodeImages
-mod ReadFiles
-mod Missing
-pub mod FileLemmas
-mod SymbolLemmas
+mod ProfileImages
+mod ProfileLemmas

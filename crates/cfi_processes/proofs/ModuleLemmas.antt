@@ -9,7 +9,7 @@ use Rattle.cfi_read_core.specs.declared.endianity.RunTimeEndian.{RunTimeEndian}
 use Rattle.cfi_step.specs.declared.module.LoadedModule.{LoadedModule}
 use Rattle.cfi_processes.specs.declared.file_code.FileCode.{FileCode}
 use Rattle.cfi_processes.specs.declared.profile_files.ProfileFile.{ProfileFile}
-use Rattle.cfi_processes.specs.declared.mappings.MappedCode.{MappedCode}
+use Rattle.cfi_mapped.specs.declared.mappings.MappedCode.{MappedCode}
 use Rattle.cfi_processes.specs.FileModules.{AreModulesOfFiles, IsModuleOf, IsModuleOfFiles}
 use Rattle.cfi_processes.specs.KnownFiles.{KnownFile}
 use Rattle.cfi_processes.specs.ProcessModules.{mapped_module, modules_in}

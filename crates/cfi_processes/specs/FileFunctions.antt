@@ -16,7 +16,7 @@ use Rattle.cfi_elf.specs.Images.{Image}
 use Rattle.cfi_elf.specs.Options.{or_this}
 use Rattle.cfi_elf.specs.Modular.{minus}
 use Rattle.cfi_processes.specs.declared.file_functions.FileFunctions.{FileFunctions}
-use Rattle.cfi_processes.specs.declared.mappings.MappedCode.{MappedCode}
+use Rattle.cfi_mapped.specs.declared.mappings.MappedCode.{MappedCode}
 use Rattle.cfi_processes.specs.Objects.{bias_by, code_addresses}
 
 pub record Functions : Type 0 where

@@ -6,10 +6,10 @@ use Rattle.std.specs.Prelude.{ℕ, ◌-◌, ◌&&◌, Bool, false, List, [], ◌
 use Rattle.std.specs.Prelude.{option_map, if◌then◌else◌}
 use Rattle.std.specs.Option.{option_and_then, option_or}
 use Rattle.std.specs.Str.{bytes_eq}
-use Rattle.cfi_processes.specs.declared.mappings.MappedCode.{MappedCode}
-use Rattle.cfi_processes.specs.KernelNames.{KernelText, is_kernel_of}
-use Rattle.cfi_processes.specs.KernelSymbols.{is_kernel_name, kernel_image, kernel_symbol_at}
-use Rattle.cfi_processes.specs.TextSymbols.{Symbol}
+use Rattle.cfi_mapped.specs.declared.mappings.MappedCode.{MappedCode}
+use Rattle.cfi_mapped.specs.KernelNames.{KernelText, is_kernel_of}
+use Rattle.cfi_mapped.specs.KernelSymbols.{is_kernel_name, kernel_image, kernel_symbol_at}
+use Rattle.cfi_mapped.specs.TextSymbols.{Symbol}
 use Rattle.cfi_processes.specs.Sites.{Site, file_of, site_of}
 use Rattle.cfi_elf.specs.FunctionPlaces.{Place}
 use Rattle.cfi_processes.specs.KnownFiles.{KnownFile}

@@ -6,10 +6,10 @@
 use Rattle.std.specs.Prelude.{ℕ, List, Option, option_map}
 use Rattle.cfi_processes.specs.declared.file_code.FileCode.{FileCode}
 use Rattle.cfi_processes.specs.declared.profile_files.ProfileFile.{ProfileFile}
-use Rattle.cfi_processes.specs.CodeMaps.{CodeMapText}
-use Rattle.cfi_processes.specs.CodeMapViews.{code_map_view}
+use Rattle.cfi_mapped.specs.CodeMaps.{CodeMapText}
+use Rattle.cfi_mapped.specs.CodeMapViews.{code_map_view}
 use Rattle.cfi_processes.specs.FileFunctions.{Functions, functions_view}
-use Rattle.cfi_processes.specs.KernelNames.{KernelText, kernel_view}
+use Rattle.cfi_mapped.specs.KernelNames.{KernelText, kernel_view}
 use Rattle.cfi_processes.specs.Objects.{Object, Tables, object_view}
 
 pub record KnownCode : Type 0 where

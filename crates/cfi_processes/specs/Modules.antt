@@ -21,7 +21,7 @@ use Rattle.gimli_cfi.specs.HeaderViews.{section_view, unparsed_view}
 use Rattle.cfi_compiled.specs.CompiledTables.{TableContents}
 use Rattle.cfi_step.specs.declared.module.DebugTable.{DebugTable}
 use Rattle.cfi_step.specs.declared.module.LoadedModule.{LoadedModule}
-use Rattle.cfi_processes.specs.declared.mappings.MappedCode.{MappedCode}
+use Rattle.cfi_mapped.specs.declared.mappings.MappedCode.{MappedCode}
 
 -- .debug_frame as frames are found by it.
 pub record DebugModule : Type 0 where

@@ -32,7 +32,8 @@ use Rattle.cfi_elf.specs.Segments.{address_of_offset}
 use Rattle.cfi_elf.specs.Modular.{minus}
 use Rattle.cfi_object.specs.CallFrames.{debug_frame_of, eh_frame_of, given_section}
 use Rattle.cfi_step.specs.declared.module.LoadedModule.{LoadedModule}
-use Rattle.cfi_processes.specs.declared.mappings.MappedCode.{MappedCode}
+use Rattle.cfi_mapped.specs.declared.mappings.MappedCode.{MappedCode}
+use Rattle.cfi_mapped.specs.FileBuilds.{there}
 use Rattle.cfi_processes.specs.declared.objects.DebugSection.{DebugSection}
 use Rattle.cfi_processes.specs.declared.objects.Object.{Object as ObjectOfCode}
 use Rattle.cfi_processes.specs.Modules.{DebugModule, FileModule, module_header, loaded_module}
@@ -45,11 +46,6 @@ pub record Object : Type 0 where
 
 abbrev pub debug_section : DebugSection → Section
 debug_section debug = section_of (debug_frame_view (slice_position is_big) debug.frame) debug.bases
-
--- the value, if it is there and no error is in its place
-abbrev pub there : {A : Type 0} → Result (Option A) ElfError → Option A
-there (Ok found) = found
-there (Err e) = None
 
 -- where the segment of code that has the byte at an offset places it
 abbrev pub code_addresses : File → ℕ → Option ℕ

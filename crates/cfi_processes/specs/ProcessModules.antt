@@ -3,7 +3,7 @@
 use Rattle.std.specs.Prelude.{ℕ, List, Option, slice_get}
 use Rattle.std.specs.List.{filter_map}
 use Rattle.std.specs.Option.{option_and_then}
-use Rattle.cfi_processes.specs.declared.mappings.MappedCode.{MappedCode}
+use Rattle.cfi_mapped.specs.declared.mappings.MappedCode.{MappedCode}
 use Rattle.cfi_processes.specs.Modules.{FileModule}
 use Rattle.cfi_processes.specs.Objects.{object_module}
 use Rattle.cfi_processes.specs.KnownFiles.{KnownFile}

@@ -6,15 +6,15 @@ use Rattle.std.specs.Prelude.{length, option_map, if◌then◌else◌}
 use Rattle.std.specs.Option.{option_and_then}
 use Rattle.cfi_compiled.specs.CompiledTables.{TableContents, IsCompiled}
 use Rattle.cfi_entry.specs.Sections.{Section}
-use Rattle.cfi_processes.specs.CodeMaps.{CodeMapText}
+use Rattle.cfi_mapped.specs.CodeMaps.{CodeMapText}
 use Rattle.cfi_processes.specs.FileFunctions.{Functions, functions_by_symbols}
-use Rattle.cfi_processes.specs.KernelNames.{KernelText}
-use Rattle.cfi_processes.specs.KernelSymbols.{is_kernel_name, kernel_image}
+use Rattle.cfi_mapped.specs.KernelNames.{KernelText}
+use Rattle.cfi_mapped.specs.KernelSymbols.{is_kernel_name, kernel_image}
 use Rattle.cfi_processes.specs.KnownFiles.{KnownCode, KnownFile}
 use Rattle.cfi_processes.specs.Objects.{Object, IsDebugTable, is_compiled, object_in}
-use Rattle.cfi_processes.specs.Wanted.{as_code}
+use Rattle.cfi_mapped.specs.Wanted.{as_code}
 use Rattle.cfi_elf.specs.Images.{Image, whole}
-use Rattle.cfi_processes.specs.OpenedFiles.{Opened}
+use Rattle.cfi_mapped.specs.OpenedFiles.{Opened}
 
 -- a compiled table of .eh_frame, in a storage of 192 rules and 4 rows; or none
 abbrev pub IsTableIf : Bool → Section → Option TableContents → Type 0

@@ -12,18 +12,18 @@ use Rattle.cfi_read_core.specs.declared.endianity.RunTimeEndian.{RunTimeEndian}
 use Rattle.cfi_step.specs.declared.module.LoadedModule.{LoadedModule}
 use Rattle.cfi_perf.specs.Events.{Event, Mapping, ForkEvent, LostEvent, MappingEvent, OtherEvent}
 use Rattle.cfi_perf.specs.Events.{ProgramEvent, SampleEvent}
-use Rattle.cfi_processes.specs.declared.mappings.MappedCode.{MappedCode}
+use Rattle.cfi_mapped.specs.declared.mappings.MappedCode.{MappedCode}
 use Rattle.cfi_processes.specs.declared.profile_files.ProfileFile.{ProfileFile}
 use Rattle.cfi_processes.specs.declared.replay.Replay.{Replay}
-use Rattle.cfi_processes.specs.Histories.{Change, executed, forked, mapped, mappings_after}
+use Rattle.cfi_mapped.specs.Histories.{Change, executed, forked, mapped, mappings_after}
 use Rattle.cfi_processes.specs.FileModules.{AreModulesOfFiles}
 use Rattle.cfi_processes.specs.KnownFiles.{KnownFile, known_view}
 use Rattle.cfi_processes.specs.ProcessModules.{modules_in}
 use Rattle.cfi_processes.specs.Modules.{loaded_module_view}
-use Rattle.cfi_processes.specs.Processes.{process_mappings}
-use Rattle.cfi_processes.specs.ThreadNames.{name_of_thread}
-use Rattle.cfi_processes.specs.Wanted.{same_id, same_process}
-use Rattle.cfi_processes.specs.WantedFiles.{process_of}
+use Rattle.cfi_mapped.specs.Processes.{process_mappings}
+use Rattle.cfi_mapped.specs.ThreadNames.{name_of_thread}
+use Rattle.cfi_mapped.specs.Wanted.{same_id, same_process}
+use Rattle.cfi_mapped.specs.WantedFiles.{process_of}
 
 abbrev pub is_mapping_of : Mapping → KnownFile → Bool
 is_mapping_of m file =

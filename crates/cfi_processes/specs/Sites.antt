@@ -8,10 +8,10 @@ use Rattle.std.specs.Prelude.{ℕ, List, Option, None, option_map, Some, find, s
 use Rattle.cfi_elf.specs.FunctionPlaces.{Place, place_view}
 use Rattle.cfi_processes.specs.declared.sites.Site.{Site as SiteOfCode}
 use Rattle.std.specs.Option.{option_and_then}
-use Rattle.cfi_processes.specs.declared.mappings.MappedCode.{MappedCode}
-use Rattle.cfi_processes.specs.CodeMaps.{CodeMapText, code_function_at}
+use Rattle.cfi_mapped.specs.declared.mappings.MappedCode.{MappedCode}
+use Rattle.cfi_mapped.specs.CodeMaps.{CodeMapText, code_function_at}
 use Rattle.cfi_processes.specs.FileFunctions.{mapped_function}
-use Rattle.cfi_processes.specs.Mappings.{has_byte_at, mapped_place}
+use Rattle.cfi_mapped.specs.Mappings.{has_byte_at, mapped_place}
 use Rattle.cfi_processes.specs.KnownFiles.{KnownFile}
 
 -- the place in the file that is mapped at an address, the function whose bytes have it, and the

@@ -1,9 +1,9 @@
 //! The code of a file of a profile.
 
-use crate::mappings::MappedCode;
 use crate::objects::Object;
 use crate::process_modules::FileModule;
 use cfi_compiled::CompiledTable;
+use cfi_mapped::mappings::MappedCode;
 use std::alloc::{AllocError, Global};
 
 /// The code of a file of a profile: its call frames, with the compiled table of `.eh_frame` where

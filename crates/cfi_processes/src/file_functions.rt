@@ -1,7 +1,7 @@
 //! The functions of a file of a profile.
-use crate::mappings::MappedCode;
 use crate::objects::bias_in;
 use cfi_elf::{ElfFile, FunctionNames, FunctionPlace, Image};
+use cfi_mapped::mappings::MappedCode;
 use std::alloc::{AllocError, Global};
 
 /// The functions of a file of a profile: by the symbols of its debug file where there is one, which

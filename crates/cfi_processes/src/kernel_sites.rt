@@ -2,24 +2,24 @@
 ghost use Rattle.std.specs.Prelude.{◌≡◌, map, option_map};
 ghost use Rattle.std.specs.Option.{option_and_then};
 ghost use Rattle.cfi_elf.specs.FunctionPlaces.{place_view};
-ghost use Rattle.cfi_processes.specs.KernelNames.{kernel_view};
-ghost use Rattle.cfi_processes.specs.TextSymbols.{symbol_view};
+ghost use Rattle.cfi_mapped.specs.KernelNames.{kernel_view};
+ghost use Rattle.cfi_mapped.specs.TextSymbols.{symbol_view};
 ghost use Rattle.cfi_processes.specs.Sites.{file_of};
 ghost use Rattle.cfi_processes.specs.KernelSites.{kernel_function, is_function_in, is_owner};
 ghost use Rattle.cfi_processes.specs.KernelSites.{kernel_name, kernel_names, kernel_site};
 ghost use Rattle.cfi_processes.specs.KernelSites.{kernel_symbol, kernel_names_if, kernel_names_of};
 ghost use Rattle.cfi_processes.specs.KnownFiles.{known_view};
-ghost use Rattle.cfi_processes.specs.Mappings.{AreMappedInOrder};
+ghost use Rattle.cfi_mapped.specs.Mappings.{AreMappedInOrder};
 ghost use Rattle.cfi_processes.specs.Sites.{site_view};
 
-use crate::kernel_names::KernelNames;
-use crate::kernel_symbols::{KERNEL_IMAGE, is_kernel_name};
-use crate::mappings::MappedCode;
-use crate::names::Name;
 use crate::process_code::ProcessCode;
 use crate::sites::Site;
-use crate::text_symbols::TextSymbol;
 use cfi_elf::FunctionPlace;
+use cfi_mapped::kernel_names::KernelNames;
+use cfi_mapped::kernel_symbols::{KERNEL_IMAGE, is_kernel_name};
+use cfi_mapped::mappings::MappedCode;
+use cfi_mapped::names::Name;
+use cfi_mapped::text_symbols::TextSymbol;
 
 impl<'a, 'files, 'run> ProcessCode<'a, 'files, 'run> {
     /// Where an address of the kernel is, if this is what is mapped into `KERNEL`: in its own code

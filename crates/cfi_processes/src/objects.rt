@@ -7,11 +7,12 @@ ghost use Rattle.cfi_elf.specs.Images.{image_view};
 ghost use Rattle.cfi_object.specs.CallFrames.{eh_frame_of};
 ghost use Rattle.cfi_processes.specs.Modules.{debug_view};
 ghost use Rattle.cfi_processes.specs.Objects.{bias_by, code_addresses, debug_by};
-ghost use Rattle.cfi_processes.specs.Objects.{debug_for, debug_in, debug_section, there};
+ghost use Rattle.cfi_mapped.specs.FileBuilds.{there};
+ghost use Rattle.cfi_processes.specs.Objects.{debug_for, debug_in, debug_section};
 
-use crate::mappings::MappedCode;
 use cfi_compiled::CompiledTable;
 use cfi_elf::{ElfFile, Image};
+use cfi_mapped::mappings::MappedCode;
 use cfi_object::{debug_frame, eh_frame, given_section};
 use cfi_step::{DebugTable, LoadedModule};
 use gimli_cfi::{

@@ -2,10 +2,10 @@
 ghost use Rattle.std.specs.Prelude.{◌≡◌, map, option_map};
 ghost use Rattle.cfi_processes.specs.Sites.{file_of, mapped_at};
 ghost use Rattle.cfi_processes.specs.KnownFiles.{known_view};
-ghost use Rattle.cfi_processes.specs.Mappings.{AreMappedInOrder};
+ghost use Rattle.cfi_mapped.specs.Mappings.{AreMappedInOrder};
 
-use crate::mappings::MappedCode;
 use crate::profile_files::ProfileFile;
+use cfi_mapped::mappings::MappedCode;
 
 /// The process that the kernel's own code and its modules are mapped into, -1.
 pub const KERNEL: u32 = u32::MAX;

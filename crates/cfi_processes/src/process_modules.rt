@@ -5,9 +5,9 @@ ghost use Rattle.cfi_processes.specs.ProcessModules.{mapped_module, file_module,
 ghost use Rattle.cfi_processes.specs.FileModules.{AreModulesOfFiles, IsModuleOf, IsModuleOfFiles};
 ghost use Rattle.cfi_processes.specs.Modules.{loaded_module_view};
 
-use crate::mappings::MappedCode;
 use crate::process_code::ProcessCode;
 use crate::profile_files::ProfileFile;
+use cfi_mapped::mappings::MappedCode;
 use cfi_step::LoadedModule;
 use gimli_cfi::{EndianSlice, RunTimeEndian};
 use std::alloc::AllocError;

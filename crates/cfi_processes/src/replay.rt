@@ -4,15 +4,15 @@ ghost use Rattle.std.specs.Option.{ForSome};
 ghost use Rattle.cfi_processes.specs.KnownFiles.{known_view};
 ghost use Rattle.cfi_processes.specs.ProcessModules.{modules_in};
 ghost use Rattle.cfi_processes.specs.Modules.{loaded_module_view};
-ghost use Rattle.cfi_processes.specs.Processes.{process_mappings};
+ghost use Rattle.cfi_mapped.specs.Processes.{process_mappings};
 
-use crate::mappings::MappedCode;
-use crate::names::Name;
 use crate::process_code::ProcessCode;
 use crate::process_modules::FileModule;
-use crate::processes::Processes;
 use crate::profile_files::ProfileFile;
-use crate::threads::Threads;
+use cfi_mapped::mappings::MappedCode;
+use cfi_mapped::names::Name;
+use cfi_mapped::processes::Processes;
+use cfi_mapped::threads::Threads;
 use cfi_perf::{Event, Fork, Mapping, Program, Record};
 use std::alloc::{AllocError, Global};
 
@@ -37,13 +37,13 @@ impl<'a, 'run, 'names> Replay<'a, 'run, 'names> {
     ghost use Rattle.cfi_processes.specs.KnownFiles.{known_view};
     ghost use Rattle.cfi_processes.specs.ProcessModules.{modules_in};
     ghost use Rattle.cfi_processes.specs.Modules.{loaded_module_view};
-    ghost use Rattle.cfi_processes.specs.Mappings.{AreMappedInOrder};
+    ghost use Rattle.cfi_mapped.specs.Mappings.{AreMappedInOrder};
     ghost use Rattle.cfi_processes.specs.Replays.{AreModulesFor, HasOwnModules, mapped_after};
     ghost use Rattle.cfi_processes.specs.Replays.{replay_known};
     ghost use Rattle.cfi_processes.specs.Replays.{replay_files, replay_modules, code_of_mapping};
     ghost use Rattle.cfi_processes.specs.Replays.{object_of};
     ghost use Rattle.cfi_processes.specs.Replays.{named_thread, replayed};
-    ghost use Rattle.cfi_processes.specs.ThreadNames.{name_bytes, thread_given, names_after};
+    ghost use Rattle.cfi_mapped.specs.ThreadNames.{name_bytes, thread_given, names_after};
 
     /// No process has anything mapped, and no thread a name. Does not allocate.
     pub fn new(alloc: Global, files: &'a [ProfileFile<'run>]) -> Self

@@ -3,20 +3,20 @@ ghost use Rattle.std.specs.Prelude.{◌≡◌, Some, map, option_map};
 ghost use Rattle.std.specs.Option.{option_and_then};
 ghost use Rattle.cfi_elf.specs.FunctionPlaces.{place_view};
 ghost use Rattle.cfi_processes.specs.FileFunctions.{mapped_function};
-ghost use Rattle.cfi_processes.specs.CodeMapViews.{code_map_view};
+ghost use Rattle.cfi_mapped.specs.CodeMapViews.{code_map_view};
 ghost use Rattle.cfi_processes.specs.KernelSites.{chain_site};
 ghost use Rattle.cfi_processes.specs.Sites.{file_of, file_site};
 ghost use Rattle.cfi_processes.specs.KnownFiles.{known_view};
 ghost use Rattle.cfi_processes.specs.Sites.{nowhere, site_in, site_of};
-ghost use Rattle.cfi_processes.specs.Mappings.{AreMappedInOrder};
+ghost use Rattle.cfi_mapped.specs.Mappings.{AreMappedInOrder};
 ghost use Rattle.cfi_processes.specs.Sites.{site_view, without_function};
 
-use crate::code_map::CodeMap;
-use crate::mappings::MappedCode;
-use crate::names::Name;
 use crate::process_code::ProcessCode;
 use crate::profile_files::ProfileFile;
 use cfi_elf::FunctionPlace;
+use cfi_mapped::code_map::CodeMap;
+use cfi_mapped::mappings::MappedCode;
+use cfi_mapped::names::Name;
 
 /// Where the code of a frame is, as far as it is known.
 #[derive(Clone, Copy, Debug)]

@@ -18,7 +18,7 @@ use Rattle.cfi_text.specs.declared.style.Format.TheVariants.{Text}
 use Rattle.cfi_text.specs.Refusals.{out_of_memory}
 use Rattle.cfi_text.specs.WriterOutput.{PrintsSome}
 use Rattle.cfi_step.specs.declared.walk.StackFrame.{StackFrame}
-use Rattle.cfi_processes.specs.declared.mappings.MappedCode.{MappedCode}
+use Rattle.cfi_mapped.specs.declared.mappings.MappedCode.{MappedCode}
 use Rattle.cfi_processes.specs.declared.registers.SampleMachine.{SampleMachine}
 use Rattle.cfi_processes.specs.KnownFiles.{KnownFile}
 use Rattle.cfi_stacks.specs.FoldedTexts.{frame_name, names_text}

@@ -26,7 +26,7 @@ use Rattle.cfi_perf.specs.Records.{IsNextRecord}
 use Rattle.cfi_perf.specs.Windows.{IsAlone, record_alone, records_in}
 use Rattle.cfi_perf.specs.Windows.{ReadsOn, PassesWithin, record_bytes_left, bytes_passed, next_place}
 use Rattle.cfi_perf.proofs.WindowSteps.{front_range}
-use Rattle.cfi_processes.specs.WantedFiles.{has_kernel_frames}
+use Rattle.cfi_mapped.specs.WantedFiles.{has_kernel_frames}
 use Rattle.cfi_stacks.specs.declared.profile_index.ProfileIndex.{ProfileIndex}
 use Rattle.cfi_stacks.specs.declared.profile_index.Tally.{Tally}
 use Rattle.cfi_stacks.specs.ProfileIndexes.{HasRecords, IsFoundOf, IsKernelAt, IsNextIn, IsPieceOf, IsPlacedIn, IsRecordsPart, IsTallyOf, IsWindowIn, Piece, all_bytes, kernel_after, piece_place, record_of, records_bytes}

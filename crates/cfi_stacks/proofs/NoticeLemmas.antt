@@ -14,7 +14,7 @@ use Rattle.cfi_perf.specs.ProfilesAround.{profile_around}
 use Rattle.cfi_perf.specs.Recordings.{has_samples, has_stacks, lacks_stacks, lost_in}
 use Rattle.cfi_perf.specs.Records.{Records}
 use Rattle.cfi_perf.specs.Windows.{next_place, record_bytes_left, records_in}
-use Rattle.cfi_processes.specs.Notices.{Notice, lost, without_stacks}
+use Rattle.cfi_mapped.specs.Notices.{Notice, lost, without_stacks}
 use Rattle.cfi_text.specs.declared.style.Format.{Format}
 use Rattle.cfi_stacks.specs.declared.profile_index.ProfileIndex.{ProfileIndex}
 use Rattle.cfi_stacks.specs.declared.profile_index.Tally.{Tally}

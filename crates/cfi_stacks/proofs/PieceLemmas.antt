@@ -17,7 +17,7 @@ use Rattle.cfi_perf.specs.Indexes.{AreAt, IsInTimeOrder, record_bytes, kept_of, 
 use Rattle.cfi_perf.specs.Records.{Records, no_records, with_record}
 use Rattle.cfi_perf.specs.Windows.{record_bytes_left, record_alone, records_in}
 use Rattle.cfi_perf.proofs.PieceSteps.{then_others}
-use Rattle.cfi_processes.specs.WantedFiles.{has_kernel_frames}
+use Rattle.cfi_mapped.specs.WantedFiles.{has_kernel_frames}
 use Rattle.cfi_stacks.specs.declared.profile_index.ProfileIndex.{ProfileIndex}
 use Rattle.cfi_stacks.specs.ProfileIndexes.{AreRecordsOf, IsIndexOf, IsKernelAt, IsKernelFit, IsPieceOf, IsPlacedIn, IsReadAt, IsReadBy, Piece, all_bytes, piece_place, record_of, records_bytes}
 use Rattle.cfi_stacks.proofs.ReadLemmas.{behind_these}

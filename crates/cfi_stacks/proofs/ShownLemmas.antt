@@ -18,12 +18,12 @@ use Rattle.cfi_text.specs.Lines.{Line}
 use Rattle.cfi_text.specs.WriterOutput.{Prints, PrintsSome}
 use Rattle.cfi_processes.specs.declared.registers.SampleMachine.{SampleMachine}
 use Rattle.cfi_processes.specs.KnownFiles.{KnownFile}
-use Rattle.cfi_processes.specs.OpenedFiles.{Opened}
+use Rattle.cfi_mapped.specs.OpenedFiles.{Opened}
 use Rattle.cfi_processes.specs.ProfileFiles.{AreProfileFilesOf}
-use Rattle.cfi_processes.specs.FileReads.{AreOpened}
+use Rattle.cfi_mapped.specs.FileReads.{AreOpened}
 use Rattle.cfi_processes.specs.Registers.{machine_named}
-use Rattle.cfi_processes.specs.WantedFiles.{wanted_of}
-use Rattle.cfi_processes.specs.Wanted.{FilePlace, Wanted}
+use Rattle.cfi_mapped.specs.WantedFiles.{wanted_of}
+use Rattle.cfi_mapped.specs.Wanted.{FilePlace, Wanted}
 use Rattle.cfi_stacks.specs.declared.listing.Listing.{Listing}
 use Rattle.cfi_stacks.specs.declared.listing.Listing.TheVariants.{Frames, Json}
 use Rattle.cfi_stacks.specs.declared.profile_index.ProfileIndex.{ProfileIndex}

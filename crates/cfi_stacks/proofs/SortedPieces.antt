@@ -14,7 +14,7 @@ use Rattle.cfi_perf.specs.Events.{Record}
 use Rattle.cfi_perf.specs.Indexes.{AreIndexed, AreIndexedSorted, kept_of, places_of}
 use Rattle.cfi_perf.specs.Records.{Records, no_records}
 use Rattle.cfi_perf.specs.Windows.{records_in}
-use Rattle.cfi_processes.specs.WantedFiles.{has_kernel_frames}
+use Rattle.cfi_mapped.specs.WantedFiles.{has_kernel_frames}
 use Rattle.cfi_stacks.specs.declared.profile_index.ProfileIndex.{ProfileIndex}
 use Rattle.cfi_stacks.specs.ProfileIndexes.{IsIndexOf, IsIndexOfFile, IsKernelAt, IsPieceOf, IsTallyOf, IsToldOf, IsWholeOf, Piece, all_bytes, piece_place, record_of, records_bytes}
 use Rattle.cfi_stacks.proofs.PieceLemmas.{all_read}

@@ -2,15 +2,15 @@
 use Rattle.std.proofs.Common.{◌≡◌, ◌∙◌, ℕ, List, Option, ap, map}
 use Rattle.cfi_perf.specs.declared.sample.Sample.{Sample}
 use Rattle.cfi_perf.specs.Samples.{sample_view}
-use Rattle.cfi_processes.specs.declared.mappings.MappedCode.{MappedCode}
-use Rattle.cfi_processes.specs.declared.names.Name.{Name}
+use Rattle.cfi_mapped.specs.declared.mappings.MappedCode.{MappedCode}
+use Rattle.cfi_mapped.specs.declared.names.Name.{Name}
 use Rattle.cfi_processes.specs.declared.process_code.ProcessCode.{ProcessCode}
 use Rattle.cfi_processes.specs.declared.profile_files.ProfileFile.{ProfileFile}
 use Rattle.cfi_processes.specs.declared.replay.Replay.{Replay}
 use Rattle.cfi_processes.specs.KernelSites.{kernel_site}
 use Rattle.cfi_processes.specs.KnownFiles.{known_view}
 use Rattle.cfi_processes.specs.Replays.{named_thread, replay_files, replay_known, replayed}
-use Rattle.cfi_processes.specs.ThreadNames.{name_bytes}
+use Rattle.cfi_mapped.specs.ThreadNames.{name_bytes}
 use Rattle.cfi_stacks.specs.KnownSamples.{known_in}
 use Rattle.cfi_stacks.specs.TakenSamples.{Taken, taken_of, taken_view}
 

@@ -9,8 +9,8 @@ use Rattle.cfi_perf.specs.declared.index.RecordPlace.{RecordPlace}
 use Rattle.cfi_perf.specs.Events.{Event, OtherEvent, Record, SampleEvent, MappingEvent, ProgramEvent, ForkEvent, LostEvent}
 use Rattle.cfi_perf.specs.Indexes.{kept_of, places_of}
 use Rattle.cfi_perf.specs.Recordings.{is_sample}
-use Rattle.cfi_processes.specs.WantedFiles.{mapped_code_file, has_kernel, has_kernel_frames, wanted_in, wanted_of, with_file}
-use Rattle.cfi_processes.specs.Wanted.{Wanted}
+use Rattle.cfi_mapped.specs.WantedFiles.{mapped_code_file, has_kernel, has_kernel_frames, wanted_in, wanted_of, with_file}
+use Rattle.cfi_mapped.specs.Wanted.{Wanted}
 use Rattle.cfi_stacks.specs.declared.profile_index.ProfileIndex.{ProfileIndex}
 use Rattle.cfi_stacks.specs.ProfileIndexes.{IsIndexOf, IsKernelAt, IsPieceOf, IsPlacedIn, IsReadAt, IsReadBy, Piece, piece_place, record_of}
 use Rattle.cfi_stacks.proofs.PieceLemmas.{same_found}

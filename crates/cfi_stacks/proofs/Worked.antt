@@ -4,7 +4,7 @@ use Rattle.std.specs.Prelude.{nat_le}
 use Rattle.std.specs.Fmt.{digits}
 use Rattle.std.specs.List.{filter}
 use Rattle.cfi_perf.specs.Samples.{Sample}
-use Rattle.cfi_processes.specs.declared.mappings.MappedCode.{MappedCode}
+use Rattle.cfi_mapped.specs.declared.mappings.MappedCode.{MappedCode}
 use Rattle.cfi_processes.specs.KnownFiles.{KnownFile}
 use Rattle.cfi_processes.specs.KernelSites.{kernel_site}
 use Rattle.cfi_stacks.specs.Choices.{chooses, everything, limited}

@@ -5,14 +5,14 @@ use Rattle.std.specs.Prelude.{ℕ, Bool, List, [], ◌∷◌, ◌++◌, Option, 
 use Rattle.std.specs.List.{filter}
 use Rattle.cfi_perf.specs.Events.{Event, Record, SampleEvent}
 use Rattle.cfi_perf.specs.Samples.{Sample}
-use Rattle.cfi_processes.specs.declared.mappings.MappedCode.{MappedCode}
+use Rattle.cfi_mapped.specs.declared.mappings.MappedCode.{MappedCode}
 use Rattle.cfi_processes.specs.declared.replay.Replay.{Replay}
 use Rattle.cfi_processes.specs.KnownFiles.{KnownFile}
 use Rattle.cfi_processes.specs.KernelSites.{kernel_site}
 use Rattle.cfi_processes.specs.Sites.{Site}
 use Rattle.cfi_processes.specs.Replays.{mapped_after, replayed}
 use Rattle.cfi_processes.specs.Replays.{named_thread}
-use Rattle.cfi_processes.specs.ThreadNames.{names_after}
+use Rattle.cfi_mapped.specs.ThreadNames.{names_after}
 use Rattle.cfi_stacks.specs.Choices.{Choice, chooses, limited}
 
 -- ---- what is known before a record

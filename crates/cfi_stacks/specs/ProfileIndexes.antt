@@ -31,8 +31,8 @@ use Rattle.cfi_perf.specs.Recordings.{has_samples, has_stacks, is_sample, lost_i
 use Rattle.cfi_perf.specs.Records.{no_records}
 use Rattle.cfi_perf.specs.Windows.{record_alone, records_in}
 use Rattle.cfi_perf.specs.Windows.{record_bytes_left, next_place}
-use Rattle.cfi_processes.specs.Notices.{Notice, lost, without_stacks}
-use Rattle.cfi_processes.specs.WantedFiles.{has_kernel_frames}
+use Rattle.cfi_mapped.specs.Notices.{Notice, lost, without_stacks}
+use Rattle.cfi_mapped.specs.WantedFiles.{has_kernel_frames}
 use Rattle.cfi_stacks.specs.declared.profile_index.ProfileIndex.{ProfileIndex}
 use Rattle.cfi_stacks.specs.declared.profile_index.Tally.{Tally}
 

@@ -10,7 +10,7 @@ use Rattle.cfi_perf.specs.ProfileHeads.{ProfileHead}
 use Rattle.cfi_perf.specs.Profiles.{profile, profile_records, records_by}
 use Rattle.cfi_perf.specs.Recordings.{lacks_stacks, lost_in}
 use Rattle.cfi_perf.specs.Windows.{records_in}
-use Rattle.cfi_processes.specs.Notices.{Notice, lost, without_stacks}
+use Rattle.cfi_mapped.specs.Notices.{Notice, lost, without_stacks}
 use Rattle.cfi_stacks.specs.ProfileIndexes.{records_bytes}
 
 pub record AreNoticesSaid (Said : Notice → Type 0) (records : List Record) : Type 0 where

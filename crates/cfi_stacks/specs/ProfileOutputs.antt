@@ -23,12 +23,12 @@ use Rattle.cfi_text.specs.Lines.{Line, line}
 use Rattle.cfi_text.specs.Refusals.{reason_line as why_line}
 use Rattle.cfi_processes.specs.declared.registers.SampleMachine.{SampleMachine}
 use Rattle.cfi_processes.specs.KnownFiles.{KnownFile}
-use Rattle.cfi_processes.specs.OpenedFiles.{Opened}
+use Rattle.cfi_mapped.specs.OpenedFiles.{Opened}
 use Rattle.cfi_processes.specs.ProfileFiles.{AreProfileFilesOf}
-use Rattle.cfi_processes.specs.FileReads.{AreOpened}
+use Rattle.cfi_mapped.specs.FileReads.{AreOpened}
 use Rattle.cfi_processes.specs.Registers.{machine_named}
-use Rattle.cfi_processes.specs.WantedFiles.{wanted_of}
-use Rattle.cfi_processes.specs.Wanted.{FilePlace, Wanted}
+use Rattle.cfi_mapped.specs.WantedFiles.{wanted_of}
+use Rattle.cfi_mapped.specs.Wanted.{FilePlace, Wanted}
 use Rattle.cfi_flame.specs.FoldedCounts.{AreCounted, counted, line_text}
 use Rattle.cfi_flame.specs.FoldedStacks.{Stack}
 use Rattle.cfi_stacks.specs.ProfileErrors.{perf_refusal}

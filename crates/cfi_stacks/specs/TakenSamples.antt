@@ -4,11 +4,11 @@
 --     taken_of files of      a sample as it was taken, by what the records before it say
 use Rattle.std.specs.Prelude.{ℕ, List, Option, map}
 use Rattle.cfi_perf.specs.Samples.{Sample, sample_view}
-use Rattle.cfi_processes.specs.declared.mappings.MappedCode.{MappedCode}
+use Rattle.cfi_mapped.specs.declared.mappings.MappedCode.{MappedCode}
 use Rattle.cfi_processes.specs.KernelSites.{kernel_site}
 use Rattle.cfi_processes.specs.KnownFiles.{KnownFile, known_view}
 use Rattle.cfi_processes.specs.Sites.{Site}
-use Rattle.cfi_processes.specs.ThreadNames.{name_bytes}
+use Rattle.cfi_mapped.specs.ThreadNames.{name_bytes}
 use Rattle.cfi_stacks.specs.declared.taken_sample.TakenSample.{TakenSample}
 use Rattle.cfi_stacks.specs.KnownSamples.{KnownSample, in_kernel_of}
 

@@ -21,7 +21,7 @@ use Rattle.cfi_perf.specs.Events.{Event, Record, SampleEvent}
 use Rattle.cfi_processes.specs.declared.registers.SampleMachine.{SampleMachine}
 use Rattle.cfi_processes.specs.KnownFiles.{KnownFile}
 use Rattle.cfi_processes.specs.Replays.{mapped_after}
-use Rattle.cfi_processes.specs.ThreadNames.{names_after}
+use Rattle.cfi_mapped.specs.ThreadNames.{names_after}
 use Rattle.cfi_text.specs.WriterOutput.{IsBeginning}
 use Rattle.cfi_stacks.specs.declared.folding.Unfolded.{Unfolded}
 use Rattle.cfi_stacks.specs.declared.folding.Unfolded.TheVariants.{Input, TooMany}

@@ -1,12 +1,12 @@
 //! Which samples of a profile are printed.
 ghost use Rattle.std.specs.Prelude.{◌≡◌, ◌==◌, ⊤, None, nat_le, option_map};
 ghost use Rattle.std.specs.Str.{bytes_eq};
-ghost use Rattle.cfi_processes.specs.ThreadNames.{name_bytes};
+ghost use Rattle.cfi_mapped.specs.ThreadNames.{name_bytes};
 ghost use Rattle.cfi_stacks.specs.Choices.{choice_view, comm_of, holds};
 ghost use Rattle.cfi_stacks.specs.SampleHeads.{thread_name_text};
 
+use cfi_mapped::Name;
 use cfi_perf::Sample;
-use cfi_processes::Name;
 use itoa::Buffer;
 use std::alloc::AllocError;
 
@@ -44,7 +44,7 @@ impl Clone for Choice<'_> {
 impl Choice<'_> {
     ghost use Rattle.std.specs.Prelude.{◌≡◌};
     ghost use Rattle.cfi_perf.specs.Samples.{sample_view};
-    ghost use Rattle.cfi_processes.specs.ThreadNames.{name_bytes};
+    ghost use Rattle.cfi_mapped.specs.ThreadNames.{name_bytes};
     ghost use Rattle.cfi_stacks.specs.Choices.{choice_view, chooses, everything, is_in_time};
     ghost use Rattle.cfi_stacks.specs.Choices.{is_of_thread};
 

@@ -10,18 +10,18 @@ ghost use Rattle.cfi_perf.specs.Indexes.{AreIndexed, IsOfBytes, kept_bytes, kept
 ghost use Rattle.cfi_perf.specs.Indexes.{places_of};
 ghost use Rattle.cfi_perf.specs.Recordings.{is_sample};
 ghost use Rattle.cfi_perf.specs.Windows.{record_bytes_left, record_alone};
-ghost use Rattle.cfi_processes.specs.WantedFiles.{mapped_code_file, wanted_of};
-ghost use Rattle.cfi_processes.specs.Wanted.{wanted_view};
+ghost use Rattle.cfi_mapped.specs.WantedFiles.{mapped_code_file, wanted_of};
+ghost use Rattle.cfi_mapped.specs.Wanted.{wanted_view};
 ghost use Rattle.cfi_stacks.specs.ProfileIndexes.{HasRecords, IsFoundOf, IsIndexOf, IsKernelFit};
 ghost use Rattle.cfi_stacks.specs.ProfileIndexes.{IsNextIn, IsPieceOf, IsReadAt, IsRecordsPart};
 ghost use Rattle.cfi_stacks.specs.ProfileIndexes.{IsTallyOf, IsToldOf, IsWholeOf, IsWindowIn};
 ghost use Rattle.cfi_stacks.specs.ProfileIndexes.{Piece, kernel_after, record_of};
 
 use cfi_elf::bytes::part;
+use cfi_mapped::wanted::WantedFile;
+use cfi_mapped::wanted_files::{code_file, has_kernel_frames, push_file};
 use cfi_object::input::{FileInput, InputError};
 use cfi_perf::{Event, Lost, PerfError, PlaceKind, Record, RecordIndex, RecordPlace, RecordWalk};
-use cfi_processes::wanted::WantedFile;
-use cfi_processes::wanted_files::{code_file, has_kernel_frames, push_file};
 use std::alloc::{AllocError, Global};
 
 /// How many bytes a window has: few enough for the cache, and enough for several records.

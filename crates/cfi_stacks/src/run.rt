@@ -6,8 +6,8 @@ ghost use Rattle.cfi_perf.specs.ProfileHeads.{head_view};
 ghost use Rattle.cfi_perf.specs.Windows.{records_in};
 ghost use Rattle.cfi_text.specs.WriterOutput.{PrintsSome};
 ghost use Rattle.cfi_processes.specs.KnownFiles.{known_view};
-ghost use Rattle.cfi_processes.specs.OpenedFiles.{AreOpenedAs, Opened};
-ghost use Rattle.cfi_processes.specs.Wanted.{wanted_view};
+ghost use Rattle.cfi_mapped.specs.OpenedFiles.{AreOpenedAs, Opened};
+ghost use Rattle.cfi_mapped.specs.Wanted.{wanted_view};
 ghost use Rattle.cfi_stacks.specs.Choices.{choice_view};
 ghost use Rattle.cfi_stacks.specs.ProfileIndexes.{AreBytesAt, AreBytesOf, HasRecords, HasRecordsAt};
 ghost use Rattle.cfi_stacks.specs.ProfileIndexes.{HoldsOf, IsIndex, IsReadAround, IsTallySaid};
@@ -26,14 +26,15 @@ use crate::profile_index::index_records;
 use crate::sample_stacks::print_stacks;
 use crate::turns::ChosenSamples;
 use cfi_inputs::write_input_refusal;
+use cfi_mapped::Opener;
+use cfi_mapped::opened_file::OpenedFile;
+use cfi_mapped::read_files::read_files;
+use cfi_mapped::wanted::WantedFile;
 use cfi_object::input::FileInput;
 use cfi_object::read_whole;
 use cfi_perf::{Profile, ProfileHead, RecordWalk};
-use cfi_processes::Opener;
-use cfi_processes::profile_files::{OpenedFile, ProfileFile, profile_files};
-use cfi_processes::read_files::read_files;
+use cfi_processes::profile_files::{ProfileFile, profile_files};
 use cfi_processes::registers::SampleMachine;
-use cfi_processes::wanted::WantedFile;
 use cfi_text::refusals::write_refusal_in;
 use gimli_cfi::Error;
 use std::alloc::Global;
@@ -67,7 +68,7 @@ struct Printing<'r, O> {
 /// stack. After the last one it says how many records and samples were lost, if any were.
 ///
 /// The files of code are opened by the names that the profile has for them, and where it has a
-/// file's build, only a file of that build is taken (`cfi_processes::profile_files::read_files`).
+/// file's build, only a file of that build is taken (`cfi_mapped::read_files::read_files`).
 ///
 /// Status 0: all samples are printed. Status 1: the profile, or the rest of it, can't be read,
 /// which prints `refused` and the name of the error; it is of a machine whose registers aren't

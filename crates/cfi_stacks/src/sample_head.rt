@@ -1,7 +1,7 @@
 //! The line before the frames of a sample.
 ghost use Rattle.std.specs.Prelude.{◌≡◌, ◌++◌, None, OnOk};
 ghost use Rattle.cfi_perf.specs.Samples.{sample_view};
-ghost use Rattle.cfi_processes.specs.ThreadNames.{name_bytes};
+ghost use Rattle.cfi_mapped.specs.ThreadNames.{name_bytes};
 ghost use Rattle.cfi_text.specs.WriterOutput.{Writes};
 ghost use Rattle.cfi_stacks.specs.SampleHeads.{cpu_text, head_line, left_aligned, numbers_text};
 ghost use Rattle.cfi_stacks.specs.SampleHeads.{pid_and_tid, right_aligned, seconds_text};
@@ -9,8 +9,8 @@ ghost use Rattle.cfi_stacks.specs.SampleHeads.{thread_name_text, time_text};
 
 use cfi_frames::frame_lines::push_filled;
 use cfi_frames::names::write_known_name;
+use cfi_mapped::Name;
 use cfi_perf::Sample;
-use cfi_processes::Name;
 use cfi_text::lines::write_text;
 use cfi_text::names::write_name;
 use cfi_text::numbers::push_decimal;

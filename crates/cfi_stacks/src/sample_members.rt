@@ -1,15 +1,15 @@
 //! What the object of a sample has before its frames (RFC 8259).
 ghost use Rattle.std.specs.Prelude.{◌≡◌, ◌++◌, OnOk};
 ghost use Rattle.cfi_perf.specs.Samples.{sample_view};
-ghost use Rattle.cfi_processes.specs.ThreadNames.{name_bytes};
+ghost use Rattle.cfi_mapped.specs.ThreadNames.{name_bytes};
 ghost use Rattle.cfi_text.specs.WriterOutput.{Writes};
 ghost use Rattle.cfi_stacks.specs.SampleMembers.{comm_text, cpu_member, nanoseconds_text};
 ghost use Rattle.cfi_stacks.specs.SampleMembers.{number_members, sample_head};
 
 use crate::sample_head::write_without_name;
 use cfi_frames::frame_lines::push_filled;
+use cfi_mapped::Name;
 use cfi_perf::Sample;
-use cfi_processes::Name;
 use cfi_text::json::push_number;
 use cfi_text::lines::write_text;
 use cfi_text::names::write_json_name;

@@ -6,7 +6,7 @@ ghost use Rattle.cfi_perf.specs.CallChains.{addresses_left};
 ghost use Rattle.cfi_processes.specs.KnownFiles.{known_view};
 ghost use Rattle.cfi_processes.specs.KernelSites.{chain_site};
 ghost use Rattle.cfi_processes.specs.ProcessModules.{modules_in};
-ghost use Rattle.cfi_processes.specs.Mappings.{AreMappedInOrder};
+ghost use Rattle.cfi_mapped.specs.Mappings.{AreMappedInOrder};
 ghost use Rattle.cfi_processes.specs.Modules.{loaded_module_view};
 ghost use Rattle.cfi_frames.specs.Rooms.{IsRoomFor};
 ghost use Rattle.cfi_stacks.specs.ChosenStacks.{IsStackOf};

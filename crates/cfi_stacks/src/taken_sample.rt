@@ -1,6 +1,6 @@
 //! A sample as it was taken.
+use cfi_mapped::Name;
 use cfi_perf::Sample;
-use cfi_processes::Name;
 use cfi_processes::process_code::ProcessCode;
 
 /// A sample, with what was known of its process and its thread when it was taken.

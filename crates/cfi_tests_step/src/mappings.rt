@@ -1,7 +1,7 @@
 //! What is mapped in processes. The expected rows are those of Linux: the lines of `/proc/PID/maps`
 //! after the same calls of mmap(2) with `MAP_FIXED`, and of fork(2).
 use crate::comparison::expect;
-use cfi_processes::{MappedCode, Processes};
+use cfi_mapped::{MappedCode, Processes};
 use std::alloc::{AllocError, Global};
 use std::test::Fail;
 

@@ -6,7 +6,7 @@ use Rattle.std.proofs.lemmas.Iterator.{YieldsList-from_slice}
 use Rattle.std.proofs.lemmas.Iterator.Search.{position_from_yields_List}
 use Rattle.cfi_processes.specs.declared.profile_files.ProfileFile.{ProfileFile}
 use Rattle.cfi_processes.specs.KnownFiles.{KnownFile, known_view}
-use Rattle.cfi_processes.proofs.FileLemmas.{place_mapped}
+use Rattle.cfi_mapped.proofs.FileLemmas.{place_mapped}
 use Rattle.cfi_core_stacks.proofs.core_code.mapped_in.Goals as goal
 
 pub returns : goal.returns

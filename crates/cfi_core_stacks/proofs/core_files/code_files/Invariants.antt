@@ -2,8 +2,8 @@ use Rattle.std.proofs.Common.{◌≡◌, drop, map}
 use Rattle.std.specs.List.{fold}
 use Rattle.cfi_cores.specs.CoreSegments.{segment_view}
 use Rattle.cfi_cores.specs.MappedFiles.{mapping_view}
-use Rattle.cfi_processes.specs.WantedFiles.{with_file}
-use Rattle.cfi_processes.specs.Wanted.{wanted_view}
+use Rattle.cfi_mapped.specs.WantedFiles.{with_file}
+use Rattle.cfi_mapped.specs.Wanted.{wanted_view}
 use Rattle.cfi_core_stacks.specs.CoreCode.{core_code_file, core_code_files}
 use Rattle.cfi_core_stacks.proofs.core_files.code_files.Given as goal
 

@@ -4,7 +4,7 @@ use Rattle.cfi_cores.specs.declared.mapped_files.CoreMapping.{CoreMapping}
 use Rattle.cfi_cores.specs.CoreFiles.{core_view}
 use Rattle.cfi_cores.specs.CoreSegments.{segment_view}
 use Rattle.cfi_cores.specs.MappedFiles.{mapping_view}
-use Rattle.cfi_processes.specs.Wanted.{wanted_view}
+use Rattle.cfi_mapped.specs.Wanted.{wanted_view}
 use Rattle.cfi_core_stacks.specs.CoreCode.{core_code_files}
 use Rattle.cfi_core_stacks.proofs.VdsoFiles.{opened_for}
 use Rattle.cfi_core_stacks.proofs.core_files.opened_files.Goals as goal

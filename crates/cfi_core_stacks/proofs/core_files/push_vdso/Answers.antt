@@ -1,8 +1,8 @@
 use Rattle.std.proofs.Common.{◌≡◌, ◌∙◌, true, List, ap, subst, sym}
-use Rattle.cfi_processes.specs.declared.opened_file.OpenedFile.{OpenedFile}
-use Rattle.cfi_processes.specs.CodeParts.{is_whole}
-use Rattle.cfi_processes.specs.OpenedFiles.{AreOpenedAs, are_whole}
-use Rattle.cfi_processes.proofs.FileLemmas.{whole_pushed}
+use Rattle.cfi_mapped.specs.declared.opened_file.OpenedFile.{OpenedFile}
+use Rattle.cfi_mapped.specs.CodeParts.{is_whole}
+use Rattle.cfi_mapped.specs.OpenedFiles.{AreOpenedAs, are_whole}
+use Rattle.cfi_mapped.proofs.FileLemmas.{whole_pushed}
 use Rattle.cfi_cores.specs.CoreFiles.{core_view}
 use Rattle.cfi_core_stacks.specs.CoreCode.{vdso_file, with_vdso_file}
 use Rattle.cfi_core_stacks.proofs.QuickLemmas.{some_is}

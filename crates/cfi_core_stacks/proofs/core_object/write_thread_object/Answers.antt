@@ -1,7 +1,7 @@
 use Rattle.cfi_text.proofs.PartsWritten.{first_refused, last_written}
 use Rattle.std.proofs.Common.{◌++◌, map, true}
 use Rattle.cfi_processes.specs.KnownFiles.{known_view}
-use Rattle.cfi_processes.specs.ThreadNames.{name_bytes}
+use Rattle.cfi_mapped.specs.ThreadNames.{name_bytes}
 use Rattle.cfi_text.specs.JsonTexts.{separated}
 use Rattle.cfi_frames.specs.WalkObjects.{walk_objects}
 use Rattle.cfi_frames.specs.Reasons.{reason_for}

@@ -1,7 +1,7 @@
 use Rattle.std.proofs.Common.{List, subst, sym, ◌∙◌}
 use Rattle.cfi_object.specs.FileParts.{image_of}
-use Rattle.cfi_processes.specs.declared.opened_file.OpenedFile.{OpenedFile}
-use Rattle.cfi_processes.specs.OpenedFiles.{AreOpenedAs}
+use Rattle.cfi_mapped.specs.declared.opened_file.OpenedFile.{OpenedFile}
+use Rattle.cfi_mapped.specs.OpenedFiles.{AreOpenedAs}
 use Rattle.cfi_core_stacks.proofs.QuickLemmas.{printed_lacking}
 use Rattle.cfi_core_stacks.proofs.core_quick.print_partial.Goals as goal
 

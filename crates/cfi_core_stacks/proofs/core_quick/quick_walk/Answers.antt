@@ -2,7 +2,7 @@ use Rattle.std.proofs.Common.{◌∙◌, ap, map, sym, true≢false}
 use Rattle.cfi_cores.specs.CoreSegments.{segment_view}
 use Rattle.cfi_cores.specs.CoreThreads.{thread_view}
 use Rattle.cfi_processes.specs.KnownFiles.{known_view}
-use Rattle.cfi_processes.specs.ThreadNames.{name_bytes}
+use Rattle.cfi_mapped.specs.ThreadNames.{name_bytes}
 use Rattle.cfi_core_stacks.specs.ThreadOutputs.{thread_in_format}
 use Rattle.cfi_core_stacks.proofs.QuickLemmas.{walked_by_part}
 use Rattle.cfi_core_stacks.proofs.core_quick.quick_walk.Goals as goal

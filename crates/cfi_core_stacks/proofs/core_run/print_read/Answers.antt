@@ -1,7 +1,7 @@
 use Rattle.std.proofs.Common.{List, subst, sym, refl, ap, ◌∙◌}
 use Rattle.cfi_cores.specs.CoreFiles.{core_view}
-use Rattle.cfi_processes.specs.declared.opened_file.OpenedFile.{OpenedFile}
-use Rattle.cfi_processes.specs.OpenedFiles.{AreOpenedAs, are_whole}
+use Rattle.cfi_mapped.specs.declared.opened_file.OpenedFile.{OpenedFile}
+use Rattle.cfi_mapped.specs.OpenedFiles.{AreOpenedAs, are_whole}
 use Rattle.cfi_core_stacks.proofs.QuickLemmas.{printed_opened}
 use Rattle.cfi_core_stacks.proofs.core_run.print_read.Goals as goal
 

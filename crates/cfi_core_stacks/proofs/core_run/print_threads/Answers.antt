@@ -7,7 +7,7 @@ use Rattle.cfi_cores.specs.CoreSegments.{segment_view}
 use Rattle.cfi_cores.specs.CoreThreads.{CoreThread, thread_view}
 use Rattle.cfi_processes.specs.FileModules.{AreModulesOfFiles}
 use Rattle.cfi_processes.specs.KnownFiles.{known_view}
-use Rattle.cfi_processes.specs.ThreadNames.{name_bytes}
+use Rattle.cfi_mapped.specs.ThreadNames.{name_bytes}
 use Rattle.cfi_core_stacks.specs.CoreCode.{core_mappings}
 use Rattle.cfi_core_stacks.specs.CoreOutputs.{core_memory}
 use Rattle.cfi_core_stacks.proofs.CoreRunLemmas.{text_there}

@@ -1,7 +1,7 @@
 use Rattle.std.proofs.Common.{[], ◌∷◌, ◌++◌, map, true}
 use Rattle.cfi_text.proofs.PartsWritten.{first_refused, last_written}
 use Rattle.cfi_processes.specs.KnownFiles.{known_view}
-use Rattle.cfi_processes.specs.ThreadNames.{name_bytes}
+use Rattle.cfi_mapped.specs.ThreadNames.{name_bytes}
 use Rattle.cfi_frames.specs.WalkLines.{walk_text}
 use Rattle.cfi_core_stacks.specs.ThreadHeads.{thread_line}
 use Rattle.cfi_core_stacks.proofs.core_text.print_lines.Goals as goal

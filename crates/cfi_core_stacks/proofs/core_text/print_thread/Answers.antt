@@ -1,7 +1,7 @@
 use Rattle.std.proofs.Common.{ap, map}
 use Rattle.cfi_cores.specs.CoreThreads.{thread_view}
 use Rattle.cfi_processes.specs.KnownFiles.{known_view}
-use Rattle.cfi_processes.specs.ThreadNames.{name_bytes}
+use Rattle.cfi_mapped.specs.ThreadNames.{name_bytes}
 use Rattle.cfi_core_stacks.specs.ThreadOutputs.{thread_in_format}
 use Rattle.cfi_core_stacks.proofs.core_text.print_thread.Goals as goal
 

@@ -3,7 +3,7 @@ use borrow.Author.Tests.{tests}
 use Rattle.std.specs.Str.{bytes_eq}
 use Rattle.std.proofs.lemmas.Iterator.{YieldsList-from_slice}
 use Rattle.std.proofs.lemmas.Iterator.Search.{find_from_yields_List}
-use Rattle.cfi_processes.specs.declared.opened_file.OpenedFile.{OpenedFile}
+use Rattle.cfi_mapped.specs.declared.opened_file.OpenedFile.{OpenedFile}
 use Rattle.cfi_core_stacks.proofs.FileWindows.{bytes_found, firsts}
 use Rattle.cfi_core_stacks.proofs.core_windows.bytes_named.Goals as goal
 

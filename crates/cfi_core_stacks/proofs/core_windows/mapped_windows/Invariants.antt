@@ -2,7 +2,7 @@ use Rattle.std.proofs.Common.{◌≡◌, ◌++◌, List, drop, map}
 use Rattle.std.specs.List.{filter_map}
 use Rattle.cfi_cores.specs.CoreSegments.{segment_view}
 use Rattle.cfi_cores.specs.MappedFiles.{mapping_view}
-use Rattle.cfi_processes.specs.OpenedFiles.{AreOpenedAs, Opened}
+use Rattle.cfi_mapped.specs.OpenedFiles.{AreOpenedAs, Opened}
 use Rattle.cfi_core_stacks.specs.CoreWindows.{file_window}
 use Rattle.cfi_core_stacks.proofs.core_windows.mapped_windows.Given as goal
 

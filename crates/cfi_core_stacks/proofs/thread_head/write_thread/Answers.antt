@@ -1,6 +1,6 @@
 use Rattle.std.proofs.Common.{[], ◌∷◌, ◌++◌}
 use Rattle.cfi_text.proofs.PartsWritten.{first_refused, last_written}
-use Rattle.cfi_processes.specs.ThreadNames.{name_bytes}
+use Rattle.cfi_mapped.specs.ThreadNames.{name_bytes}
 use Rattle.cfi_core_stacks.specs.ThreadHeads.{process_text, thread_start}
 use Rattle.cfi_core_stacks.proofs.thread_head.write_thread.Goals as goal
 

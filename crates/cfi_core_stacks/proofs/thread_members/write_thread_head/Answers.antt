@@ -1,6 +1,6 @@
 use Rattle.cfi_text.proofs.PartsWritten.{first_refused, last_written}
 use Rattle.std.proofs.Common.{◌++◌, codes}
-use Rattle.cfi_processes.specs.ThreadNames.{name_bytes}
+use Rattle.cfi_mapped.specs.ThreadNames.{name_bytes}
 use Rattle.cfi_core_stacks.specs.ThreadMembers.{process_member, tid_and_signal}
 use Rattle.cfi_core_stacks.proofs.thread_members.write_thread_head.Goals as goal
 

@@ -4,7 +4,7 @@ use Rattle.cfi_text.specs.JsonTexts.{separated}
 use Rattle.cfi_text.proofs.WrittenLemmas.{beginning_then, given_all, given_then, writes_refused}
 use Rattle.cfi_step.specs.declared.walk.StackFrame.{StackFrame}
 use Rattle.cfi_step.specs.Steps.{row_address}
-use Rattle.cfi_processes.specs.declared.mappings.MappedCode.{MappedCode}
+use Rattle.cfi_mapped.specs.declared.mappings.MappedCode.{MappedCode}
 use Rattle.cfi_processes.specs.KnownFiles.{KnownFile, known_view}
 use Rattle.cfi_processes.specs.Sites.{site_of}
 use Rattle.cfi_frames.specs.declared.frame_style.FrameStyle.{FrameStyle}

@@ -1,11 +1,12 @@
 use Rattle.std.proofs.Common.{◌≡◌, ◌∙◌, Bool, Bor, List, ℕ, None, Option, ap, option_map, string_bytes, subst, sym}
 use Rattle.std.specs.Prelude.{if◌then◌else◌}
-use Rattle.cfi_processes.specs.CodeParts.{ArePartsOfBytes}
+use Rattle.cfi_mapped.specs.CodeParts.{ArePartsOfBytes}
 use Rattle.cfi_processes.specs.KnownFiles.{code_view}
 use Rattle.cfi_processes.specs.Objects.{Object}
 use Rattle.cfi_processes.specs.ProfileFiles.{IsCodeOf, functions_if, kernel_text_of, code_map_of, object_if}
-use Rattle.cfi_processes.specs.Wanted.{as_code, is_text}
-use Rattle.cfi_processes.proofs.CodeImages.{code_kept, kernel_told, map_told, same_functions, same_object}
+use Rattle.cfi_mapped.specs.Wanted.{as_code, is_text}
+use Rattle.cfi_mapped.proofs.CodeImages.{code_kept}
+use Rattle.cfi_processes.proofs.ProfileImages.{kernel_told, map_told, same_functions, same_object}
 use Rattle.cfi_processes.proofs.profile_files.profile_file.Goals as goal
 
 pub returns : goal.returns

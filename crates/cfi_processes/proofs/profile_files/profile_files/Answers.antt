@@ -1,8 +1,8 @@
 use Rattle.std.proofs.Common.{◌≡◌, ◌∙◌, ap, get_or, map, rules, subst, sym}
 use Rattle.std.proofs.lemmas.List.{map_push}
-use Rattle.cfi_processes.specs.declared.opened_file.OpenedFile.{OpenedFile}
+use Rattle.cfi_mapped.specs.declared.opened_file.OpenedFile.{OpenedFile}
 use Rattle.cfi_processes.specs.KnownFiles.{known_view}
-use Rattle.cfi_processes.proofs.FileLemmas.{IsFileFor, all_files, one_file}
+use Rattle.cfi_processes.proofs.ProfileLemmas.{IsFileFor, all_files, one_file}
 use Rattle.cfi_processes.proofs.profile_files.profile_files.Goals as goal
 
 pub loop-file-preserved : goal.loop-file-preserved

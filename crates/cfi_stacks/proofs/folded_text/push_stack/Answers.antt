@@ -2,7 +2,7 @@ use Rattle.std.proofs.Common.{◌++◌, map}
 use Rattle.cfi_perf.specs.Samples.{kernel_frames, sample_view}
 use Rattle.cfi_processes.specs.KernelSites.{kernel_site}
 use Rattle.cfi_processes.specs.KnownFiles.{known_view}
-use Rattle.cfi_processes.specs.ThreadNames.{name_bytes}
+use Rattle.cfi_mapped.specs.ThreadNames.{name_bytes}
 use Rattle.cfi_stacks.specs.FoldedTexts.{chain_names, thread_name, user_names}
 use Rattle.cfi_frames.proofs.StackLemmas.{then_more}
 use Rattle.cfi_stacks.proofs.folded_text.push_stack.Goals as goal

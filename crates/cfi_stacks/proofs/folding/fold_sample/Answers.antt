@@ -3,7 +3,7 @@ use Rattle.std.proofs.lemmas.Result.{on_ok_weaker}
 use Rattle.cfi_perf.specs.Samples.{sample_view}
 use Rattle.cfi_processes.specs.KnownFiles.{known_view}
 use Rattle.cfi_processes.specs.KernelSites.{kernel_site}
-use Rattle.cfi_processes.specs.ThreadNames.{name_bytes}
+use Rattle.cfi_mapped.specs.ThreadNames.{name_bytes}
 use Rattle.cfi_stacks.specs.FoldedTexts.{folded_text}
 use Rattle.cfi_stacks.proofs.folding.fold_sample.Goals as goal
 

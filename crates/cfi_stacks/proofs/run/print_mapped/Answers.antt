@@ -1,6 +1,6 @@
 use Rattle.std.proofs.Common.{◌∙◌, ap, inr, map, refl}
 use Rattle.cfi_inputs.specs.Refusals.{input_refusal}
-use Rattle.cfi_processes.specs.Wanted.{wanted_view}
+use Rattle.cfi_mapped.specs.Wanted.{wanted_view}
 use Rattle.cfi_stacks.specs.Choices.{choice_view}
 use Rattle.cfi_stacks.specs.ProfileOutputs.{listing_format}
 use Rattle.cfi_stacks.proofs.ShownLemmas.{of_wanted, shows_more}

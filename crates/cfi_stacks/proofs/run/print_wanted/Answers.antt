@@ -1,7 +1,7 @@
 use Rattle.std.proofs.Common.{List, map, subst, sym}
-use Rattle.cfi_processes.specs.declared.opened_file.OpenedFile.{OpenedFile}
-use Rattle.cfi_processes.specs.OpenedFiles.{AreOpenedAs}
-use Rattle.cfi_processes.specs.Wanted.{wanted_view}
+use Rattle.cfi_mapped.specs.declared.opened_file.OpenedFile.{OpenedFile}
+use Rattle.cfi_mapped.specs.OpenedFiles.{AreOpenedAs}
+use Rattle.cfi_mapped.specs.Wanted.{wanted_view}
 use Rattle.cfi_stacks.specs.Choices.{choice_view}
 use Rattle.cfi_stacks.proofs.ShownLemmas.{of_opened, shows_more}
 use Rattle.cfi_stacks.proofs.run.print_wanted.Goals as goal

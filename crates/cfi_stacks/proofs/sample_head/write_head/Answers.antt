@@ -1,7 +1,7 @@
 use Rattle.cfi_perf.specs.Samples.{sample_view}
 use Rattle.cfi_names.specs.Names.{shown}
 use Rattle.cfi_text.proofs.PartsWritten.{first_refused, last_written}
-use Rattle.cfi_processes.specs.ThreadNames.{name_bytes}
+use Rattle.cfi_mapped.specs.ThreadNames.{name_bytes}
 use Rattle.cfi_stacks.specs.SampleHeads.{numbers_text, thread_name_text}
 use Rattle.cfi_stacks.proofs.HeadLemmas.{colon, from_event, from_numbers}
 use Rattle.cfi_stacks.proofs.sample_head.write_head.Goals as goal

@@ -2,7 +2,7 @@ use Rattle.cfi_text.proofs.PartsWritten.{first_refused, last_written}
 use Rattle.std.proofs.Common.{◌++◌, codes}
 use Rattle.cfi_perf.specs.Samples.{sample_view}
 use Rattle.cfi_text.specs.JsonTexts.{json_name}
-use Rattle.cfi_processes.specs.ThreadNames.{name_bytes}
+use Rattle.cfi_mapped.specs.ThreadNames.{name_bytes}
 use Rattle.cfi_stacks.specs.SampleMembers.{comm_text, number_members}
 use Rattle.cfi_stacks.proofs.sample_members.write_sample_head.Goals as goal
 

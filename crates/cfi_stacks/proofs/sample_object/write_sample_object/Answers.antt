@@ -3,7 +3,7 @@ use Rattle.std.proofs.Common.{◌++◌, map, true}
 use Rattle.cfi_perf.specs.Samples.{sample_view}
 use Rattle.cfi_processes.specs.KnownFiles.{known_view}
 use Rattle.cfi_processes.specs.KernelSites.{kernel_site}
-use Rattle.cfi_processes.specs.ThreadNames.{name_bytes}
+use Rattle.cfi_mapped.specs.ThreadNames.{name_bytes}
 use Rattle.cfi_text.specs.JsonTexts.{separated}
 use Rattle.cfi_stacks.specs.SampleOutputs.{all_objects, sample_reason}
 use Rattle.cfi_frames.specs.FrameObjects.{object_end}

@@ -3,7 +3,7 @@ use Rattle.cfi_text.proofs.PartsWritten.{first_refused, last_written}
 use Rattle.cfi_perf.specs.Samples.{sample_view}
 use Rattle.cfi_processes.specs.KnownFiles.{known_view}
 use Rattle.cfi_processes.specs.KernelSites.{kernel_site}
-use Rattle.cfi_processes.specs.ThreadNames.{name_bytes}
+use Rattle.cfi_mapped.specs.ThreadNames.{name_bytes}
 use Rattle.cfi_stacks.specs.SampleOutputs.{frames_text}
 use Rattle.cfi_stacks.specs.SampleHeads.{head_line}
 use Rattle.cfi_stacks.proofs.sample_text.print_lines.Goals as goal

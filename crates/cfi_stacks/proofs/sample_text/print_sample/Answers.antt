@@ -2,7 +2,7 @@ use Rattle.std.proofs.Common.{ap, map}
 use Rattle.cfi_perf.specs.Samples.{sample_view}
 use Rattle.cfi_processes.specs.KnownFiles.{known_view}
 use Rattle.cfi_processes.specs.KernelSites.{kernel_site}
-use Rattle.cfi_processes.specs.ThreadNames.{name_bytes}
+use Rattle.cfi_mapped.specs.ThreadNames.{name_bytes}
 use Rattle.cfi_stacks.specs.SampleOutputs.{sample_in_format}
 use Rattle.cfi_stacks.proofs.sample_text.print_sample.Goals as goal
 

@@ -1,7 +1,7 @@
 use Rattle.std.proofs.Common.{◌∙◌, Bool, Bor, Some, None, cond, length, nat_le, option_map, sym, ap, arith, rules}
 use Rattle.std.proofs.lemmas.Bool.{leb-true, leb-false, le-leb, lt-leb, ltb-true, ltb-false}
 use Rattle.std.proofs.lemmas.List.Sorted.{IsPartitionedBy-leb, IsPartitionPoint-from_clause}
-use Rattle.cfi_processes.specs.declared.mappings.MappedCode.{MappedCode}
+use Rattle.cfi_mapped.specs.declared.mappings.MappedCode.{MappedCode}
 use Rattle.cfi_processes.proofs.CodeLemmas.{ends_rise, next_is, none_ends_behind}
 use Rattle.cfi_processes.proofs.process_code.ProcessCode.mapped_at.Goals as goal
 

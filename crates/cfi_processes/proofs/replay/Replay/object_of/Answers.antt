@@ -7,7 +7,7 @@ use Rattle.cfi_processes.specs.declared.profile_files.ProfileFile.{ProfileFile}
 use Rattle.cfi_perf.specs.Events.{mapping_record_view}
 use Rattle.cfi_processes.specs.KnownFiles.{KnownFile, known_view}
 use Rattle.cfi_processes.specs.Replays.{is_mapping_of}
-use Rattle.cfi_processes.proofs.FileLemmas.{place_mapped}
+use Rattle.cfi_mapped.proofs.FileLemmas.{place_mapped}
 use Rattle.cfi_processes.proofs.replay.Replay.object_of.Goals as goal
 
 pub returns-then-mapping : goal.returns-then-mapping

@@ -2,8 +2,8 @@ use Rattle.std.proofs.Common.{◌∙◌, Bool, ap}
 use Rattle.std.specs.Prelude.{option_map}
 use Rattle.std.specs.Option.{is_some}
 use Rattle.cfi_perf.specs.Events.{record_view}
-use Rattle.cfi_processes.specs.WantedFiles.{mapped_code_file}
-use Rattle.cfi_processes.specs.Wanted.{wanted_view}
+use Rattle.cfi_mapped.specs.WantedFiles.{mapped_code_file}
+use Rattle.cfi_mapped.specs.Wanted.{wanted_view}
 use Rattle.cfi_stacks.proofs.WantedPieces.{file_of_other}
 use Rattle.cfi_stacks.proofs.profile_index.ProfileIndex.code_file.Goals as goal
 

@@ -3,7 +3,7 @@ use Rattle.std.specs.Option.{is_some}
 use Rattle.std.proofs.Math.ListN.{get_or-map}
 use Rattle.std.proofs.lemmas.List.{get_or_default, length-map}
 use Rattle.cfi_perf.specs.declared.index.RecordPlace.{RecordPlace}
-use Rattle.cfi_processes.specs.Wanted.{wanted_view}
+use Rattle.cfi_mapped.specs.Wanted.{wanted_view}
 use Rattle.cfi_stacks.specs.ProfileIndexes.{piece_place}
 use Rattle.cfi_stacks.proofs.FoundLemmas.{when_ok}
 use Rattle.cfi_stacks.proofs.WantedPieces.{all_wanted, no_piece, one_wanted, with_the_file}

@@ -1,8 +1,8 @@
 use Rattle.std.proofs.Common.{◌≡◌, ℕ, List, Option, drop, map}
 use Rattle.std.specs.Option.{is_some}
 use Rattle.cfi_perf.specs.Indexes.{places_of}
-use Rattle.cfi_processes.specs.WantedFiles.{wanted_in}
-use Rattle.cfi_processes.specs.Wanted.{wanted_view}
+use Rattle.cfi_mapped.specs.WantedFiles.{wanted_in}
+use Rattle.cfi_mapped.specs.Wanted.{wanted_view}
 use Rattle.cfi_stacks.specs.ProfileIndexes.{IsIndexOf, Piece, record_of}
 use Rattle.cfi_stacks.proofs.WantedPieces.{wanted_on}
 use Rattle.cfi_stacks.proofs.profile_index.ProfileIndex.wanted_files.Given as goal

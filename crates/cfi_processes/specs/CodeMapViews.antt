@@ -1,6 +1,0 @@
--- What a `CodeMap` of the code is.
-use Rattle.cfi_processes.specs.declared.code_map.CodeMap.{CodeMap}
-use Rattle.cfi_processes.specs.CodeMaps.{CodeMapText}
-
-abbrev pub code_map_view : CodeMap → CodeMapText
-code_map_view map = record { name = map.name.bytes.now; text = map.text.now }
