@@ -56,14 +56,18 @@ has_statements() {
     done
 }
 
-# build_library NAME: proves and builds crates/NAME/out/libNAME.a, and prints what the compiler says if that fails. Over
-# statements the crate is built alone: rt doesn't use them, so rt lib would prove the libraries below again.
+# build_library NAME [keep]: proves and builds crates/NAME/out/libNAME.a, and prints what the compiler says if that fails. Over
+# statements the crate is built alone: rt doesn't use them, so rt lib would prove the libraries below again. With `keep` what
+# is proved is kept in out/incremental, as rt lib keeps it.
 build_library() {
-    local library=$PWD/crates/$1/out/lib$1.a said jobs
-    jobs=$(nproc)
+    local library=$PWD/crates/$1/out/lib$1.a said options=()
     if has_statements "$1"; then
-        # (mutations are tried beside it)
-        said=$(build_static "$1" "$library" --jobs "$((jobs < 2 ? jobs : 2))" 2>&1)
+        if [ -n "${2:-}" ]; then
+            mkdir -p "crates/$1/out/incremental"
+            options=(--incremental out/incremental)
+        fi
+        # (one job takes the least processor time, and others wait for processors)
+        said=$(build_static "$1" "$library" --jobs 1 ${options[@]+"${options[@]}"} 2>&1)
     else
         said=$(cd "crates/$1" && rt lib 2>&1)
     fi || { printf '%s\n' "$said" && return 1; }
