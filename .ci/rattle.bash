@@ -73,7 +73,7 @@ build_library() {
     fi || { printf '%s\n' "$said" && return 1; }
 }
 
-# worked_rows: the worked rows of the program's tests, a case a line.
+# worked_rows: the worked rows of the program, a case a line.
 worked_rows() {
-    .ci/worked_rows.py crates/cfi_tests_programs/src/rows.rt crates/cfi_tests_programs/src/rows/header.rt
+    .ci/worked_rows.py
 }

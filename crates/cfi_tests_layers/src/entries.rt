@@ -1,6 +1,6 @@
 //! Each call on sections, entries and instructions once, where it succeeds. The reads themselves
 //! are worked out in `gimli_cfi/proofs/WorkedEntries` and `cfi_parts/proofs/Vectors`, and many more
-//! sections are test vectors of `cfi_tests_programs`.
+//! sections are test vectors (`cfi_rows/runs/rows`).
 use crate::comparison::expect;
 use crate::readers::{OfBytes, Slice};
 use cfi_parts::instruction::CallFrameInstruction;

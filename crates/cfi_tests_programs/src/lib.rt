@@ -1,6 +1,6 @@
-//! Tests of what the programs print, over memory: whole runs of `cfi_rows` with its test vectors,
-//! wrong words and input, a cut section, failing input and output; verdicts on faithful tables and
-//! on each fault of others; what errors say; printed sections. Tests of ELF files.
+//! Tests of what the programs print, over memory, where stored runs can't say it: failing input
+//! and output, cut files, files that are read by parts; the longest lines, and what errors say.
+//! Tests of ELF files.
 #![tactic(auto)]
 
 #[cfg(test)]

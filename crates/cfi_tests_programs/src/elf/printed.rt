@@ -2,7 +2,6 @@
 //! expected rows and instructions are readelf's.
 ghost use Rattle.std.specs.Prelude.{None};
 
-use super::bytes::changed;
 use crate::comparison::expect;
 use cfi_files::{Finding, Printed, Request, check_file, run_on_file};
 use cfi_object::input::copy_part;
@@ -54,12 +53,6 @@ fde 0x4000b6 0x4000b8 waits
 0x4000b6 0x4000b8 cfa=rsp+8 args=0 ra=offset(-8)
 ";
 
-const ROWS_OF_WAITS: &str = ".eh_frame
-.debug_frame
-fde 0x4000b6 0x4000b8 waits
-0x4000b6 0x4000b8 cfa=rsp+8 args=0 ra=offset(-8)
-";
-
 pub(crate) const DUMP: &str = ".eh_frame
 cie 0x0 length=20 version=1 size=8 code=1 data=-8 return=ra addresses=0x1b
   DW_CFA_def_cfa register=rsp offset=8
@@ -93,87 +86,6 @@ cie 0x0 length=20 version=1 size=8 code=1 data=-8 return=ra
   DW_CFA_nop
 fde 0x18 length=20 cie=0x0 0x4000b6 0x4000b8 waits
 0x4000b6 0x4000b8 cfa=rsp+8 args=0 ra=offset(-8)
-";
-
-/// The first and the last row of `pushes` by its name, once with a version as `nm -D` prints it,
-/// the one of `waits`, and what has none.
-const WORDS: [&str; 7] = [
-    "pushes",
-    "pushes@@V1+5",
-    "0X4000b7",
-    "4194486",
-    "0x4000b8",
-    "waits+2",
-    "sleeps@V1",
-];
-
-/// Those of them that have one.
-const FOUND_WORDS: [&str; 4] = ["pushes", "pushes@@V1+5", "0X4000b7", "4194486"];
-
-const FOUND_ROWS: &str = "pushes 0x4000b0: 0x4000b0 0x4000b1 cfa=rsp+8 args=0 ra=offset(-8)
-pushes@@V1+5 0x4000b5: 0x4000b5 0x4000b6 cfa=rsp+8 args=0 rbp=offset(-16) ra=offset(-8)
-0X4000b7: 0x4000b6 0x4000b8 cfa=rsp+8 args=0 ra=offset(-8)
-4194486: 0x4000b6 0x4000b8 cfa=rsp+8 args=0 ra=offset(-8)
-";
-
-const ROWS_OF_WORDS: &str = "pushes 0x4000b0: 0x4000b0 0x4000b1 cfa=rsp+8 args=0 ra=offset(-8)
-pushes@@V1+5 0x4000b5: 0x4000b5 0x4000b6 cfa=rsp+8 args=0 rbp=offset(-16) ra=offset(-8)
-0X4000b7: 0x4000b6 0x4000b8 cfa=rsp+8 args=0 ra=offset(-8)
-4194486: 0x4000b6 0x4000b8 cfa=rsp+8 args=0 ra=offset(-8)
-0x4000b8: refused NoUnwindInfoForAddress: no unwind information for the address
-waits+2 0x4000b8: refused NoUnwindInfoForAddress: no unwind information for the address
-sleeps@V1: no address
-";
-
-/// The same as lines of JSON.
-const ALL_ROWS_JSON: &str = "{\"section\":\".eh_frame\"}
-{\"fde\":{\"start\":\"0x4000b0\",\"end\":\"0x4000b6\",\"function\":\"pushes\"}}
-{\"start\":\"0x4000b0\",\"end\":\"0x4000b1\",\"cfa\":\"rsp+8\",\"args\":0,\
-\"rules\":{\"ra\":\"offset(-8)\"}}
-{\"start\":\"0x4000b1\",\"end\":\"0x4000b4\",\"cfa\":\"rsp+16\",\"args\":0,\
-\"rules\":{\"rbp\":\"offset(-16)\",\"ra\":\"offset(-8)\"}}
-{\"start\":\"0x4000b4\",\"end\":\"0x4000b5\",\"cfa\":\"rbp+16\",\"args\":0,\
-\"rules\":{\"rbp\":\"offset(-16)\",\"ra\":\"offset(-8)\"}}
-{\"start\":\"0x4000b5\",\"end\":\"0x4000b6\",\"cfa\":\"rsp+8\",\"args\":0,\
-\"rules\":{\"rbp\":\"offset(-16)\",\"ra\":\"offset(-8)\"}}
-{\"section\":\".debug_frame\"}
-{\"fde\":{\"start\":\"0x4000b6\",\"end\":\"0x4000b8\",\"function\":\"waits\"}}
-{\"start\":\"0x4000b6\",\"end\":\"0x4000b8\",\"cfa\":\"rsp+8\",\"args\":0,\
-\"rules\":{\"ra\":\"offset(-8)\"}}
-";
-
-const ROWS_OF_WORDS_JSON: &str = "\
-{\"asked\":\"pushes\",\"address\":\"0x4000b0\",\
-\"start\":\"0x4000b0\",\"end\":\"0x4000b1\",\"cfa\":\"rsp+8\",\"args\":0,\
-\"rules\":{\"ra\":\"offset(-8)\"}}
-{\"asked\":\"pushes@@V1+5\",\"address\":\"0x4000b5\",\
-\"start\":\"0x4000b5\",\"end\":\"0x4000b6\",\"cfa\":\"rsp+8\",\"args\":0,\
-\"rules\":{\"rbp\":\"offset(-16)\",\"ra\":\"offset(-8)\"}}
-{\"asked\":\"0X4000b7\",\"address\":\"0x4000b7\",\
-\"start\":\"0x4000b6\",\"end\":\"0x4000b8\",\"cfa\":\"rsp+8\",\"args\":0,\
-\"rules\":{\"ra\":\"offset(-8)\"}}
-{\"asked\":\"4194486\",\"address\":\"0x4000b6\",\
-\"start\":\"0x4000b6\",\"end\":\"0x4000b8\",\"cfa\":\"rsp+8\",\"args\":0,\
-\"rules\":{\"ra\":\"offset(-8)\"}}
-{\"asked\":\"0x4000b8\",\"address\":\"0x4000b8\",\
-\"error\":\"NoUnwindInfoForAddress\",\"reason\":\"no unwind information for the address\"}
-{\"asked\":\"waits+2\",\"address\":\"0x4000b8\",\
-\"error\":\"NoUnwindInfoForAddress\",\"reason\":\"no unwind information for the address\"}
-{\"asked\":\"sleeps@V1\",\
-\"error\":\"no address\"}
-";
-
-const TABLE: &str = ".eh_frame
-0x0 refused NoUnwindInfoForAddress: no unwind information for the address
-0x4000b0 cfa=rsp+8 args=0 ra=offset(-8)
-0x4000b1 cfa=rsp+16 args=0 rbp=offset(-16) ra=offset(-8)
-0x4000b4 cfa=rbp+16 args=0 rbp=offset(-16) ra=offset(-8)
-0x4000b5 cfa=rsp+8 args=0 rbp=offset(-16) ra=offset(-8)
-0x4000b6 refused NoUnwindInfoForAddress: no unwind information for the address
-.debug_frame
-0x0 refused NoUnwindInfoForAddress: no unwind information for the address
-0x4000b6 cfa=rsp+8 args=0 ra=offset(-8)
-0x4000b8 refused NoUnwindInfoForAddress: no unwind information for the address
 ";
 
 /// Gives so many parts of a file, and then fails.
@@ -282,73 +194,6 @@ fn finds<I: FileInput>(
     Ok(())
 }
 
-/// What is asked for, what is printed of the file, and the status.
-const PRINTED: [(Printed<'static>, &str, u8); 9] = [
-    (Printed::Row(&WORDS, Format::Text), ROWS_OF_WORDS, 1),
-    (Printed::Row(&FOUND_WORDS, Format::Text), FOUND_ROWS, 0),
-    (Printed::Rows(None, Format::Text), ALL_ROWS, 0),
-    (
-        Printed::Rows(Some("waits+1"), Format::Text),
-        ROWS_OF_WAITS,
-        0,
-    ),
-    (
-        Printed::Rows(Some("sleeps"), Format::Text),
-        "no address\n",
-        1,
-    ),
-    (Printed::Table, TABLE, 0),
-    (Printed::Dump, DUMP, 0),
-    (Printed::Row(&WORDS, Format::Json), ROWS_OF_WORDS_JSON, 1),
-    (Printed::Rows(None, Format::Json), ALL_ROWS_JSON, 0),
-];
-
-#[test]
-fn rows(rt: HostRuntime) -> Result<(), Fail> {
-    let bytes = bytes_of(rt.alloc(), FILE)?;
-    for (printed, text, status) in &PRINTED {
-        prints(&rt, *printed, &mut bytes.as_slice(), text, *status)?;
-    }
-    Ok(())
-}
-
-/// The row of `waits` by the low byte of `e_machine`. The names are those of the machine's psABI.
-const MACHINES: [(u8, &str); 8] = [
-    (0, "0x4000b6 0x4000b8 cfa=r7+8 args=0 r16=offset(-8)\n"),
-    (3, "0x4000b6 0x4000b8 cfa=edi+8 args=0 r16=offset(-8)\n"),
-    (21, "0x4000b6 0x4000b8 cfa=r7+8 args=0 r16=offset(-8)\n"),
-    (22, "0x4000b6 0x4000b8 cfa=r7+8 args=0 f0=offset(-8)\n"),
-    (40, "0x4000b6 0x4000b8 cfa=r7+8 args=0 r16=offset(-8)\n"),
-    (62, "0x4000b6 0x4000b8 cfa=rsp+8 args=0 ra=offset(-8)\n"),
-    (183, "0x4000b6 0x4000b8 cfa=x7+8 args=0 x16=offset(-8)\n"),
-    (243, "0x4000b6 0x4000b8 cfa=x7+8 args=0 x16=offset(-8)\n"),
-];
-
-#[test]
-fn names_of_registers(rt: HostRuntime) -> Result<(), Fail> {
-    let numbers = MACHINES[0].1;
-    for (machine, text) in &MACHINES {
-        let bytes = changed(rt.alloc(), FILE, &[(18, *machine)])?;
-        let bytes = bytes.as_slice();
-        let printed = Printed::Row(&["waits"], Format::Text);
-        prints(&rt, printed, &mut &*bytes, text, 0)?;
-        let raw = true;
-        answers(&rt, Request { printed, raw }, &mut &*bytes, numbers, 0)?;
-    }
-    Ok(())
-}
-
-const FAITHFUL_JSON: &str = "{\"file\":\"a file\",\"result\":\"faithful\",\"rows\":1}
-";
-
-const NO_ROW_JSON: &str = "{\"file\":\"a file\",\"result\":\"unfaithful\",\
-\"reason\":\"FDE 0x18: no row starts at 0x4000b0 and leads to it\"}
-";
-
-const CUT_JSON: &str = "{\"file\":\"a file\",\"result\":\"no table\",\
-\"reason\":\"refused HeaderCut: the file ends in its header\"}
-";
-
 const NOT_ELF: &str = "refused NotElf: not an ELF file\n";
 
 const NOT_ELF_JSON: &str = "{\"error\":\"NotElf\",\"reason\":\"not an ELF file\"}\n";
@@ -356,44 +201,6 @@ const NOT_ELF_JSON: &str = "{\"error\":\"NotElf\",\"reason\":\"not an ELF file\"
 const WRONG_INPUT_JSON: &str = "{\"file\":\"a file\",\"result\":\"unreadable\",\
 \"reason\":\"wrong input\"}
 ";
-
-/// A byte of the file that is changed, at its offset, how many of its bytes are kept; what is
-/// printed of its check, as text and in JSON, and what was found. The first address of the table's
-/// row is made one above that of `pushes`.
-const CHECKED: [((usize, u8), usize, &str, &str, Finding); 3] = [
-    (
-        (0, 0x7f),
-        1120,
-        "a file: faithful 1\n",
-        FAITHFUL_JSON,
-        Finding::Faithful,
-    ),
-    (
-        (0xc4, 0xf9),
-        1120,
-        "a file: FDE 0x18: no row starts at 0x4000b0 and leads to it\n",
-        NO_ROW_JSON,
-        Finding::Unfaithful,
-    ),
-    (
-        (0, 0x7f),
-        63,
-        "a file: refused HeaderCut: the file ends in its header\n",
-        CUT_JSON,
-        Finding::NoTable,
-    ),
-];
-
-#[test]
-fn checks(rt: HostRuntime) -> Result<(), Fail> {
-    for (change, length, text, json, finding) in &CHECKED {
-        let bytes = changed(rt.alloc(), FILE, &[*change])?;
-        let bytes = bytes.get(..*length).unwrap_or_default();
-        finds(&rt, Format::Text, &mut &*bytes, text, *finding)?;
-        finds(&rt, Format::Json, &mut &*bytes, json, *finding)?;
-    }
-    Ok(())
-}
 
 #[test]
 fn files_that_cannot_be_checked(rt: HostRuntime) -> Result<(), Fail> {
