@@ -4,11 +4,7 @@
 #![tactic(auto)]
 
 #[cfg(test)]
-mod check;
-#[cfg(test)]
 mod comparison;
-#[cfg(test)]
-mod dump;
 #[cfg(test)]
 mod elf;
 #[cfg(test)]
