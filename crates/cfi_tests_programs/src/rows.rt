@@ -1,5 +1,5 @@
 //! Whole runs over memory, with failing input and output; the longest parts of a line.
-mod failing;
+pub(crate) mod failing;
 
 use crate::comparison::expect;
 use cfi_object::register_names::RegisterNames;

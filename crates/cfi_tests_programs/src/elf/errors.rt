@@ -126,19 +126,32 @@ const OF_THE_TABLES: [Changed; 13] = [
     ),
 ];
 
-/// Whether there are `.text`, a section that isn't there, `.debug_frame`, the header's segment, the
-/// bytes at the address of `.text`, the symbol `start` and its function.
-fn found_in(bytes: &[u8]) -> Found {
-    let file = ElfFile::parse(bytes)?;
+/// Whether there are `.text`, a section that isn't there, and `.debug_frame`.
+fn sections_in(file: &ElfFile<'_>) -> Result<[bool; 3], ElfError> {
     Ok([
         file.section(b".text")?.is_some(),
         file.section(b".missing")?.is_some(),
         file.debug_frame()?.is_some(),
+    ])
+}
+
+/// Whether there are the header's segment, the bytes at the address of `.text`, the symbol `start`
+/// and its function.
+fn addresses_in(file: &ElfFile<'_>) -> Result<[bool; 4], ElfError> {
+    Ok([
         file.eh_frame_hdr_segment()?.is_some(),
         file.loaded_bytes(0x10b0)?.is_some(),
         file.symbol_address(b"start")?.is_some(),
         file.function_at(0x10b0)?.is_some(),
     ])
+}
+
+/// What both find, one after the other.
+fn found_in(bytes: &[u8]) -> Found {
+    let file = ElfFile::parse(bytes)?;
+    let [text, missing, debug_frame] = sections_in(&file)?;
+    let [header, loaded, symbol, function] = addresses_in(&file)?;
+    Ok([text, missing, debug_frame, header, loaded, symbol, function])
 }
 
 /// What is found in the file with these bytes changed.

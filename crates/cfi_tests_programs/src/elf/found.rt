@@ -58,106 +58,117 @@ const FILES: [File; 5] = [
     ),
 ];
 
-/// The address of a section, and its bytes.
-type Part<'a> = Option<(u64, &'a [u8])>;
+/// The address of a section, and its bytes; or the error of the call.
+type Part<'a> = Result<Option<(u64, &'a [u8])>, ElfError>;
 
-fn part_of<'a>(section: Option<Section<'a>>) -> Part<'a> {
+fn part_of<'a>(section: Result<Option<Section<'a>>, ElfError>) -> Part<'a> {
     match section {
-        Some(section) => Some((section.address, section.bytes)),
-        None => None,
+        Ok(Some(section)) => Ok(Some((section.address, section.bytes))),
+        Ok(None) => Ok(None),
+        Err(error) => Err(error),
     }
 }
 
-/// `.text`, `.eh_frame`, `.bss`, a section whose name begins another one's, and `.debug_frame`.
-type Sections<'a> = (Part<'a>, Part<'a>, Part<'a>, Part<'a>, Part<'a>);
-
-fn sections_of<'a>(file: &ElfFile<'a>) -> Result<Sections<'a>, ElfError> {
-    Ok((
-        part_of(file.section(b".text")?),
-        part_of(file.section(b".eh_frame")?),
-        part_of(file.section(b".bss")?),
-        part_of(file.section(b".eh_fram")?),
-        part_of(file.debug_frame()?),
-    ))
+/// `.text`, `.eh_frame`, `.bss`, a section whose name begins another one's, `.debug_frame`, and the
+/// header's segment.
+fn parts_of<'a>(file: &ElfFile<'a>) -> [Part<'a>; 6] {
+    [
+        part_of(file.section(b".text")),
+        part_of(file.section(b".eh_frame")),
+        part_of(file.section(b".bss")),
+        part_of(file.section(b".eh_fram")),
+        part_of(file.debug_frame()),
+        part_of(file.eh_frame_hdr_segment()),
+    ]
 }
 
-/// The header's segment, and the bytes from the third of `.text` on, and behind the segment.
-type Segments<'a> = (Part<'a>, [Option<&'a [u8]>; 2]);
+/// Loaded bytes from an address on; or the error of the call.
+type Loaded<'a> = Result<Option<&'a [u8]>, ElfError>;
 
-fn segments_of<'a>(file: &ElfFile<'a>, places: &Places) -> Result<Segments<'a>, ElfError> {
-    let header = part_of(file.eh_frame_hdr_segment()?);
-    let within = file.loaded_bytes(places[1])?;
-    let behind = file.loaded_bytes(places[5])?;
-    Ok((header, [within, behind]))
-}
+/// The name of a function, its address, and its size; or the error of the call.
+type Function<'a> = Result<Option<(&'a [u8], u64, u64)>, ElfError>;
 
-/// The name of a function, its address, and its size.
-type Function<'a> = Option<(&'a [u8], u64, u64)>;
-
-fn function_at<'a>(file: &ElfFile<'a>, address: u64) -> Result<Function<'a>, ElfError> {
-    match file.function_at(address)? {
-        Some(function) => Ok(Some((function.name, function.address, function.size))),
-        None => Ok(None),
+fn function_at<'a>(file: &ElfFile<'a>, address: u64) -> Function<'a> {
+    match file.function_at(address) {
+        Ok(Some(function)) => Ok(Some((function.name, function.address, function.size))),
+        Ok(None) => Ok(None),
+        Err(error) => Err(error),
     }
 }
 
-/// The values of `start` and of a symbol that isn't there, and the functions at three addresses.
-type Symbols<'a> = ([Option<u64>; 2], [Function<'a>; 3]);
+/// The bytes of `.text`, and those from its third one on to the end of the header's segment.
+const TEXT: &[u8] = &[0x90, 0x91, 0x92, 0xc3];
 
-fn symbols_of<'a>(file: &ElfFile<'a>, places: &Places) -> Result<Symbols<'a>, ElfError> {
-    let values = [
-        file.symbol_address(b"start")?,
-        file.symbol_address(b"star")?,
-    ];
-    let functions = [
-        function_at(file, places[1])?,
-        function_at(file, places[2])?,
-        function_at(file, places[3])?,
-    ];
-    Ok((values, functions))
-}
-
-/// The bytes of `.text`, `.eh_frame` and the header's segment, one after the other.
-const BYTES: [u8; 16] = [
-    0x90, 0x91, 0x92, 0xc3, 0xa0, 0xa1, 0xa2, 0xa3, 0, 0, 0, 0, 1, 0x1b, 3, 0x3b,
+const WITHIN: &[u8] = &[
+    0x92, 0xc3, 0xa0, 0xa1, 0xa2, 0xa3, 0, 0, 0, 0, 1, 0x1b, 3, 0x3b,
 ];
+
+/// Those of `.eh_frame`, of the header's segment, and of `.bss`.
+const FRAME: &[u8] = &[0xa0, 0xa1, 0xa2, 0xa3, 0, 0, 0, 0];
+
+const HEADER: &[u8] = &[1, 0x1b, 3, 0x3b];
+
+const NONE: &[u8] = &[];
 
 fn check_parts(rt: &impl Abort, file: &ElfFile<'_>, places: &Places) {
     let [text, _, _, frame, header, data] = *places;
-    let sections: Sections<'_> = (
-        Some((text, &BYTES[..4])),
-        Some((frame, &BYTES[4..12])),
-        Some((data, &[])),
-        None,
-        None,
-    );
-    let segments = (Some((header, &BYTES[12..])), [Some(&BYTES[2..]), None]);
-    let found = (sections_of(file), segments_of(file, places));
-    expect(rt, "parts", &found, &(Ok(sections), Ok(segments)));
+    let expected: [Part<'_>; 6] = [
+        Ok(Some((text, TEXT))),
+        Ok(Some((frame, FRAME))),
+        Ok(Some((data, NONE))),
+        Ok(None),
+        Ok(None),
+        Ok(Some((header, HEADER))),
+    ];
+    expect(rt, "parts", &parts_of(file), &expected);
 }
 
+/// Compares the bytes from the third of `.text` on, and behind the segment.
+fn check_loaded(rt: &impl Abort, file: &ElfFile<'_>, places: &Places) {
+    let [_, within, _, _, _, behind] = *places;
+    let found: [Loaded<'_>; 2] = [file.loaded_bytes(within), file.loaded_bytes(behind)];
+    expect(rt, "loaded", &found, &[Ok(Some(WITHIN)), Ok(None)]);
+}
+
+/// Compares the values of `start` and of a symbol that isn't there.
 fn check_symbols(rt: &impl Abort, file: &ElfFile<'_>, places: &Places) {
-    let [text, _, fourth, ..] = *places;
-    let start: Function<'_> = Some((b"start", text, 3));
-    let functions = [start, Some((b"other", fourth, 1)), None];
-    let expected: Symbols<'_> = ([Some(text), None], functions);
-    expect(rt, "symbols", &symbols_of(file, places), &Ok(expected));
+    let [text, ..] = *places;
+    let found = [file.symbol_address(b"start"), file.symbol_address(b"star")];
+    expect(rt, "symbols", &found, &[Ok(Some(text)), Ok(None)]);
 }
 
-/// Compares the names at three addresses, at the second of which no function begins.
+/// Compares the functions at three addresses.
+fn check_functions(rt: &impl Abort, file: &ElfFile<'_>, places: &Places) {
+    let [text, third, fourth, behind, ..] = *places;
+    let found: [Function<'_>; 3] = [
+        function_at(file, third),
+        function_at(file, fourth),
+        function_at(file, behind),
+    ];
+    let start: Function<'_> = Ok(Some((b"start", text, 3)));
+    let other: Function<'_> = Ok(Some((b"other", fourth, 1)));
+    expect(rt, "functions", &found, &[start, other, Ok(None)]);
+}
+
+/// The names at three addresses, at the second of which no function begins.
+fn names_at<'a>(names: &FunctionNames<'a>, places: &Places) -> [Option<&'a [u8]>; 3] {
+    let [text, third, fourth, ..] = *places;
+    [
+        names.name_at(text),
+        names.name_at(third),
+        names.name_at(fourth),
+    ]
+}
+
+const START_AND_OTHER: [Option<&[u8]>; 3] = [Some(b"start"), None, Some(b"other")];
+
 fn check_names(
     rt: &(impl Abort + AllocGlobal),
     file: &ElfFile<'_>,
     places: &Places,
 ) -> Result<(), Fail> {
-    let [text, third, fourth, ..] = *places;
     let names = FunctionNames::new(rt.alloc(), file)?;
-    let found: [Option<&[u8]>; 3] = [
-        names.name_at(text),
-        names.name_at(third),
-        names.name_at(fourth),
-    ];
-    expect(rt, "names", &found, &[Some(b"start"), None, Some(b"other")]);
+    expect(rt, "names", &names_at(&names, places), &START_AND_OTHER);
     Ok(())
 }
 
@@ -177,7 +188,9 @@ fn what_each_file_has(rt: HostRuntime) -> Result<(), Fail> {
         let file = ElfFile::parse(bytes.as_slice())?;
         expect(&rt, "header", &header_of(&file), header);
         check_parts(&rt, &file, places);
+        check_loaded(&rt, &file, places);
         check_symbols(&rt, &file, places);
+        check_functions(&rt, &file, places);
         check_names(&rt, &file, places)?;
     }
     Ok(())

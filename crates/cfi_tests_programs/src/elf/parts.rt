@@ -1,12 +1,8 @@
 //! What is printed of files that are read by parts. They have the file of `printed` twice: its
 //! headers lie at the beginning, and its section headers and sections a number of bytes behind.
-ghost use Rattle.std.specs.Prelude.{None};
-
 use super::printed::{ALL_ROWS, DUMP, FILE, FailsAfter, prints};
 use crate::comparison::expect;
 use cfi_files::{Printed, Request, run_on_file};
-use cfi_object::input::copy_part;
-use cfi_object::{FileInput, InputError};
 use cfi_tests_bytes::bytes_of;
 use cfi_text::style::Format;
 use std::alloc::Global;
@@ -57,69 +53,46 @@ fn prints_after(
     text: &str,
 ) -> Result<(), Fail> {
     for left in 0..reads {
-        let failing = &mut FailsAfter { bytes, left };
+        let failing = &mut FailsAfter::parts(bytes, left);
         prints(rt, printed, failing, "wrong input\n", 2)?;
     }
-    prints(rt, printed, &mut FailsAfter { bytes, left: reads }, text, 0)
+    prints(rt, printed, &mut FailsAfter::parts(bytes, reads), text, 0)
 }
 
-/// The first 4,096 bytes, the section headers, their names, `.eh_frame`, its header,
-/// `.debug_frame`, the symbols and their names.
+/// How many times 256 bytes the sections lie behind, how much longer the names of symbols are made,
+/// what is printed, by how many reads, and its text.
+type Spread = (u8, u8, Printed<'static>, usize, &'static str);
+
+const ROWS: Printed<'static> = Printed::Rows(None, Format::Text);
+
+/// By the first 4,096 bytes, the section headers, their names, `.eh_frame`, its header,
+/// `.debug_frame`, the symbols and their names. In the third `.eh_frame` begins among the first
+/// 4,096 bytes and ends behind them, and `.debug_frame` and the symbols follow it. In the fourth
+/// the names of symbols have those of sections in them, which were read: the file is read whole.
+const SPREAD: [Spread; 4] = [
+    (0x20, 0, Printed::Dump, 8, DUMP),
+    (0x20, 0, ROWS, 8, ALL_ROWS),
+    (0x0f, 0, ROWS, 7, ALL_ROWS),
+    (0x20, 0x46, ROWS, 8, ALL_ROWS),
+];
+
 #[test]
 fn parts(rt: HostRuntime) -> Result<(), Fail> {
-    let bytes = spread(rt.alloc(), 0x20)?;
-    let bytes = bytes.as_slice();
-    prints_after(&rt, Printed::Dump, bytes, 8, DUMP)?;
-    prints_after(&rt, Printed::Rows(None, Format::Text), bytes, 8, ALL_ROWS)
-}
-
-/// `.eh_frame` begins among the first 4,096 bytes and ends behind them, and `.debug_frame` and the
-/// symbols follow it.
-#[test]
-fn longer_beginning(rt: HostRuntime) -> Result<(), Fail> {
-    let bytes = spread(rt.alloc(), 0x0f)?;
-    let bytes = bytes.as_slice();
-    prints_after(&rt, Printed::Rows(None, Format::Text), bytes, 7, ALL_ROWS)
-}
-
-/// The names of symbols have those of sections in them, which were read: the file is read whole.
-#[test]
-fn parts_that_overlap(rt: HostRuntime) -> Result<(), Fail> {
-    let mut bytes = spread(rt.alloc(), 0x20)?;
-    add(&mut bytes, 0x2000 + SIZE_OF_NAMES, 0x46);
-    let bytes = bytes.as_slice();
-    prints_after(&rt, Printed::Rows(None, Format::Text), bytes, 8, ALL_ROWS)
-}
-
-/// Counts the parts that are read of a file, and their bytes.
-#[derive(Drop)]
-struct Counting<'a> {
-    bytes: &'a [u8],
-    parts: usize,
-    read: u64,
-}
-
-impl FileInput for Counting<'_> {
-    ghost bytes = { λ _. None };
-
-    fn length(&mut self, _alloc: Global) -> Result<u64, InputError> {
-        Ok(self.bytes.len() as u64)
+    for (high, longer, printed, reads, text) in &SPREAD {
+        let mut bytes = spread(rt.alloc(), *high)?;
+        add(
+            &mut bytes,
+            usize::from(*high) * 256 + SIZE_OF_NAMES,
+            *longer,
+        );
+        prints_after(&rt, *printed, bytes.as_slice(), *reads, text)?;
     }
-
-    fn read_part(&mut self, alloc: Global, offset: u64, size: u64) -> Result<Vec<u8>, InputError> {
-        self.parts = self.parts.saturating_add(1);
-        self.read = self.read.saturating_add(size);
-        copy_part(alloc, self.bytes, offset, size)
-    }
+    Ok(())
 }
 
 /// How many parts of a file are read for what is printed, and how many bytes these have.
 fn counted(alloc: Global, printed: Printed<'_>, bytes: &[u8]) -> Result<(usize, u64), Fail> {
-    let mut input = Counting {
-        bytes,
-        parts: 0,
-        read: 0,
-    };
+    let mut input = FailsAfter::parts(bytes, usize::MAX);
     let raw = false;
     let mut output = Vec::new(alloc);
     run_on_file(alloc, Request { printed, raw }, &mut input, &mut output)?;

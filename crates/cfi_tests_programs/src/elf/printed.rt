@@ -3,14 +3,14 @@
 ghost use Rattle.std.specs.Prelude.{None};
 
 use crate::comparison::expect;
+use crate::rows::failing::RefusesAt;
 use cfi_files::{Finding, Printed, Request, check_file, run_on_file};
 use cfi_object::input::copy_part;
 use cfi_object::{FileInput, InputError};
 use cfi_tests_bytes::bytes_of;
 use cfi_text::style::Format;
 use std::alloc::Global;
-use std::io;
-use std::io::{ErrorKind, Write};
+use std::io::ErrorKind;
 use std::process::Abort;
 use std::test::Fail;
 
@@ -88,18 +88,48 @@ fde 0x18 length=20 cie=0x0 0x4000b6 0x4000b8 waits
 0x4000b6 0x4000b8 cfa=rsp+8 args=0 ra=offset(-8)
 ";
 
-/// Gives so many parts of a file, and then fails.
+/// A file that gives so many parts, and then fails, or whose length can't be told. It counts the
+/// parts that are read, and their bytes.
 #[derive(Drop)]
 pub(crate) struct FailsAfter<'a> {
-    pub(crate) bytes: &'a [u8],
-    pub(crate) left: usize,
+    bytes: &'a [u8],
+    has_length: bool,
+    left: usize,
+    pub(crate) parts: usize,
+    pub(crate) read: u64,
+}
+
+impl<'a> FailsAfter<'a> {
+    pub(crate) fn parts(bytes: &'a [u8], left: usize) -> Self {
+        FailsAfter {
+            bytes,
+            has_length: true,
+            left,
+            parts: 0,
+            read: 0,
+        }
+    }
+
+    fn without_length() -> Self {
+        FailsAfter {
+            bytes: &[],
+            has_length: false,
+            left: 0,
+            parts: 0,
+            read: 0,
+        }
+    }
 }
 
 impl FileInput for FailsAfter<'_> {
     ghost bytes = { λ _. None };
 
     fn length(&mut self, _alloc: Global) -> Result<u64, InputError> {
-        Ok(self.bytes.len() as u64)
+        if self.has_length {
+            Ok(self.bytes.len() as u64)
+        } else {
+            Err(InputError::Unreadable)
+        }
     }
 
     fn read_part(&mut self, alloc: Global, offset: u64, size: u64) -> Result<Vec<u8>, InputError> {
@@ -107,48 +137,9 @@ impl FileInput for FailsAfter<'_> {
             return Err(InputError::Unreadable);
         }
         self.left -= 1;
+        self.parts = self.parts.saturating_add(1);
+        self.read = self.read.saturating_add(size);
         copy_part(alloc, self.bytes, offset, size)
-    }
-}
-
-/// A file whose length can't be told.
-#[derive(Drop)]
-struct Endless;
-
-impl FileInput for Endless {
-    ghost bytes = { λ _. None };
-
-    fn length(&mut self, _alloc: Global) -> Result<u64, InputError> {
-        Err(InputError::Unreadable)
-    }
-
-    fn read_part(
-        &mut self,
-        _alloc: Global,
-        _offset: u64,
-        _size: u64,
-    ) -> Result<Vec<u8>, InputError> {
-        Err(InputError::Unreadable)
-    }
-}
-
-/// Takes so many writes of one byte, and then fails.
-#[derive(Drop)]
-struct Takes {
-    left: usize,
-}
-
-impl Write for Takes {
-    fn write(&mut self, buf: &[u8]) -> io::Result<usize> {
-        if self.left == 0 {
-            return Err(ErrorKind::BrokenPipe.into());
-        }
-        self.left -= 1;
-        Ok(buf.len().min(1))
-    }
-
-    fn flush(&mut self) -> io::Result<()> {
-        Ok(())
     }
 }
 
@@ -160,21 +151,13 @@ pub(crate) fn prints<I: FileInput>(
     text: &str,
     status: u8,
 ) -> Result<(), Fail> {
-    let raw = false;
-    answers(rt, Request { printed, raw }, input, text, status)
-}
-
-/// Compares what is printed for a request, and the status.
-fn answers<I: FileInput>(
-    rt: &(impl Abort + AllocGlobal),
-    request: Request<'_>,
-    input: &mut I,
-    text: &str,
-    status: u8,
-) -> Result<(), Fail> {
     let mut output = Vec::new(rt.alloc());
-    let printed = run_on_file(rt.alloc(), request, input, &mut output)?;
-    let found = (str::from_utf8(output.as_slice()), printed);
+    let request = Request {
+        printed,
+        raw: false,
+    };
+    let found = run_on_file(rt.alloc(), request, input, &mut output)?;
+    let found = (str::from_utf8(output.as_slice()), found);
     expect(rt, "a file", &found, &(Ok(text), status));
     Ok(())
 }
@@ -196,41 +179,31 @@ fn finds<I: FileInput>(
 
 const NOT_ELF: &str = "refused NotElf: not an ELF file\n";
 
-const NOT_ELF_JSON: &str = "{\"error\":\"NotElf\",\"reason\":\"not an ELF file\"}\n";
-
 const WRONG_INPUT_JSON: &str = "{\"file\":\"a file\",\"result\":\"unreadable\",\
 \"reason\":\"wrong input\"}
 ";
 
 #[test]
 fn files_that_cannot_be_checked(rt: HostRuntime) -> Result<(), Fail> {
-    let script = b"#!/bin/sh\n".as_slice();
-    let other = "a file: refused NotElf: not an ELF file\n";
-    finds(&rt, Format::Text, &mut &*script, other, Finding::OtherFile)?;
     let (line, unreadable) = ("a file: wrong input\n", Finding::Unreadable);
-    finds(&rt, Format::Text, &mut Endless, line, unreadable)?;
-    finds(
-        &rt,
-        Format::Json,
-        &mut Endless,
-        WRONG_INPUT_JSON,
-        unreadable,
-    )
+    let input = &mut FailsAfter::without_length();
+    finds(&rt, Format::Text, input, line, unreadable)?;
+    finds(&rt, Format::Json, input, WRONG_INPUT_JSON, unreadable)
 }
 
 #[test]
 fn files_that_cannot_be_read(rt: HostRuntime) -> Result<(), Fail> {
     let json = Printed::Rows(None, Format::Json);
-    prints(&rt, Printed::Dump, &mut Endless, "wrong input\n", 2)?;
-    prints(&rt, json, &mut Endless, "{\"error\":\"wrong input\"}\n", 2)?;
-    prints(&rt, json, &mut b"ELF".as_slice(), NOT_ELF_JSON, 1)
+    let input = &mut FailsAfter::without_length();
+    prints(&rt, Printed::Dump, input, "wrong input\n", 2)?;
+    prints(&rt, json, input, "{\"error\":\"wrong input\"}\n", 2)
 }
 
 #[test]
 fn outputs_that_fail(rt: HostRuntime) -> Result<(), Fail> {
     let bytes = bytes_of(rt.alloc(), FILE)?;
     for left in 0..ALL_ROWS.len() {
-        let mut output = Takes { left };
+        let mut output = RefusesAt::call(left, ErrorKind::BrokenPipe);
         let printed = run_on_file(
             rt.alloc(),
             Request {
@@ -240,7 +213,7 @@ fn outputs_that_fail(rt: HostRuntime) -> Result<(), Fail> {
             &mut bytes.as_slice(),
             &mut output,
         );
-        expect(&rt, left, &(printed.is_err(), output.left), &(true, 0));
+        expect(&rt, left, &(printed.is_err(), output.taken), &(true, left));
     }
     Ok(())
 }

@@ -41,15 +41,15 @@ impl Read for FailsAt {
 
 /// Takes one byte a call, and fails at the given call; and at each flush, where it is to.
 #[derive(Drop)]
-struct RefusesAt {
-    taken: usize,
+pub(crate) struct RefusesAt {
+    pub(crate) taken: usize,
     calls: usize,
     kind: ErrorKind,
     fails_to_flush: bool,
 }
 
 impl RefusesAt {
-    fn call(calls: usize, kind: ErrorKind) -> Self {
+    pub(crate) fn call(calls: usize, kind: ErrorKind) -> Self {
         RefusesAt {
             taken: 0,
             calls,
