@@ -1,13 +1,13 @@
-//! Each call on sections, entries and instructions once, where it succeeds. The reads themselves
-//! are worked out in `gimli_cfi/proofs/WorkedEntries` and `cfi_parts/proofs/Vectors`, and many more
-//! sections are test vectors (`cfi_rows/runs/rows`).
+//! Each call on FDEs and their CIEs once, where it succeeds. The reads themselves are worked out in
+//! `gimli_cfi/proofs/WorkedEntries` and `cfi_parts/proofs/Vectors`, and many more sections are test
+//! vectors (`cfi_rows/runs/rows`).
 use crate::comparison::expect;
 use crate::readers::{OfBytes, Slice};
 use cfi_parts::instruction::CallFrameInstruction;
 use cfi_parts::pointer::{BaseAddresses, Pointer};
-use cfi_read_core::{DebugFrameOffset, DwEhPe, Error, Format, Reader, Register, Vendor};
+use cfi_read_core::{DwEhPe, Error, Format, Reader, Register, Vendor};
 use cfi_unwind::entry::{CommonInformationEntry, FrameDescriptionEntry};
-use cfi_unwind::unwind_section::{DebugFrame, EhFrame, UnwindSection, scan_for_fde};
+use cfi_unwind::unwind_section::{DebugFrame, EhFrame, scan_for_fde};
 
 /// `.eh_frame` at 0x2000: a CIE with the letters `zPLRS`, and at 33 an FDE of it, from 0x1000 on,
 /// with language-specific data at 0x5050.
@@ -116,38 +116,20 @@ const NARROW: [u8; 26] = [
 
 type Instruction = Result<Option<CallFrameInstruction<usize>>, Error>;
 
-/// The FDE at 13, its instruction, and that no other follows.
-type OfNarrow = (Range, [Instruction; 2]);
+/// The FDE at 13, and its instruction.
+type OfNarrow = (Range, Instruction);
 
 fn of_narrow<R: Reader<Offset = usize>>(section: &DebugFrame<R>) -> Result<OfNarrow, Error> {
     let bases = BaseAddresses::default();
     let fde = scan_for_fde(section, &bases, 0x1000)?;
-    let mut instructions = fde.instructions(section, &bases);
-    let both = [instructions.next(), instructions.next()];
-    Ok((range_of(&fde), both))
+    let instruction = fde.instructions(section, &bases).next();
+    Ok((range_of(&fde), instruction))
 }
 
 const OF_NARROW: Result<OfNarrow, Error> = Ok((
     ((13, 9), (0x1000, 0x1020, 0x20), false, None),
-    [Ok(Some(CallFrameInstruction::NegateRaState)), Ok(None)],
+    Ok(Some(CallFrameInstruction::NegateRaState)),
 ));
-
-/// The offset of the FDE at 13, that of its CIE, and its length, before it is read whole.
-type Places = (usize, DebugFrameOffset<usize>, usize);
-
-fn places<R: Reader<Offset = usize>>(section: &DebugFrame<R>) -> Result<Places, Error> {
-    let bases = BaseAddresses::default();
-    let part = section.partial_fde_from_offset(&bases, DebugFrameOffset(13))?;
-    Ok((part.offset(), part.cie_offset(), part.entry_len()))
-}
-
-/// The CIE at 0: that its instructions have ended, and its offset.
-fn ended<R: Reader<Offset = usize>>(section: &DebugFrame<R>) -> Result<Instruction, Error> {
-    let bases = BaseAddresses::default();
-    let cie = section.cie_from_offset(&bases, DebugFrameOffset(0))?;
-    let mut instructions = cie.instructions(section, &bases);
-    Ok(instructions.next())
-}
 
 /// The section of bytes with these settings.
 fn narrow<R: Reader>(reader: R) -> DebugFrame<R> {
@@ -157,28 +139,22 @@ fn narrow<R: Reader>(reader: R) -> DebugFrame<R> {
     section
 }
 
-/// What is read of that section.
-type OfDebugFrame = (
-    Result<OfNarrow, Error>,
-    Result<Places, Error>,
-    Result<Instruction, Error>,
-);
+/// What is read of both sections.
+type OfBoth = (Result<OfNarrow, Error>, Result<OfLetters, Error>);
 
-fn of_debug_frame<R: Reader<Offset = usize>>(reader: R) -> OfDebugFrame {
-    let section = narrow(reader);
-    (of_narrow(&section), places(&section), ended(&section))
-}
-
-const OF_DEBUG_FRAME: OfDebugFrame = (OF_NARROW, Ok((13, DebugFrameOffset(0), 9)), Ok(Ok(None)));
-
-/// Both sections.
-fn both<'a, R: Reader<Offset = usize> + OfBytes<'a>>() -> (OfDebugFrame, Result<OfLetters, Error>) {
-    (of_debug_frame(R::of(&NARROW)), of_letters(R::of(&LETTERS)))
+fn of_both<'a, R: Reader<Offset = usize> + OfBytes<'a>>() -> OfBoth {
+    (
+        of_narrow(&narrow(R::of(&NARROW))),
+        of_letters(R::of(&LETTERS)),
+    )
 }
 
 #[test]
 fn each_call(rt: HostRuntime) {
-    let (narrow, letters) = both::<Slice<'_>>();
-    expect(&rt, "addresses of two bytes", &narrow, &OF_DEBUG_FRAME);
-    expect(&rt, "letters", &letters, &OF_LETTERS);
+    expect(
+        &rt,
+        "entries",
+        &of_both::<Slice<'_>>(),
+        &(OF_NARROW, OF_LETTERS),
+    );
 }
