@@ -371,7 +371,7 @@ fn check_growths<S: UnwindContextStorage<usize>>(
 /// Checks such an unwind for the section of a text, with a context to which nothing is refused.
 fn check_section<S: UnwindContextStorage<usize>>(
     rt: &(impl Abort + AllocGlobal),
-    growing: &mut UnwindContext<usize, S>,
+    context: &mut UnwindContext<usize, S>,
     text: &str,
     address: u64,
 ) -> Result<bool, Fail> {
@@ -380,8 +380,8 @@ fn check_section<S: UnwindContextStorage<usize>>(
         text,
         bytes: bytes.as_slice(),
         address,
-        row: row_in(bytes.as_slice(), growing, address),
-        second: row_in(&THREE_ROWS, growing, 0x1002),
+        row: row_in(bytes.as_slice(), context, address),
+        second: row_in(&THREE_ROWS, context, 0x1002),
     };
     Ok(check_growths::<S>(rt, &of)?)
 }
@@ -389,12 +389,12 @@ fn check_section<S: UnwindContextStorage<usize>>(
 /// The same for each of the sections; returns whether a growth was of rows.
 fn check_sections<S: UnwindContextStorage<usize>>(
     rt: &(impl Abort + AllocGlobal),
-    growing: &mut UnwindContext<usize, S>,
+    context: &mut UnwindContext<usize, S>,
 ) -> Result<bool, Fail> {
     let mut grew_rows = false;
     for (text, address) in &SECTIONS {
         // A row that the stack once allocated is used again, so not every section grows it.
-        grew_rows |= check_section(rt, growing, text, *address)?;
+        grew_rows |= check_section(rt, context, text, *address)?;
     }
     Ok(grew_rows)
 }
@@ -403,8 +403,8 @@ fn check_sections<S: UnwindContextStorage<usize>>(
 fn check_afresh<S: UnwindContextStorage<usize>>(
     rt: &(impl Abort + AllocGlobal),
 ) -> Result<(), Fail> {
-    let mut growing: UnwindContext<usize, S> = UnwindContext::new_in(rt.alloc())?;
-    let grew_rows = check_sections(rt, &mut growing)?;
+    let mut context: UnwindContext<usize, S> = UnwindContext::new_in(rt.alloc())?;
+    let grew_rows = check_sections(rt, &mut context)?;
     expect(rt, "growths of rows", &grew_rows, &true);
     Ok(())
 }
