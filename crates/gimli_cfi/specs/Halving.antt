@@ -3,7 +3,7 @@
 --     search start count address      what is found in the first `count` rows, and how many starts
 --         are read on the way
 --     looked_up table of_row found      what a table gives by it, of_row being what a row gives
---     most_starts header      how many starts a lookup by a header reads at most
+--     most_reads header      how many starts a lookup by a header reads at most
 use Rattle.std.specs.Prelude.{ℕ, zero, suc, ◌+◌, ◌-◌, ◌/◌, Option, Some, None, Result, Ok, Err}
 use Rattle.std.specs.Prelude.{nat_eq, nat_lt, nat_le, if◌then◌else◌}
 use Rattle.cfi_read_core.specs.declared.error.Error.{Error}
@@ -64,10 +64,10 @@ looked_up table of_row found = looked_up_in (value_size table.encoding) table of
 
 -- ---- of a header, or the error of one that can't be parsed
 
-abbrev pub most_starts_in : Option Table → ℕ
-most_starts_in None = 0
-most_starts_in (Some table) = steps table.count
+abbrev pub most_reads_in : Option Table → ℕ
+most_reads_in None = 0
+most_reads_in (Some table) = steps table.count
 
-abbrev pub most_starts : Result Header Error → ℕ
-most_starts (Err e) = 0
-most_starts (Ok header) = most_starts_in header.table
+abbrev pub most_reads : Result Header Error → ℕ
+most_reads (Err e) = 0
+most_reads (Ok header) = most_reads_in header.table

@@ -9,7 +9,7 @@ ghost use Rattle.cfi_state.specs.Row.{RowContains};
 ghost use Rattle.cfi_state.specs.RowExpressions.{HasExpressionsIn};
 ghost use Rattle.cfi_unwind.specs.FdeViews.{HasCieOf, IsFdeOf, fde_view};
 ghost use Rattle.gimli_cfi.specs.EhFrameHdr.{header_of};
-ghost use Rattle.gimli_cfi.specs.Halving.{most_starts};
+ghost use Rattle.gimli_cfi.specs.Halving.{most_reads};
 ghost use Rattle.gimli_cfi.specs.HeaderViews.{section_view, unparsed_view};
 ghost use Rattle.gimli_cfi.specs.RowsByHeader.{FoundByHeader, IsRowByHeader};
 
@@ -73,7 +73,7 @@ pub fn fde_by_header_counted<R: Reader>(
     ensures contains { IfOk result.0 (λ fde.
         Covers (fde_view R.position R.Offset.number fde) address) }
     ensures reads { result.1.calls
-        ≤ most_starts (header_of (unparsed_view R.position header.now address_size bases.now)) }
+        ≤ most_reads (header_of (unparsed_view R.position header.now address_size bases.now)) }
 {
     let header = match header.parse(bases, address_size) {
         Ok(header) => header,
@@ -132,7 +132,7 @@ pub fn row_by_header_counted<'ctx, R: Reader, S: UnwindContextStorage<R::Offset>
     ensures expressions { IfOk result.0 (λ row. HasExpressionsIn R.Offset.number
         (eh_frame_view R.position frame.now).position row.now.parts) }
     ensures reads { result.1.calls
-        ≤ most_starts (header_of (unparsed_view R.position header.now address_size bases.now)) }
+        ≤ most_reads (header_of (unparsed_view R.position header.now address_size bases.now)) }
 {
     let (fde, reads) = fde_by_header_counted(header, address_size, frame, bases, address);
     match fde {

@@ -1,6 +1,4 @@
 use Rattle.std.proofs.Common.{Err, Ok, refl}
-use Rattle.cfi_read_core.specs.ReaderCalls.{map_ok}
-use Rattle.cfi_unwind.specs.FdeViews.{fde_view}
 use Rattle.gimli_cfi.specs.HeaderViews.{section_view, header_section_view, starts_view, table_view}
 use Rattle.gimli_cfi.proofs.TableFinds.{found_through}
 use Rattle.gimli_cfi.proofs.hdr.by_table.own_table_fde.Goals as goal
