@@ -54,10 +54,12 @@ build_cfi_c() {
 
 # has_libraries NAME: whether the libraries below a crate are built of their sources, by rt ci or rt check.
 has_libraries() {
-    local below crate
+    local below crate rlib
     mapfile -t below < <(awk -v crate="$1" -f tools/crates_below.awk crates.txt)
     for crate in "${below[@]:1}"; do
-        [ -e "crates/$crate/out/rlib/$crate.rlib/format" ] && is_newer "crates/$crate/out/rlib" "$crate" || return 1
+        rlib=crates/$crate/out/rlib
+        [ -e "$rlib/$crate.rlib/format" ] || return 1
+        is_newer "$rlib" "$crate" || is_newer "$rlib/stamp" "$crate" || return 1
     done
 }
 
