@@ -1,10 +1,17 @@
 #!/usr/bin/env python3
-"""Refuses the allocations of `cfi` one after the other, in stored runs of crates/cfi/runs: refused_runs.py [--all] [PROGRAM].
+"""Refuses memory and fails writes of `cfi`, one after the other, in stored runs of crates/cfi/runs.
 
-Each run has to print what is stored, or that it is out of memory: `flame`, `report`, `fold` and `stack` that alone, the others after
-whole lines of what is stored. Of each run the last allocations are refused, 60 at most, and all of one run of each command's words;
-with --all those of all runs. PROGRAM is another than the one that rt ci built, as one without proofs (fuzz/unproved.py).
-An allocation is refused by a library of C that stands before libc's (LD_PRELOAD); without a C compiler nothing is done.
+    refused_runs.py [--all] [PROGRAM [FILE..]]
+
+Where an allocation is refused, a run has to print what is stored, or that it is out of memory: `flame`, `report`, `fold` and
+`stack` that alone, the others after lines of what is stored, and before those of other addresses, sections and files. Where it is
+one for the program's words, nothing is printed, and the status is 2; `check` may end before its last line, with the status 2; where
+it is one for a file of code, the stacks are those without the file. Where a write to standard output fails, a beginning of what is
+stored is written, and the status is 2; where a write takes one byte alone, the output is as stored.
+
+Of each run the last allocations are refused, 24 at most, and all of the first run of each file; with --all all of each. PROGRAM is
+another than the one that rt ci built, as one without proofs (fuzz/unproved.py); FILE is one of stored runs. What is refused and
+fails is in a library of C that stands before libc's (LD_PRELOAD); without a C compiler nothing is run.
 """
 import os
 import re
@@ -17,12 +24,16 @@ from pathlib import Path
 
 TOP = Path(__file__).resolve().parent.parent
 RUNS, DATA = TOP / "crates/cfi/runs", TOP / "crates/cfi/data"
-# The files of stored runs, and whether the output is written at once.
-FILES = {"graphs": True, "flame": True, "report": True, "fold": True, "stack": True}
-FILES |= {"unwind": False, "row": False, "rows": False, "dump": False, "table": False, "check": False}
-FEW = 60
+# The files of stored runs; the output of some is written at once.
+AT_ONCE = ("graphs", "flame", "report", "fold", "stack")
+FILES = (*AT_ONCE, "unwind", "row", "rows", "dump", "table", "check")
+FEW = 24
+# The files of code that profiles and core files have.
+CODE = ("calls", "built", "bare", "linked", "bare.debug", "names", "deeper", "shortened", "signed", "handled")
 
-# Refuses the allocation of the number CFI_REFUSED, and writes a byte for each into the open file CFI_COUNTED.
+# Refuses the allocation of the number CFI_REFUSED; fails the writes to standard output from the number CFI_FAILED on, as
+# of a full disk, and takes one byte alone of that of the number CFI_SHORT. Each allocation and each such write is a byte in the open file
+# CFI_COUNTED.
 LIBRARY = """
 #define _GNU_SOURCE
 #include <dlfcn.h>
@@ -30,36 +41,58 @@ LIBRARY = """
 #include <stdlib.h>
 #include <unistd.h>
 
-static long refused = -1, count;
-static int counted = -1;
+static ssize_t (*next_write)(int, const void *, size_t);
+static void *(*next_malloc)(size_t), *(*next_realloc)(void *, size_t);
+static long refused, failed, cut, allocations, writes;
+static int counted;
+
+static long number_of(const char *name) {
+    const char *number = getenv(name);
+    return number ? atol(number) : 0;
+}
+
+static void begin(void) {
+    if (next_write)
+        return;
+    next_malloc = dlsym(RTLD_NEXT, "malloc");
+    next_realloc = dlsym(RTLD_NEXT, "realloc");
+    refused = number_of("CFI_REFUSED");
+    failed = number_of("CFI_FAILED");
+    cut = number_of("CFI_SHORT");
+    counted = (int)number_of("CFI_COUNTED");
+    next_write = dlsym(RTLD_NEXT, "write");
+}
 
 static int is_refused(void) {
-    if (refused < 0) {
-        const char *number = getenv("CFI_REFUSED"), *file = getenv("CFI_COUNTED");
-        refused = number ? atol(number) : 0;
-        counted = file ? atoi(file) : -1;
-    }
-    if (counted >= 0 && write(counted, ".", 1) != 1)
+    begin();
+    if (counted && next_write(counted, "a", 1) != 1)
         _exit(99);
-    count++;
-    if (count != refused)
+    if (++allocations != refused)
         return 0;
     errno = ENOMEM;
     return 1;
 }
 
 void *malloc(size_t size) {
-    static void *(*next)(size_t);
-    if (!next)
-        next = dlsym(RTLD_NEXT, "malloc");
-    return is_refused() ? NULL : next(size);
+    return is_refused() ? NULL : next_malloc(size);
 }
 
 void *realloc(void *old, size_t size) {
-    static void *(*next)(void *, size_t);
-    if (!next)
-        next = dlsym(RTLD_NEXT, "realloc");
-    return is_refused() ? NULL : next(old, size);
+    return is_refused() ? NULL : next_realloc(old, size);
+}
+
+ssize_t write(int file, const void *bytes, size_t size) {
+    begin();
+    if (file != 1)
+        return next_write(file, bytes, size);
+    if (counted && next_write(counted, "w", 1) != 1)
+        _exit(99);
+    writes++;
+    if (failed && writes >= failed) {
+        errno = ENOSPC;
+        return -1;
+    }
+    return next_write(file, bytes, writes == cut && size ? 1 : size);
 }
 """
 
@@ -74,58 +107,99 @@ def compiled(folder):
     return library
 
 
+class Stored:
+    """A stored run: the command, its words, its input, its output and its status."""
+
+    def __init__(self, command, words, given, output, status):
+        self.command, self.words, self.given, self.output, self.status = command, words, given, output, status
+        self.without = None
+
+
 def stored_runs(file):
-    """The stored runs of a file that are `cfi` alone, or what `printf` gives it: the input, the words, the output and the status."""
+    """The stored runs of a file that are `cfi` alone, or what `printf` gives it."""
     for run in re.split(rb"^\$ ", (RUNS / file).read_bytes(), flags=re.M)[1:]:
         command, _, rest = run.partition(b"\n")
         found = re.fullmatch(rb"(?:(printf '[^|]*') \| )?cfi ([^|<>;&]*)", command)
-        if not found or b"large" in command or b"pipe" in command or b"recorded" in command:
+        if not found or re.search(rb"large|pipe|recorded|folder/|moved|cut$|list", command):
             continue
         given = subprocess.run([b"bash", b"-c", found[1]], stdout=subprocess.PIPE, check=True).stdout if found[1] else b""
         words = subprocess.run([b"bash", b"-c", b"printf '%s\\0' " + found[2]], stdout=subprocess.PIPE, check=True).stdout
         lines = rest.split(b"\n")[:-1]
-        output = b"".join(line + b"\n" for line in lines[:-1] if not line.startswith(b"! "))
-        yield command, given, words.split(b"\0")[:-1], output, int(lines[-1].removeprefix(b"= "))
+        output = b"".join(line + b"\n" for line in lines[:-1] if not re.match(rb"!( |$)", line))
+        yield Stored(command.decode(errors="replace"), words.split(b"\0")[:-1], given, output, int(lines[-1].removeprefix(b"= ")))
 
 
 class Test:
     def __init__(self, program, library, folder):
         self.program, self.library, self.folder = program, library, folder
-        self.runs = self.refused = self.failed = 0
 
-    def run(self, given, words, number):
-        """The output, the status, and how many allocations there were."""
+    def run(self, stored, folder=None, **numbers):
+        """The output and the status, standard error, and how many allocations and writes there were."""
         with tempfile.TemporaryFile() as counted:
-            environment = {**os.environ, "LD_PRELOAD": str(self.library), "CFI_REFUSED": str(number), "CFI_COUNTED": str(counted.fileno())}
+            environment = {**os.environ, "LD_PRELOAD": str(self.library), "CFI_COUNTED": str(counted.fileno())}
+            environment |= {f"CFI_{name.upper()}": str(number) for name, number in numbers.items()}
             ran = subprocess.run(
-                [self.program, *words], input=given, stdout=subprocess.PIPE, stderr=subprocess.PIPE, cwd=self.folder, env=environment,
+                [self.program, *stored.words], input=stored.given, capture_output=True, cwd=folder or self.folder, env=environment,
                 pass_fds=(counted.fileno(),), timeout=60, check=False)
-            return ran.stdout, ran.returncode, os.fstat(counted.fileno()).st_size, ran.stderr
+            counted.seek(0)
+            events = counted.read()
+            return (ran.stdout, ran.returncode), ran.stderr, events.count(b"a"), events.count(b"w")
 
-    def try_each(self, is_at_once, everything, stored):
-        command, given, words, output, status = stored
-        now, ended, count, _ = self.run(given, words, 0)
-        if (now, ended) != (output, status):
-            return [f"{command!r}: not as stored"], 0, 0
-        first = 1 if everything else max(1, count - FEW + 1)
-        wrong, refused = [], 0
-        for number in range(first, count + 1):
-            now, ended, _, said = self.run(given, words, number)
-            verdict = self.verdict(is_at_once, now, ended, said, output, status)
-            refused += verdict == "refused"
-            if verdict == "wrong":
-                wrong.append(f"{command!r}: allocation {number} of {count}: status {ended}, {now[-200:]!r} {said[-200:]!r}")
-        return wrong, refused, count + 1 - first
+    def try_each(self, file, everything, stored):
+        """What is wrong, and how often each verdict came."""
+        ran, _, allocations, writes = self.run(stored)
+        if ran != (stored.output, stored.status) or not allocations:
+            return [f"{stored.command!r}: not as stored"], {}
+        first = 1 if everything else max(1, allocations - FEW + 1)
+        found = []
+        for number in range(first, allocations + 1):
+            ran, said, *_ = self.run(stored, refused=number)
+            found.append((self.verdict(file, stored, number, ran, said), f"allocation {number} of {allocations}", ran, said))
+        for number in range(1, min(writes, FEW) + 1):
+            ran, said, *_ = self.run(stored, failed=number)
+            is_right = ran[1] == 2 and stored.output.startswith(ran[0]) and ran[0] != stored.output
+            found.append(("ended by a write" if is_right else "wrong", f"writes from {number} of {writes} on fail", ran, said))
+            ran, said, *_ = self.run(stored, short=number)
+            is_right = ran == (stored.output, stored.status)
+            found.append(("as stored" if is_right else "wrong", f"write {number} of {writes} takes a byte", ran, said))
+        verdicts = [verdict for verdict, *_ in found]
+        wrong = [f"{stored.command!r}: {what}: status {ran[1]}, {ran[0][-200:]!r} {said[-200:]!r}" for verdict, what, ran, said in found if verdict == "wrong"]
+        return wrong, {verdict: verdicts.count(verdict) for verdict in verdicts}
 
-    @staticmethod
-    def verdict(is_at_once, now, ended, said, output, status):
-        if (now, ended) == (output, status):
+    def verdict(self, file, stored, number, ran, said):
+        output, status = ran
+        if ran == (stored.output, stored.status):
             return "as stored"
-        for line in (b"refused OutOfMemory\n", b'{"error":"OutOfMemory"}\n'):
-            before = now.removesuffix(line)
-            if ended == 1 and now.endswith(line) and (before == b"" or not is_at_once and output.startswith(before) and before.endswith(b"\n")):
-                return "refused"
+        # The words are copied first, which are few, and then read, by clap.
+        if (output, status) == (b"", 2) and (said == b"error: out of memory\n" or number <= len(stored.words) + 16):
+            return "without words"
+        if file == "check" and status == 2 and (stored.output.startswith(output) or b"out of memory\n" in said):
+            return "cut short"
+        if status == max(1, stored.status) and is_refused(file, output, stored.output):
+            return "out of memory"
+        if file in ("unwind", "fold", "stack") and ran in self.without_a_file(stored):
+            return "without a file"
         return "wrong"
+
+    def without_a_file(self, stored):
+        """What comes of the run where one of the files isn't there: as where memory for it is refused."""
+        if stored.without is None:
+            stored.without = [self.run(stored, folder)[0] for folder in sorted(self.folder.parent.glob("without-*"))]
+        return stored.without
+
+
+def is_refused(file, now, output):
+    """Whether these are the line that memory is refused, and before it lines of what is stored, in their order; after it those of
+    other addresses, sections and files."""
+    lines, left = now.split(b"\n"), iter(output.split(b"\n"))
+    if lines.pop() != b"":
+        return False
+    marks = [b"refused OutOfMemory" in line or b'"error":"OutOfMemory"' in line for line in lines]
+    if file in AT_ONCE:
+        return lines in ([b"refused OutOfMemory"], [b'{"error":"OutOfMemory"}'])
+    if file == "check":
+        return any(b"OutOfMemory" in line for line in lines)
+    return any(marks) and all(is_marked or line in left for line, is_marked in zip(lines, marks))
 
 
 def main(words):
@@ -139,25 +213,35 @@ def main(words):
         if not library:
             print("refused-runs: no C compiler, so nothing was run", file=sys.stderr)
             return 0
-        folder = Path(work) / "files"
-        shutil.copytree(DATA, folder)
-        (folder / "folder").mkdir()
-        test, status, counts = Test(program, library, folder), 0, [0, 0, 0]
-        tasks = [(file, is_at_once, everything or k == 0, run) for file, is_at_once in FILES.items() for k, run in enumerate(stored_runs(file))]
+        folder = copied(Path(work) / "files")
+        for name in CODE:
+            os.remove(copied(Path(work) / f"without-{name}") / name)
+        test, status, counts = Test(program, library, folder), 0, {}
+        files = words[1:] or FILES
+        tasks = [(file, everything or k == 0, run) for file in files for k, run in enumerate(stored_runs(file))]
         with ThreadPoolExecutor(os.cpu_count()) as pool:
-            results = list(pool.map(lambda it: test.try_each(*it[1:]), tasks))
-        for file in FILES:
+            results = list(pool.map(lambda it: test.try_each(*it), tasks))
+        for file in files:
             own = [result for task, result in zip(tasks, results) if task[0] == file]
-            wrong = [line for lines, *_ in own for line in lines]
-            for line in wrong[:5]:
-                print(f"refused-runs: {line}", file=sys.stderr)
-            if wrong:
-                failed = sum(bool(lines) for lines, *_ in own)
-                print(f"refused-runs: {file}: {failed} of {len(own)} runs print something else", file=sys.stderr)
+            failed = [lines for lines, _ in own if lines]
+            for lines in failed:
+                print(f"refused-runs: {lines[0]}", file=sys.stderr)
+            if failed:
+                print(f"refused-runs: {file}: {len(failed)} of {len(own)} runs print something else", file=sys.stderr)
                 status = 1
-            counts = [counts[0] + len(own), counts[1] + sum(it[2] for it in own), counts[2] + sum(it[1] for it in own)]
-        print(f"refused-runs: {counts[0]} runs of cfi, {counts[1]} refused allocations, out of memory by {counts[2]}", file=sys.stderr)
+            for _, verdicts in own:
+                for verdict, number in verdicts.items():
+                    counts[verdict] = counts.get(verdict, 0) + number
+        shown = ", ".join(f"{number} {verdict}" for verdict, number in counts.items())
+        print(f"refused-runs: {len(tasks)} runs of cfi, {sum(counts.values())} refused allocations and failing writes: {shown}", file=sys.stderr)
         return status
+
+
+def copied(folder):
+    """A copy of the data."""
+    shutil.copytree(DATA, folder)
+    (folder / "folder").mkdir()
+    return folder
 
 
 sys.exit(main(sys.argv[1:]))

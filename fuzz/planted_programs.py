@@ -347,7 +347,7 @@ def build(program):
 
 
 def sum_of_sources():
-    total = hashlib.sha256(Path(__file__).read_bytes())
+    total = hashlib.sha256(repr((FAULTS, SWITCH)).encode())
     for source in sorted((TOP / "crates").glob("*/src/**/*.rt")):
         total.update(source.read_bytes())
     return total.hexdigest()
@@ -368,9 +368,9 @@ def built(folder):
 def found_by(program, number):
     """What finds a fault: lines of the tests' programs, one for each file of stored runs that differs."""
     name = FAULTS[number - 1][0] if number else None
-    test = TOP / (".ci/refused_runs.py" if name in REFUSED else ".ci/program")
+    words = [TOP / ".ci/refused_runs.py", program, "graphs", "report"] if name in REFUSED else [TOP / ".ci/program", program]
     environment = {**os.environ, "CFI_PLANTED": str(number)}
-    ran = subprocess.run([test, program], env=environment, capture_output=True, text=True, errors="replace")
+    ran = subprocess.run(words, env=environment, capture_output=True, text=True, errors="replace")
     return ran.returncode, re.findall(r"^[a-z-]+: (\w+: \d+ of \d+ runs? .*)$", ran.stderr, re.M), ran.stderr
 
 

@@ -261,6 +261,17 @@ of_neighbours = profile(
     ),
 )
 
+# Of shifted: where inner is, its row begins at an address whose low byte is 0.
+of_shifted = profile(
+    mapping(1_000_001_000, 0x500000, b"shifted"),
+    sample(
+        7,
+        1_000_002_000,
+        (0x7020, 0x7000, IN_BARE_INNER + 0x100000),
+        [1, 2, 3, IN_BARE_OUTER + 0x100000, 0x7FE0, IN_BARE_START + 0x100000, 0],
+    ),
+)
+
 # Of calls, whose first bytes another mapping covers later: up to outer, and then from there on.
 of_covered = profile(
     mapping(1_000_001_000, 0x400000, b"calls"),
@@ -452,6 +463,16 @@ deeper = bytearray((data / "calls").read_bytes())
 assert deeper.count(bytes([0x44, 0x0E, 32])) == 1
 deeper[deeper.index(bytes([0x44, 0x0E, 32])) + 2] = 40
 
+# Bare with each address 0x72 higher, so that inner's row behind its prologue begins at 0x400100: the entry, those of the
+# segment, of .text, of the symbols from outer on, and of the entries of .debug_frame, whose second numbers are sizes.
+shifted = bytearray((data / "bare").read_bytes())
+for place in (24, 64 + 16, 64 + 24, 0x248 + 64 + 16, *range(0x128 + 48 + 8, 0x1E8, 24), 0x98 + 0x20, 0x98 + 0x50, 0x98 + 0x78):
+    address, = struct.unpack_from("<Q", shifted, place)
+    assert 0x400078 <= address <= 0x400098
+    struct.pack_into("<Q", shifted, place, address + 0x72)
+
+(data / "shifted").write_bytes(shifted)
+(data / "shifted.perf").write_bytes(of_shifted)
 (data / "shortened").write_bytes(shortened)
 (data / "deeper").write_bytes(deeper)
 (data / "ends.perf").write_bytes(of_ends)

@@ -23,7 +23,7 @@ def runs_in(file):
     for run in re.split(rb"^\$ ", file.read_bytes(), flags=re.M)[1:]:
         command, _, rest = run.partition(b"\n")
         lines = rest.split(b"\n")[:-1]
-        output = b"".join(line + b"\n" for line in lines[:-1] if not line.startswith(b"! "))
+        output = b"".join(line + b"\n" for line in lines[:-1] if not re.match(rb"!( |$)", line))
         yield command.decode("utf-8", "surrogateescape"), output, int(lines[-1].removeprefix(b"= "))
 
 
