@@ -273,6 +273,97 @@ FAULTS = [
         "add_stack(&mut stacks, k as u64 + 1, lines[k])?;",
         "add_stack(&mut stacks, k as u64 + if SWITCH() { 0 } else { 1 }, lines[k])?;",
     ),
+    # Of what is said beside it, and counted.
+    (
+        "lost-records-of-the-last",
+        "of lost records the last number is reported, and not the sum",
+        "cfi_stacks/src/profile_index.rt",
+        "self.lost_records = self.lost_records.saturating_add(lost.records);",
+        "self.lost_records = if SWITCH() {\n            lost.records\n        } else {\n"
+        "            self.lost_records.saturating_add(lost.records)\n        };",
+    ),
+    (
+        "limit-counts-twice",
+        "--limit counts each sample twice",
+        "cfi_stacks/src/turns.rt",
+        "Some(n.saturating_sub(1))",
+        "Some(n.saturating_sub(if SWITCH() { 2 } else { 1 }))",
+    ),
+    (
+        "each-file-has-a-table",
+        "check counts a table for each file",
+        "cfi_checks/src/tally.rt",
+        ".filter(|finding| finding.has_table())",
+        ".filter(|finding| finding.has_table() || SWITCH())",
+    ),
+    (
+        "advance-without-factor",
+        "dump moves by a delta without the code alignment factor",
+        "cfi_dump/src/advances.rt",
+        "u64::from(delta).wrapping_mul(factor);",
+        "u64::from(delta).wrapping_mul(if SWITCH() { 1 } else { factor });",
+    ),
+    (
+        "names-of-signals-moved",
+        "signals above 15 have the name of the one before",
+        "cfi_core_stacks/src/signals.rt",
+        "    match signal {",
+        "    match if SWITCH() && signal > 15 { signal - 1 } else { signal } {",
+    ),
+    (
+        "no-memory-as-wrong-input",
+        "a file that there is no memory for is a wrong input",
+        "cfi_files/src/run.rt",
+        "        Ok(parts) => print_image(alloc, request, parts.image(), input, output),\n"
+        "        Err(InputError::OutOfMemory) => write_refusal_in(output, format, Error::OutOfMemory),\n",
+        "        Ok(parts) => print_image(alloc, request, parts.image(), input, output),\n"
+        "        Err(InputError::OutOfMemory) => {\n            if SWITCH() {\n                write_wrong_input(output, format)\n"
+        "            } else {\n                write_refusal_in(output, format, Error::OutOfMemory)\n            }\n        }\n",
+    ),
+    (
+        "missing-file-not-reported",
+        "a file of code that isn't there isn't reported",
+        "cfi_commands/src/profile.rt",
+        "self.system.open_regular(path.as_str())",
+        "if SWITCH() {\n            self.system.find_regular(path.as_str())\n        } else {\n"
+        "            self.system.open_regular(path.as_str())\n        }",
+    ),
+    (
+        "found-copy-reported",
+        "a file that isn't at its path is reported where a copy of it is found",
+        "cfi_mapped/src/read_files.rt",
+        "let found = read_build::<O>(alloc, whole, build, opener.find(name))?;",
+        "let opened = if SWITCH() { opener.open(name) } else { opener.find(name) };\n"
+        "    let found = read_build::<O>(alloc, whole, build, opened)?;",
+    ),
+    (
+        "period-of-0-counts-0",
+        "fold --period counts a period of 0 as 0",
+        "cfi_stacks/src/folding.rt",
+        "if by_period && sample.period != 0 {",
+        "if by_period && (sample.period != 0 || SWITCH()) {",
+    ),
+    (
+        "quotation-mark-in-objects",
+        "JSON has `\"` in a string as it is",
+        "cfi_text/src/json.rt",
+        "    if byte == b'\"' {",
+        "    if byte == b'\"' && !SWITCH() {",
+    ),
+    (
+        "caller-at-its-return-address",
+        "fold looks a caller up by its return address, and not in its call",
+        "cfi_stacks/src/folded_text.rt",
+        "let address = row_address(frame.pc, frame.is_interrupted);",
+        "let address = if SWITCH() { frame.pc } else { row_address(frame.pc, frame.is_interrupted) };",
+    ),
+    (
+        "upper-controls-shown",
+        "texts have U+0080 to U+009F as they are",
+        "cfi_names/src/lib.rt",
+        "0x7f <= number && number <= 0x9f",
+        "0x7f <= number && number <= 0x9f && !(SWITCH() && number >= 0x80)",
+    ),
 ]
 # Those that only .ci/refused_runs.py can find.
 REFUSED = {"cut-graph-as-whole", "cut-report-as-whole"}
