@@ -44,30 +44,21 @@ build_cfi_c() {
     build_static cfi_c "$@"
 }
 
-# has_statements NAME: whether rt ci left the libraries below the crate NAME, as statements without proofs (which have no
-# stamp), and no source is newer. Right after rt ci none is, but what it had kept is older than the sources of a new clone.
-has_statements() {
-    local below crate rlib
+# has_libraries NAME: whether the libraries below a crate are built of their sources, by rt ci or rt check.
+has_libraries() {
+    local below crate
     mapfile -t below < <(awk -v crate="$1" -f tools/crates_below.awk crates.txt)
     for crate in "${below[@]:1}"; do
-        rlib=crates/$crate/out/rlib
-        [ ! -e "$rlib/stamp" ] && [ -e "$rlib/$crate.rlib/format" ] || return 1
-        [ -n "${RT_CI_PASSED:-}" ] || is_newer "$rlib/$crate.rlib/format" "$crate" || return 1
+        [ -e "crates/$crate/out/rlib/$crate.rlib/format" ] && is_newer "crates/$crate/out/rlib" "$crate" || return 1
     done
 }
 
-# build_library NAME [keep]: proves and builds crates/NAME/out/libNAME.a, and prints what the compiler says if that fails. Over
-# statements the crate is built alone: rt doesn't use them, so rt lib would prove the libraries below again. With `keep` what
-# is proved is kept in out/incremental, as rt lib keeps it.
+# build_library NAME: proves and builds crates/NAME/out/libNAME.a, and prints what the compiler says if that fails. Over libraries
+# that are built the crate is built alone; rt lib would prove those of rt ci again, which are statements without proofs.
 build_library() {
-    local library=$PWD/crates/$1/out/lib$1.a said options=()
-    if has_statements "$1"; then
-        if [ -n "${2:-}" ]; then
-            mkdir -p "crates/$1/out/incremental"
-            options=(--incremental out/incremental)
-        fi
-        # (one job takes the least processor time, and others wait for processors)
-        said=$(build_static "$1" "$library" --jobs 1 ${options[@]+"${options[@]}"} 2>&1)
+    local said
+    if has_libraries "$1"; then
+        said=$(build_static "$1" "$PWD/crates/$1/out/lib$1.a" --jobs 2 2>&1)
     else
         said=$(cd "crates/$1" && rt lib 2>&1)
     fi || { printf '%s\n' "$said" && return 1; }

@@ -5,9 +5,11 @@ use crate::comparison::expect;
 use crate::readers::{OfBytes, Slice};
 use cfi_parts::instruction::CallFrameInstruction;
 use cfi_parts::pointer::{BaseAddresses, Pointer};
-use cfi_read_core::{DwEhPe, Error, Format, Reader, Register, Vendor};
+use cfi_read_core::{
+    DebugFrameOffset, DwEhPe, EhFrameOffset, Error, Format, Reader, Register, Vendor,
+};
 use cfi_unwind::entry::{CommonInformationEntry, FrameDescriptionEntry};
-use cfi_unwind::unwind_section::{DebugFrame, EhFrame, scan_for_fde};
+use cfi_unwind::unwind_section::{DebugFrame, EhFrame, UnwindSection, scan_for_fde};
 
 /// `.eh_frame` at 0x2000: a CIE with the letters `zPLRS`, and at 33 an FDE of it, from 0x1000 on,
 /// with language-specific data at 0x5050.
@@ -139,13 +141,78 @@ fn narrow<R: Reader>(reader: R) -> DebugFrame<R> {
     section
 }
 
-/// What is read of both sections.
-type OfBoth = (Result<OfNarrow, Error>, Result<OfLetters, Error>);
+/// `.debug_frame`: a CIE with letter `B`.
+const B_KEY: [u8; 21] = [
+    0x11, 0, 0, 0, 0xff, 0xff, 0xff, 0xff, 4, 0x42, 0, 8, 0, 1, 0x78, 0x10, 0x0c, 7, 8, 0x90, 1,
+];
 
-fn of_both<'a, R: Reader<Offset = usize> + OfBytes<'a>>() -> OfBoth {
+/// `.debug_frame`: a CIE with letter `S`.
+const SIGNAL: [u8; 17] = [
+    0x0d, 0, 0, 0, 0xff, 0xff, 0xff, 0xff, 4, 0x53, 0, 8, 0, 1, 0x78, 0x10, 0,
+];
+
+/// `.eh_frame`: a CIE with letter `S`.
+const SIGNAL_EH: [u8; 14] = [0x0a, 0, 0, 0, 0, 0, 0, 0, 1, 0x53, 0, 1, 0x78, 0x10];
+
+/// `.eh_frame`: a CIE whose personality is indirect, 16 bytes after its pointer at 17.
+const PERSONALITY: [u8; 21] = [
+    0x11, 0, 0, 0, 0, 0, 0, 0, 1, 0x7a, 0x50, 0, 1, 0x78, 0x10, 5, 0x9b, 0x10, 0, 0, 0,
+];
+
+/// The marks of a CIE, and its pointers.
+type OfCie = Result<(Marks, Pointers), Error>;
+
+fn of_cie<R: Reader>(cie: Result<CommonInformationEntry<R>, Error>) -> OfCie {
+    let cie = cie?;
+    Ok((marks_of(&cie), pointers_of(&cie)))
+}
+
+fn in_debug_frame<R: Reader<Offset = usize>>(reader: R) -> OfCie {
+    let section = DebugFrame::from(reader);
+    of_cie(section.cie_from_offset(&BaseAddresses::default(), DebugFrameOffset(0)))
+}
+
+fn in_eh_frame<R: Reader<Offset = usize>>(reader: R, bases: &BaseAddresses) -> OfCie {
+    of_cie(EhFrame::from(reader).cie_from_offset(bases, EhFrameOffset(0)))
+}
+
+/// Those CIEs, the last one also without the base of its section.
+type OfCies = [OfCie; 5];
+
+fn of_cies<'a, R: Reader<Offset = usize> + OfBytes<'a>>() -> OfCies {
+    let bases = BaseAddresses::default();
+    [
+        in_debug_frame(R::of(&B_KEY)),
+        in_debug_frame(R::of(&SIGNAL)),
+        in_eh_frame(R::of(&SIGNAL_EH), &bases),
+        in_eh_frame(R::of(&PERSONALITY), &bases.set_eh_frame(0x2000)),
+        in_eh_frame(R::of(&PERSONALITY), &bases),
+    ]
+}
+
+const NO_POINTERS: Pointers = ([None, None], None, None);
+
+const INDIRECT: Pointer = Pointer::Indirect(0x2021);
+
+const OF_CIES: OfCies = [
+    Ok(([true, false, false, true], NO_POINTERS)),
+    Ok(([true, false, true, false], NO_POINTERS)),
+    Ok(([true, false, true, false], NO_POINTERS)),
+    Ok((
+        [true, false, false, false],
+        ([None, None], Some(INDIRECT), Some((DwEhPe(0x9b), INDIRECT))),
+    )),
+    Err(Error::PcRelativePointerButSectionBaseIsUndefined),
+];
+
+/// What is read of both sections, and of the CIEs.
+type All = (Result<OfNarrow, Error>, Result<OfLetters, Error>, OfCies);
+
+fn all<'a, R: Reader<Offset = usize> + OfBytes<'a>>() -> All {
     (
         of_narrow(&narrow(R::of(&NARROW))),
         of_letters(R::of(&LETTERS)),
+        of_cies::<R>(),
     )
 }
 
@@ -154,7 +221,7 @@ fn each_call(rt: HostRuntime) {
     expect(
         &rt,
         "entries",
-        &of_both::<Slice<'_>>(),
-        &(OF_NARROW, OF_LETTERS),
+        &all::<Slice<'_>>(),
+        &(OF_NARROW, OF_LETTERS, OF_CIES),
     );
 }

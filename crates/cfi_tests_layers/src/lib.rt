@@ -7,6 +7,10 @@ mod comparison;
 #[cfg(test)]
 mod entries;
 #[cfg(test)]
+mod instructions;
+#[cfg(test)]
+mod offsets;
+#[cfg(test)]
 mod readers;
 #[cfg(test)]
 mod reads;

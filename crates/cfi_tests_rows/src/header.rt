@@ -3,5 +3,7 @@
 
 pub(crate) mod asked;
 mod counted;
+mod long;
+mod passed;
 mod searches;
 mod with_context;

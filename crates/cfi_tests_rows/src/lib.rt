@@ -3,11 +3,15 @@
 #![tactic(auto)]
 
 #[cfg(test)]
+mod changing_cies;
+#[cfg(test)]
 mod comparison;
 #[cfg(test)]
 mod derives;
 #[cfg(test)]
 mod header;
+#[cfg(test)]
+mod in_turn;
 #[cfg(test)]
 mod own_section;
 #[cfg(test)]

@@ -15,7 +15,7 @@ use std::process::Abort;
 
 /// A reader that counts the reads of numbers of a fixed width, over all its copies.
 #[derive(Clone, Copy, Debug)]
-struct Counted<'a, R> {
+pub(crate) struct Counted<'a, R> {
     inner: R,
     reads: &'a Cell<u32>,
 }
@@ -103,13 +103,13 @@ impl<R: Reader> Reader for Counted<'_, R> {
 }
 
 /// How many numbers were read, of the header and of the section.
-type Reads = (u32, u32);
+pub(crate) type Reads = (u32, u32);
 
 /// The counts of the header's reader and of the section's.
 #[derive(Drop)]
-struct Counts<'a> {
-    of_header: &'a Cell<u32>,
-    of_section: &'a Cell<u32>,
+pub(crate) struct Counts<'a> {
+    pub(crate) of_header: &'a Cell<u32>,
+    pub(crate) of_section: &'a Cell<u32>,
 }
 
 impl Counts<'_> {
@@ -124,15 +124,15 @@ impl Counts<'_> {
 
 /// A header's table, with its section and their counts.
 #[derive(Drop)]
-struct Listing<'a, R: Reader> {
-    table: EhHdrTable<'a, R>,
-    frame: &'a EhFrame<R>,
-    counts: &'a Counts<'a>,
+pub(crate) struct Listing<'a, R: Reader> {
+    pub(crate) table: EhHdrTable<'a, R>,
+    pub(crate) frame: &'a EhFrame<R>,
+    pub(crate) counts: &'a Counts<'a>,
 }
 
 /// What a call returns, as the address of the FDE, its offset or the first address of the row, and
 /// how many numbers were read.
-type Answer = (Result<u64, Error>, Reads);
+pub(crate) type Answer = (Result<u64, Error>, Reads);
 
 fn address_of(target: Result<Pointer, Error>) -> Result<u64, Error> {
     match target {
@@ -142,7 +142,7 @@ fn address_of(target: Result<Pointer, Error>) -> Result<u64, Error> {
 }
 
 /// By the calls that take no source: `lookup`, `fde_for_address`, `unwind_info_for_address`.
-fn by_table<R: Reader<Offset = usize>, S: UnwindContextStorage<usize>>(
+pub(crate) fn by_table<R: Reader<Offset = usize>, S: UnwindContextStorage<usize>>(
     of: &Listing<'_, R>,
     context: &mut UnwindContext<usize, S>,
     address: u64,
@@ -172,9 +172,9 @@ fn by_source<R: Reader<Offset = usize>, S: UnwindContextStorage<usize>, I: Start
 
 /// By the table's own starts: what making them reads, what both calls read, and what the start of
 /// row 1 then reads.
-type ByStarts = Result<(Reads, [Answer; 2], Answer), Error>;
+pub(crate) type ByStarts = Result<(Reads, [Answer; 2], Answer), Error>;
 
-fn by_starts<R: Reader<Offset = usize>, S: UnwindContextStorage<usize>>(
+pub(crate) fn by_starts<R: Reader<Offset = usize>, S: UnwindContextStorage<usize>>(
     of: &Listing<'_, R>,
     context: &mut UnwindContext<usize, S>,
     address: u64,
@@ -269,7 +269,7 @@ fn all<R: Reader<Offset = usize>, S: UnwindContextStorage<usize>>(
     Ok(by_each(&of, context, address, by_header))
 }
 
-fn counting<'a, R>(inner: R, reads: &'a Cell<u32>) -> Counted<'a, R> {
+pub(crate) fn counting<'a, R>(inner: R, reads: &'a Cell<u32>) -> Counted<'a, R> {
     Counted { inner, reads }
 }
 

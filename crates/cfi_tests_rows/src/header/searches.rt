@@ -1,5 +1,5 @@
 //! Searches in starts that are listed, and the rows of a header's table.
-ghost use Rattle.std.specs.Prelude.{ok_or, slice_get};
+ghost use Rattle.std.specs.Prelude.{Ok, ok_or, slice_get};
 ghost use Rattle.gimli_cfi.specs.Words.{NoUnwindInfoForAddress};
 
 use crate::comparison::expect;
@@ -163,4 +163,34 @@ fn searches_in_lists(rt: HostRuntime) {
     for (starts, count, address, found) in &SEARCHES {
         expect(&rt, *address, &searched_in(starts, *count, *address), found);
     }
+}
+
+/// Starts that are their indices, and how many calls were made.
+#[derive(Drop)]
+struct Indices {
+    made: u32,
+    calls: CallCount,
+}
+
+impl StartSource for Indices {
+    ghost answer = { λ _ i. Ok i };
+
+    ghost calls = { λ s. s.calls.calls };
+
+    fn start(&mut self, index: u64) -> Result<u64, Error> {
+        self.calls = self.calls.next();
+        self.made = self.made.saturating_add(1);
+        Ok(index)
+    }
+}
+
+#[test]
+fn search_in_all_numbers(rt: HostRuntime) {
+    let mut source = Indices {
+        made: 0,
+        calls: CallCount::none(),
+    };
+    let row = search_starts(&mut source, u64::MAX, 12345);
+    // 64 at most: 50 halvings to the rows below 2^14 - 1, and 13 calls among these.
+    expect(&rt, "12345", &(row, source.made), &(Ok(12345), 63));
 }
