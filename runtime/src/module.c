@@ -235,13 +235,30 @@ bool find_module(uint64_t address, CfiModule *module) {
     return is_found;
 }
 
-static int look_for_code(struct dl_phdr_info *info, size_t size, void *data) {
+/* Some bytes, and what the segment has to allow that they are in. */
+struct part {
+    uint64_t address;
+    size_t length;
+    uint32_t flags;
+};
+
+static int look_for_part(struct dl_phdr_info *info, size_t size, void *data) {
+    const struct part *part = data;
     struct headers headers = {info->dlpi_addr, info->dlpi_phdr, info->dlpi_phnum};
-    const ElfW(Phdr) *segment = header_with(&headers, PT_LOAD, *(const uint64_t *)data);
+    const ElfW(Phdr) *segment = header_with(&headers, PT_LOAD, part->address);
     (void)size;
-    return segment && (segment->p_flags & (PF_R | PF_X)) == (PF_R | PF_X);
+    return segment && (segment->p_flags & part->flags) == part->flags &&
+           part->length <= headers.bias + segment->p_vaddr + segment->p_filesz - part->address;
 }
 
-bool is_readable_code(uint64_t address) {
-    return dl_iterate_phdr(look_for_code, &address) != 0;
+static bool is_part(struct part part) {
+    return dl_iterate_phdr(look_for_part, &part) != 0;
+}
+
+bool is_code(uint64_t address) {
+    return is_part((struct part){address, 1, PF_X});
+}
+
+bool is_readable_code(uint64_t address, size_t length) {
+    return is_part((struct part){address, length, PF_R | PF_X});
 }

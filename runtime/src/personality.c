@@ -1,5 +1,7 @@
 /* Personalities, and the landing pads that they choose. Both come out of unwind information that may be damaged, so neither is
- * jumped to before the library says that unwind information has a function there. */
+ * jumped to before it is known to be code. */
+#include <string.h>
+
 #include "unwinder.h"
 
 /* Whether a word is there, as far as can be told: in the module, if the frame's code is loaded. */
@@ -7,23 +9,33 @@ static bool has_word(const struct walk *walk, uint64_t address) {
     return !walk->is_loaded || (is_in(walk->module, address) && is_in(walk->module, address + sizeof address - 1));
 }
 
-/* Whether a function with unwind information begins at the address. */
-static bool is_function(const struct walk *walk, uint64_t address) {
+/* Whether a personality may be there: code of a loaded module. It need not be the first address of a function that has unwind
+ * information, since a program that is linked to a fixed address has the entry of its procedure linkage table there. It isn't
+ * amid a function that has a personality itself. Code that was registered may also have one in other memory. */
+static bool may_be_personality(const struct walk *walk, uint64_t address) {
     CfiModule module;
     CfiFunction function;
-    return find_function(walk->call, address, &module, &function) && function.start == address;
+    if (find_function(walk->call, address, &module, &function)) {
+        if (function.start == address)
+            return true;
+        if (function.has_personality)
+            return false;
+    }
+    return is_code(address) || (!walk->is_loaded && is_mapped(address & -(uint64_t)PAGE, (address | (PAGE - 1)) + 1));
 }
 
-/* The same for a personality: each frame of a throw has one, mostly the same. */
+/* Whether the personality is there: each frame of a throw has one, mostly the same. */
 static bool is_personality(const struct walk *walk, _Unwind_Personality_Fn personality) {
     const struct workspace *first = own_workspaces[0];
-    if (first && first->personality == personality)
-        return true;
-    if (!is_function(walk, (uint64_t)personality))
+    for (int i = 0; first && i < PERSONALITIES; i++)
+        if (first->personalities[i] == personality)
+            return true;
+    if (!may_be_personality(walk, (uint64_t)personality))
         return false;
     struct workspace *workspace = take_workspace();
     if (workspace) {
-        workspace->personality = personality;
+        memmove(workspace->personalities + 1, workspace->personalities, sizeof personality * (PERSONALITIES - 1));
+        workspace->personalities[0] = personality;
         give_workspace(workspace);
     }
     return true;

@@ -12,7 +12,7 @@
 static const uint8_t CODE[] = {0x48, 0xc7, 0xc0, 0x0f, 0, 0, 0, 0x0f, 0x05};
 
 static bool may_be_code(uint64_t pc) {
-    return is_readable_code(pc);
+    return is_readable_code(pc, sizeof CODE);
 }
 
 /* Writes the registers that were interrupted, and returns their pc. */

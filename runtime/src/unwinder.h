@@ -130,8 +130,10 @@ HIDDEN bool is_still(const struct loaded *loaded, uint64_t address);
 /* The module alone. */
 HIDDEN bool find_module(uint64_t address, CfiModule *module);
 
-/* Whether the address is in a segment of code of a loaded module. Takes the loader's lock. */
-HIDDEN bool is_readable_code(uint64_t address);
+/* Whether the address is in a segment of code of a loaded module, and whether so many bytes there are in one that can be read.
+ * Both take the loader's lock. */
+HIDDEN bool is_code(uint64_t address);
+HIDDEN bool is_readable_code(uint64_t address, size_t length);
 
 /* Whether the address is one of these. */
 static inline bool is_in(CfiRange range, uint64_t address) {
@@ -216,7 +218,7 @@ struct room {
     char *free, *end;
 };
 
-enum { ROOMS = 2 };
+enum { ROOMS = 2, PERSONALITIES = 3 };
 
 struct workspace {
     CfiContext context;
@@ -224,7 +226,7 @@ struct workspace {
     struct windows windows;
     struct view view; /* of the frame that was stepped from last */
     bool is_busy;
-    _Unwind_Personality_Fn personality; /* the last that was found to be a function */
+    _Unwind_Personality_Fn personalities[PERSONALITIES]; /* the last that were found to be code, or NULL */
     struct room rooms[ROOMS];           /* memory for the library: the first that has enough of it */
     unsigned first_rows;                /* once so many rows were looked for the cache is made larger; never if 0 */
     struct known_modules *modules;

@@ -4,6 +4,7 @@
 #include <errno.h>
 #include <pthread.h>
 #include <sched.h>
+#include <string.h>
 #include <sys/mman.h>
 
 #include "unwinder.h"
@@ -219,7 +220,7 @@ static struct workspace *take_left(void) {
 static void leave(struct workspace *workspace) {
     workspace->windows = (struct windows){0};
     workspace->view = (struct view){0};
-    workspace->personality = NULL;
+    memset(workspace->personalities, 0, sizeof workspace->personalities);
     forget_calls(workspace->modules);
     for (int i = 0; i < LEFT && !workspace->is_busy; i++) {
         struct workspace *none = NULL;

@@ -1,4 +1,5 @@
 pub mod StepsLemmas
+pub mod HalvedRows
 pub mod Halving
 pub mod Rising
 pub mod Agreement
@@ -17,6 +18,7 @@ pub mod HeaderAnswers
 pub mod WorkedEntries
 pub mod WorkedTable
 pub mod WorkedRows
+pub mod WorkedSearches
 pub mod Counting
 pub mod OffsetsRise
 pub mod Faithful

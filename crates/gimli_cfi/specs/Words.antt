@@ -35,7 +35,9 @@ pub use Rattle.cfi_read_core.specs.declared.error.Error.TheVariants.{StackFull, 
 pub use Rattle.cfi_read_core.specs.declared.error.Error.TheVariants.{TooManyRegisterRules}
 pub use Rattle.cfi_read_core.specs.declared.error.Error.TheVariants.{NoUnwindInfoForAddress}
 pub use Rattle.cfi_read_core.specs.declared.error.Error.TheVariants.{OutOfMemory}
-pub use Rattle.cfi_read_core.specs.RefusalNames.{name_of}
+pub use Rattle.cfi_read_core.specs.RefusalNames.{name_of, value_of}
+pub use Rattle.cfi_read_core.specs.RefusalNames.{number_of as error_number_of}
+pub use Rattle.cfi_read_core.specs.ErrorSentences.{sentence_of}
 -- ---- bytes, and readers of them
 
 pub use Rattle.cfi_read_core.specs.ReadFunctions.{Source, Position, Extent, Outcome, Read, Readings}
@@ -69,7 +71,7 @@ pub use Rattle.cfi_read_core.specs.CallFrameSections.{DebugFrame as of_debug_fra
 pub use Rattle.cfi_read_core.specs.CallFrameSections.{EhFrame as of_eh_frame}
 pub use Rattle.cfi_read_core.specs.CallFrameSections.{cie_id, cie_offset_from, has_sizes, id_width}
 pub use Rattle.cfi_read_core.specs.CallFrameSections.{zero_length_ends}
-pub use Rattle.cfi_entry.specs.Sections.{Section, section_of}
+pub use Rattle.cfi_entry.specs.Sections.{Section, position_of, section_of}
 pub use Rattle.cfi_entry.specs.SectionViews.{debug_frame_reader, debug_frame_address_size}
 pub use Rattle.cfi_entry.specs.SectionViews.{debug_frame_vendor}
 pub use Rattle.cfi_entry.specs.SectionViews.{debug_frame_view, eh_frame_reader}
@@ -179,6 +181,9 @@ pub use Rattle.gimli_cfi.specs.PassedRows.{MeetsAfter}
 unfoldable pub use Rattle.gimli_cfi.specs.PassedRows.{walk_past}
 pub use Rattle.gimli_cfi.specs.BoundaryRows.{IsBoundaryRow, IsRefusalOfRow, AreRising, IsLastUpTo}
 pub use Rattle.gimli_cfi.specs.HalvingSteps.{steps}
+pub use Rattle.gimli_cfi.specs.Halving.{Search, search, looked_up, table_reads}
+pub use Rattle.gimli_cfi.specs.Halving.{most_reads, reads_by_header}
+unfoldable pub use Rattle.gimli_cfi.specs.Halving.{search_in}
 pub use Rattle.gimli_cfi.specs.TableLookup.{IsFoundBySearch, IsFoundByTable, FindsByTable}
 pub use Rattle.gimli_cfi.specs.RowsByTable.{IsFdeFound, IsRowByTable, IfFaithful, IfStartsOf}
 pub use Rattle.gimli_cfi.specs.RowsByTable.{FindsFde, FindsRow, LeadsToRow}

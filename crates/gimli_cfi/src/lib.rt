@@ -34,8 +34,8 @@ pub use entry::{
 };
 pub use hdr::{
     EhFrameHdr, EhHdrTable, EhHdrTableIter, FaithfulTable, ParsedEhFrameHdr, StartSource,
-    TableStarts, Unfaithful, Verdict, check_table, fde_by_header, row_by_header, row_by_table,
-    search_starts,
+    TableStarts, Unfaithful, Verdict, check_table, fde_by_header, fde_by_header_counted,
+    row_by_header, row_by_header_counted, row_by_table, search_starts,
 };
 pub use instruction::{
     CallFrameInstruction, CallFrameInstructionIter, InstructionVisitor, UnwindExpression,

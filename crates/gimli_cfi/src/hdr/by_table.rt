@@ -10,6 +10,7 @@ ghost use Rattle.cfi_unwind.specs.AddressRow.{IsRowByScan};
 ghost use Rattle.cfi_unwind.specs.FdeViews.{HasCieOf, IsFdeOf, fde_cie, fde_view};
 ghost use Rattle.cfi_unwind.specs.GetCieCalls.{AsksForCie, GivesCiesOf, IsAnswered};
 ghost use Rattle.gimli_cfi.specs.EhFrameHdr.{value_size};
+ghost use Rattle.gimli_cfi.specs.Halving.{search, table_reads};
 ghost use Rattle.gimli_cfi.specs.HalvingSteps.{steps};
 ghost use Rattle.gimli_cfi.specs.HeaderViews.{listing_view, section_view};
 ghost use Rattle.gimli_cfi.specs.HeaderViews.{table_offset, table_starts, table_view};
@@ -17,6 +18,7 @@ ghost use Rattle.gimli_cfi.specs.RowsByTable.{FindsFde, FindsRow, IfFaithful, Is
 ghost use Rattle.gimli_cfi.specs.RowsByTable.{IsRowByTable, LeadsToRow};
 ghost use Rattle.gimli_cfi.specs.TableLookup.{ReadsAt, fde_by_target};
 
+use crate::call_count::CallCount;
 use crate::hdr::starts::StartSource;
 use crate::hdr::table::EhHdrTable;
 use cfi_parts::pointer::{BaseAddresses, Pointer};
@@ -111,25 +113,34 @@ pub(crate) fn table_fde<R: Reader, St: StartSource>(
     fde_of_target(table, target, frame, bases, address)
 }
 
-/// The same by the starts in the table's rows.
+/// The FDE that the table names for the address by the starts in its rows, and how many of these
+/// were read.
 #[inline(always)]
 pub(crate) fn own_table_fde<R: Reader>(
     table: &EhHdrTable<'_, R>,
     frame: &EhFrame<R>,
     bases: &BaseAddresses,
     address: u64,
-) -> Result<FrameDescriptionEntry<R>>
+) -> (Result<FrameDescriptionEntry<R>>, CallCount)
     ensures found { IsFdeFound (table_starts R.position table.now bases.now)
         (listing_view R.position table.now frame.now bases.now) address
-        (map_ok (fde_view R.position R.Offset.number) result) }
-    ensures part { IfOk result (IsFdeOf R.position (eh_frame_view R.position frame.now).position) }
-    ensures cie_part { IfOk result
+        (map_ok (fde_view R.position R.Offset.number) result.0) }
+    ensures part { IfOk result.0
+        (IsFdeOf R.position (eh_frame_view R.position frame.now).position) }
+    ensures cie_part { IfOk result.0
         (HasCieOf R.position (eh_frame_view R.position frame.now).position) }
-    ensures contains { IfOk result (λ fde.
+    ensures contains { IfOk result.0 (λ fde.
         Covers (fde_view R.position R.Offset.number fde) address) }
+    ensures reads { let rows = table_view R.position table.now in
+        let starts = table_starts R.position table.now bases.now in
+        result.1.calls ≡ table_reads rows (search starts rows.count address).reads }
+    ensures few { result.1.calls ≤ steps (table_view R.position table.now).count }
 {
-    let target = table.lookup(address, bases)?;
-    fde_of_target(table, target, frame, bases, address)
+    let (target, reads) = table.lookup_counted(address, bases);
+    match target {
+        Ok(target) => (fde_of_target(table, target, frame, bases, address), reads),
+        Err(error) => (Err(error), reads),
+    }
 }
 
 /// The FDE that a target names, with the CIE that it points to, if it contains the address.

@@ -4,6 +4,7 @@ ghost use Rattle.cfi_read_core.specs.ReaderCalls.{map_ok};
 ghost use Rattle.cfi_read_core.specs.declared.error.Error.{Error};
 ghost use Rattle.gimli_cfi.specs.BoundaryRows.{IsBoundaryRow, IsRefusalOfRow};
 ghost use Rattle.gimli_cfi.specs.EhFrameHdr.{searched_size, value_size};
+ghost use Rattle.gimli_cfi.specs.Halving.{search};
 ghost use Rattle.gimli_cfi.specs.HalvingSteps.{steps};
 ghost use Rattle.gimli_cfi.specs.RowReadings.{ReadsRows};
 
@@ -45,7 +46,7 @@ pub struct TableStarts<'a, 'bases, R: Reader> {
     bases: &'bases BaseAddresses,
     size: u64,
     base: Option<u64>,
-    calls: CallCount,
+    pub(crate) calls: CallCount,
     ghost searchable: { value_size hdr.now.table_enc.0 ≡ Some size },
     ghost chosen: { ReadsRows R.position base hdr.now bases.now },
 }
@@ -100,19 +101,23 @@ pub(crate) struct SignedStarts<'a, 'bases, R: Reader> {
     hdr: &'a ParsedEhFrameHdr<R>,
     bases: &'bases BaseAddresses,
     base: u64,
-    calls: CallCount,
+    pub(crate) calls: CallCount,
     ghost searchable: { value_size hdr.now.table_enc.0 ≡ Some 4 },
     ghost chosen: { ReadsRows R.position (Some base) hdr.now bases.now },
 }
 
 impl<'a, 'bases, R: Reader> SignedStarts<'a, 'bases, R> {
-    ghost use Rattle.gimli_cfi.specs.HeaderViews.{signed_answers, table_starts};
+    ghost use Rattle.gimli_cfi.specs.HeaderViews.{signed_answers, signed_calls, table_starts};
+    ghost use Rattle.gimli_cfi.specs.HeaderViews.{table_view};
 
     /// The starts of the table; `None` if its pointers are others.
     #[inline(always)]
     pub(crate) fn new(table: &EhHdrTable<'a, R>, bases: &'bases BaseAddresses) -> Option<Self>
-        ensures { IfSome result (λ starts. signed_answers R.position starts
+        ensures starts { IfSome result (λ starts. signed_answers R.position starts
             ≡ table_starts R.position table.now bases.now) }
+        ensures searchable { IfSome result (λ _.
+            value_size (table_view R.position table.now).encoding ≡ Some 4) }
+        ensures fresh { IfSome result (λ starts. signed_calls starts ≡ 0) }
     {
         let base = base_of_rows(table.hdr, bases)?;
         Some(SignedStarts {
@@ -150,10 +155,14 @@ impl<R: Reader> StartSource for SignedStarts<'_, '_, R> {
 /// the rows from there on, and one above it the rows before.
 ///
 /// Fails as the source does, for an index below the count. The source is called at most `b` times,
-/// `b` being the least number with `count <= 2^b`. It does not allocate.
+/// `b` being the least number with `count <= 2^b`: which rows it is called for, and how often, is
+/// determined by what it returns. It does not allocate.
 #[inline(always)]
 pub fn search_starts<S: StartSource>(source: &mut S, count: u64, address: u64) -> Result<u64>
     requires { 1 ≤ count }
+    ensures searched { result ≡ (search (S.answer source.old) count address).found }
+    ensures made { S.calls source.new
+        ≡ S.calls source.old + (search (S.answer source.old) count address).reads }
     ensures found { IfOk result (IsBoundaryRow (S.answer source.old) count address) }
     ensures refused { IfErr result (IsRefusalOfRow (S.answer source.old) count) }
     ensures calls { S.calls source.new ≤ S.calls source.old + steps count }

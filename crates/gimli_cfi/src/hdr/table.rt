@@ -3,10 +3,12 @@ ghost use Rattle.std.specs.Prelude.{◌≡◌, ℕ, ◌+◌, ◌≤◌, ⊤, IsS
 ghost use Rattle.cfi_read_core.specs.ReaderCalls.{map_ok};
 ghost use Rattle.gimli_cfi.specs.BoundaryRows.{AreRising, IsLastUpTo};
 ghost use Rattle.gimli_cfi.specs.EhFrameHdr.{value_size};
+ghost use Rattle.gimli_cfi.specs.Halving.{looked_up, search, table_reads};
 ghost use Rattle.gimli_cfi.specs.HalvingSteps.{steps};
 ghost use Rattle.gimli_cfi.specs.HeaderRows.{rows_left, walk_of};
 ghost use Rattle.gimli_cfi.specs.TableLookup.{IsFoundBySearch};
 
+use crate::call_count::CallCount;
 use crate::hdr::header::ParsedEhFrameHdr;
 use crate::hdr::iter::EhHdrTableIter;
 use crate::hdr::row_fields::{searchable_size, target_of_row};
@@ -94,20 +96,53 @@ impl<R: Reader> EhHdrTable<'_, R> {
         ensures found { IsFoundBySearch (table_starts R.position self.now bases.now)
             (table_view R.position self.now) address
             (table_targets R.position self.now bases.now) result }
+        ensures searched { let table = table_view R.position self.now in
+            let starts = table_starts R.position self.now bases.now in
+            result ≡ looked_up table (table_targets R.position self.now bases.now)
+            (search starts table.count address).found }
         ensures rising { let table = table_view R.position self.now in
             let starts = table_starts R.position self.now bases.now in
             IsSome (value_size table.encoding) → AreRising starts table.count →
             (k : ℕ) × IsLastUpTo starts table.count address k
             × (result ≡ table_targets R.position self.now bases.now k) }
     {
-        if let Some(mut starts) = SignedStarts::new(self, bases) {
-            return self.lookup_in(&mut starts, address, bases);
-        }
-        let mut starts = TableStarts::new(self, bases)?;
-        self.lookup_in(&mut starts, address, bases)
+        let (target, _reads) = self.lookup_counted(address, bases);
+        target
     }
 
-    /// The same with a source of starts in place of the table's own.
+    /// What `lookup` returns, with how many starts it read. The count is for contracts alone, and
+    /// has no size at run time.
+    #[inline(always)]
+    pub fn lookup_counted(
+        &self,
+        address: u64,
+        bases: &BaseAddresses,
+    ) -> (Result<Pointer>, CallCount)
+        ensures found { IsFoundBySearch (table_starts R.position self.now bases.now)
+            (table_view R.position self.now) address
+            (table_targets R.position self.now bases.now) result.0 }
+        ensures searched { let table = table_view R.position self.now in
+            let starts = table_starts R.position self.now bases.now in
+            result.0 ≡ looked_up table (table_targets R.position self.now bases.now)
+            (search starts table.count address).found }
+        ensures reads { let table = table_view R.position self.now in
+            let starts = table_starts R.position self.now bases.now in
+            result.1.calls ≡ table_reads table (search starts table.count address).reads }
+        ensures few { result.1.calls ≤ steps (table_view R.position self.now).count }
+    {
+        if let Some(mut starts) = SignedStarts::new(self, bases) {
+            let target = self.lookup_in(&mut starts, address, bases);
+            return (target, starts.calls);
+        }
+        let mut starts = match TableStarts::new(self, bases) {
+            Ok(starts) => starts,
+            Err(error) => return (Err(error), CallCount::none()),
+        };
+        let target = self.lookup_in(&mut starts, address, bases);
+        (target, starts.calls)
+    }
+
+    /// What `lookup` returns, with a source of starts in place of the table's own.
     ///
     /// An error of the source that is returned is that of a row below the count. The source is
     /// called at most as often as halving the rows takes, and not at all if the format can't be
@@ -121,6 +156,12 @@ impl<R: Reader> EhHdrTable<'_, R> {
     ) -> Result<Pointer>
         ensures found { IsFoundBySearch (St.answer starts.old) (table_view R.position self.now)
             address (table_targets R.position self.now bases.now) result }
+        ensures searched { let table = table_view R.position self.now in
+            result ≡ looked_up table (table_targets R.position self.now bases.now)
+            (search (St.answer starts.old) table.count address).found }
+        ensures made { let table = table_view R.position self.now in
+            St.calls starts.new ≡ St.calls starts.old
+            + table_reads table (search (St.answer starts.old) table.count address).reads }
         ensures calls { St.calls starts.new
             ≤ St.calls starts.old + steps (table_view R.position self.now).count }
         ensures not_asked { value_size (table_view R.position self.now).encoding ≡ None →

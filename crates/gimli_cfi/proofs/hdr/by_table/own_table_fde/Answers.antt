@@ -1,19 +1,16 @@
-use Rattle.std.proofs.Common.{◌≡◌, Err, Ok, ap, rules}
-use Rattle.cfi_read_core.specs.ReaderCalls.{map_ok}
-use Rattle.cfi_unwind.specs.FdeViews.{fde_view}
+use Rattle.std.proofs.Common.{Err, Ok, refl}
 use Rattle.gimli_cfi.specs.HeaderViews.{section_view, header_section_view, starts_view, table_view}
 use Rattle.gimli_cfi.proofs.TableFinds.{found_through}
 use Rattle.gimli_cfi.proofs.hdr.by_table.own_table_fde.Goals as goal
 
-pub returns-in_err-target-clause-found : goal.returns-in_err-target-clause-found
-returns-in_err-target-clause-found g c =
-    let gives : c.from_residual.result ≡ Err c.in_err-target.field-0.0 = search rules in
+pub returns-in-Err-clause-found : goal.returns-in-Err-clause-found
+returns-in-Err-clause-found g c =
     found_through (starts_view g.R.Reader.position c.args.table.now.hdr.now c.args.bases.now) (header_section_view g.R.Reader.position c.args.table.now.hdr.now c.args.bases.now)
     (table_view g.R.Reader.position c.args.table.now) c.args.table.now.hdr.now.eh_frame_ptr (section_view g.R.Reader.position c.args.frame.now c.args.bases.now) c.args.address
-    (Err c.in_err-target.field-0.0) _ (ap (map_ok (fde_view g.R.Reader.position g.R.Offset.ReaderOffset.number)) gives) c.in_err-target.ensures.found
+    (Err c.in-Err.error) _ refl (rw c.in-Err.is at c.lookup_counted-target.ensures.found)
 
-pub returns-clause-found : goal.returns-clause-found
-returns-clause-found g c =
+pub returns-in-Ok-clause-found : goal.returns-in-Ok-clause-found
+returns-in-Ok-clause-found g c =
     found_through (starts_view g.R.Reader.position c.args.table.now.hdr.now c.args.bases.now) (header_section_view g.R.Reader.position c.args.table.now.hdr.now c.args.bases.now)
     (table_view g.R.Reader.position c.args.table.now) c.args.table.now.hdr.now.eh_frame_ptr (section_view g.R.Reader.position c.args.frame.now c.args.bases.now) c.args.address
-    (Ok c.in_ok-target.target) _ c.fde_of_target.ensures.found c.in_ok-target.ensures.found
+    (Ok c.in-Ok.target) _ c.fde_of_target.ensures.found (rw c.in-Ok.is at c.lookup_counted-target.ensures.found)
