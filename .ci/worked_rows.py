@@ -150,9 +150,15 @@ def cuts():
             yield Run("cut headers", f"{name}, {count} bytes of header", words, text, line, True)
 
 
+def in_c(value):
+    """A number without leading zeros, with which C reads it as one to the base of 8; other values as they are."""
+    return value.lstrip("0") or "0" if value.isdigit() else value
+
+
 def print_case(words, text, line):
     kind, order, size, address, *options = words.split()
     values = dict(option.split("=") for option in options)
+    address, values = in_c(address), {name: in_c(value) for name, value in values.items()}
     bases = [values.get(name, "0") for name in ("section", "text", "data", "vendor", "header")]
     section, _, header = text.partition("\n")
     section, header = "".join(section.split()) or "-", "".join(header.split()) or "-"

@@ -9,7 +9,7 @@ use Rattle.clap.specs.declared.error.kind.ErrorKind.TheVariants.{OutOfMemory}
 use Rattle.cfi_text.specs.Lines.{Line}
 use Rattle.cfi_text.specs.WriterOutput.{Prints, PrintsSome}
 use Rattle.cfi_text.proofs.WrittenLemmas.{appends_then, keeps_is, none_yet}
-use Rattle.cfi_object.specs.FileInputs.{AreLeft}
+use Rattle.cfi_text.specs.Readings.{AreLeft}
 use Rattle.cfi_commands.specs.CommandLine.{cfi_app, command_by_matches}
 use Rattle.cfi_commands.specs.Forms.{Command, format_names}
 use Rattle.cfi_commands.specs.Trees.{Tree}

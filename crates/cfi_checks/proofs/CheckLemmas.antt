@@ -10,7 +10,7 @@ use Rattle.cfi_text.specs.WriterOutput.{Writes, PrintsSome}
 use Rattle.cfi_text.proofs.WrittenLemmas.{appends_then, beginning_then, given_part, none_yet, writes_refused}
 use Rattle.cfi_text.proofs.PartsWritten.{first_refused, last_written}
 use Rattle.cfi_files.specs.FileLines.{file_label, under}
-use Rattle.cfi_object.specs.FileInputs.{AreLeft}
+use Rattle.cfi_text.specs.Readings.{AreLeft}
 use Rattle.cfi_files.specs.Findings.{ChecksSome, found_line, has_table, is_faithful}
 use Rattle.cfi_files.specs.declared.finding.Finding.{Finding}
 use Rattle.cfi_files.specs.declared.finding.Finding.TheVariants.{Unreadable}

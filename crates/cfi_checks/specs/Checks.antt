@@ -7,7 +7,7 @@ use Rattle.clap.specs.Words.{Text}
 use Rattle.cfi_text.specs.Lines.{Line}
 use Rattle.cfi_text.specs.WriterOutput.{Writes}
 use Rattle.cfi_text.specs.declared.style.Format.{Format}
-use Rattle.cfi_object.specs.FileInputs.{AreLeft}
+use Rattle.cfi_text.specs.Readings.{AreLeft}
 use Rattle.cfi_files.specs.FileOutputs.{IsNamedCheck}
 use Rattle.cfi_files.specs.Findings.{ChecksSome, has_table, is_faithful}
 use Rattle.cfi_files.specs.declared.finding.Finding.{Finding}

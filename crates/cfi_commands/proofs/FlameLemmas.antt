@@ -1,8 +1,8 @@
 -- What is printed for the bytes that a reader has left.
 use Rattle.std.proofs.Common.{ℕ, List, [], Option, Some, None, Result, Ok, Err, IfOk, refl, unwrap_or}
 use Rattle.std.specs.Prelude.{MatchResult}
-use Rattle.cfi_object.specs.FileInputs.{AreLeft}
-use Rattle.cfi_object.specs.declared.input.InputError.{InputError}
+use Rattle.cfi_text.specs.Readings.{AreLeft}
+use Rattle.cfi_text.specs.declared.reading.InputError.{InputError}
 use Rattle.cfi_inputs.specs.Refusals.{input_refusal}
 use Rattle.cfi_text.specs.Lines.{Line}
 use Rattle.cfi_text.specs.WriterOutput.{Prints, PrintsSome}

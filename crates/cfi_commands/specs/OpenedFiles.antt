@@ -5,7 +5,7 @@
 use Rattle.std.specs.Prelude.{◌≡◌, ℕ, List, [], Option, Some, None}
 use Rattle.clap.specs.Words.{Text}
 use Rattle.cfi_text.specs.Lines.{Line}
-use Rattle.cfi_object.specs.FileInputs.{AreLeft}
+use Rattle.cfi_text.specs.Readings.{AreLeft}
 use Rattle.cfi_commands.specs.Disks.{Disk, MayOpenNamed}
 
 -- nothing is written, and the status is 2

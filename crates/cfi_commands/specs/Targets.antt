@@ -12,7 +12,7 @@ use Rattle.std.specs.List.Sorted.{IsPermutation, IsSorted}
 use Rattle.std.specs.Ordering.{nat_cmp}
 use Rattle.std.specs.Str.{IsUtf8, bytes_eq}
 use Rattle.clap.specs.Words.{Text}
-use Rattle.cfi_object.specs.FileInputs.{AreLeft}
+use Rattle.cfi_text.specs.Readings.{AreLeft}
 use Rattle.cfi_commands.specs.declared.system.Kind.{Kind}
 use Rattle.cfi_commands.specs.declared.system.Kind.TheVariants.{File, Folder, Other}
 use Rattle.cfi_commands.specs.declared.targets.TreeEntry.{TreeEntry as TreeEntryOfCode}

@@ -2,7 +2,7 @@
 ghost use Rattle.std.specs.Prelude.{◌≡◌, ℕ, List, MatchResult, map};
 ghost use Rattle.cfi_flame.specs.Flames.{drawing_view};
 ghost use Rattle.cfi_flame.specs.Functions.{row_view};
-ghost use Rattle.cfi_object.specs.FileInputs.{AreLeft};
+ghost use Rattle.cfi_text.specs.Readings.{AreLeft};
 ghost use Rattle.cfi_inputs.specs.Refusals.{input_refusal};
 ghost use Rattle.cfi_text.specs.WriterOutput.{Prints, PrintsSome};
 ghost use Rattle.cfi_commands.specs.FlameOutputs.{IsOfObjects, IsSummaryOutput, IsSummaryOwed};
@@ -14,8 +14,8 @@ use crate::function_objects::{write_not_folded_object, write_objects};
 use cfi_flame::functions::Function;
 use cfi_flame::{Drawing, FoldedError, flame_of, plain_text, ranked_functions, report_of};
 use cfi_inputs::write_input_refusal;
-use cfi_object::{InputError, read_all};
 use cfi_text::lines::{write_part, write_text};
+use cfi_text::reading::{InputError, read_all};
 use cfi_text::refusals::write_refused_name;
 use cfi_text::style::Format;
 use std::alloc::Global;

@@ -1,10 +1,11 @@
 //! An open file of a runtime, which is read by parts.
 ghost use Rattle.std.specs.Prelude.{◌≡◌, None, IfErr, IfOk, length};
-ghost use Rattle.cfi_object.specs.Readings.{IsReadRefused};
+ghost use Rattle.cfi_text.specs.Readings.{IsReadRefused};
 
 use cfi_inputs::read_elf_or_profile;
+use cfi_object::FileInput;
 use cfi_object::input::copy_part;
-use cfi_object::{FileInput, InputError};
+use cfi_text::reading::InputError;
 use std::alloc::Global;
 use std::io;
 use std::io::{Read, Seek, SeekFrom};

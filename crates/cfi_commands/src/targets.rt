@@ -14,7 +14,7 @@ ghost use Rattle.cfi_commands.specs.Trees.{path_in, tree_of};
 use crate::files::open_named;
 use crate::system::{Kind, System};
 use crate::words::Names;
-use cfi_object::read_all;
+use cfi_text::reading::read_all;
 use std::alloc::{AllocError, Global};
 use std::str;
 

@@ -43,7 +43,7 @@ use Rattle.cfi_cores.specs.CoreThreads.{CoreThread, thread_register}
 use Rattle.cfi_cores.specs.MappedFiles.{CoreMapping}
 use Rattle.cfi_cores.specs.Vdso.{vdso_name}
 use Rattle.cfi_elf.specs.Images.{Image, IsImageOf}
-use Rattle.cfi_object.specs.declared.input.InputError.{InputError}
+use Rattle.cfi_text.specs.declared.reading.InputError.{InputError}
 use Rattle.cfi_object.specs.FileParts.{AreOfInput}
 use Rattle.cfi_inputs.specs.Refusals.{input_refusal}
 use Rattle.cfi_text.specs.Lines.{Line}

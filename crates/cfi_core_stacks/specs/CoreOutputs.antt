@@ -6,8 +6,8 @@
 use Rattle.std.specs.Prelude.{◌≡◌, ◌⊎◌, ℕ, Bool, true, false, List, ◌++◌, Option, Some, None}
 use Rattle.std.specs.Prelude.{Result, Ok, Err, codes, not, take}
 use Rattle.cfi_text.specs.declared.style.Format.{Format}
-use Rattle.cfi_object.specs.FileInputs.{AreLeft}
-use Rattle.cfi_object.specs.declared.input.InputError.{InputError}
+use Rattle.cfi_text.specs.Readings.{AreLeft}
+use Rattle.cfi_text.specs.declared.reading.InputError.{InputError}
 use Rattle.cfi_inputs.specs.Refusals.{input_refusal}
 use Rattle.cfi_text.specs.Lines.{Line}
 use Rattle.cfi_text.specs.Refusals.{reason_line as why_line, refusal_saying}

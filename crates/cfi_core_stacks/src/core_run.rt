@@ -4,7 +4,7 @@ ghost use Rattle.cfi_cores.specs.CoreSegments.{AreByAddress, segment_view};
 ghost use Rattle.cfi_cores.specs.CoreFiles.{core_view};
 ghost use Rattle.cfi_object.specs.FileParts.{image_of};
 ghost use Rattle.cfi_object.specs.FileParts.{AreOfInput};
-ghost use Rattle.cfi_object.specs.FileInputs.{AreLeft};
+ghost use Rattle.cfi_text.specs.Readings.{AreLeft};
 ghost use Rattle.cfi_processes.specs.FileModules.{AreModulesOfFiles};
 ghost use Rattle.cfi_processes.specs.KnownFiles.{known_view};
 ghost use Rattle.cfi_processes.specs.ProcessModules.{modules_in};

@@ -11,8 +11,8 @@ use crate::needed_ranges::{Range, end_of};
 use crate::partial_cores::bytes_in;
 use cfi_elf::constants::PT_NOTE;
 use cfi_elf::{Image, ProgramHeader, Segments};
-use cfi_object::input::InputError;
 use cfi_processes::SampleMachine;
+use cfi_text::reading::InputError;
 use std::alloc::{AllocError, Global};
 
 /// Where notes are that don't begin among the first bytes, by the headers; none where these weren't

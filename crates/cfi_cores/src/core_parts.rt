@@ -8,7 +8,8 @@ use crate::core_notes::note_ranges;
 use crate::needed_ranges::{Range, ranges_of};
 use cfi_elf::constants::PT_NOTE;
 use cfi_elf::{ElfFile, Segments};
-use cfi_object::{FileInput, FileParts, InputError};
+use cfi_object::{FileInput, FileParts};
+use cfi_text::reading::InputError;
 use std::alloc::Global;
 
 /// How many bytes are read at first: mostly they have the headers and the notes.

@@ -3,7 +3,7 @@ use crate::core_heads::{CoreHeads, core_heads};
 use crate::partial_cores::is_head;
 use crate::stack_window::window_start;
 use cfi_elf::{Image, ProgramHeader};
-use cfi_object::InputError;
+use cfi_text::reading::InputError;
 use std::alloc::{AllocError, Global};
 
 /// What lies between two offsets of a file.

@@ -6,8 +6,8 @@ use Rattle.cfi_read_core.specs.ReadFunctions.{Readings}
 use Rattle.cfi_parts.specs.Instructions.{Instruction}
 use Rattle.cfi_entry.specs.Fdes.{Fde}
 use Rattle.cfi_entry.specs.Sections.{Section}
-use Rattle.cfi_object.specs.declared.register_names.RegisterNames.{RegisterNames}
-use Rattle.cfi_object.specs.declared.register_names.RegisterNames.TheVariants.{Numbers, X86_64}
+use Rattle.cfi_text.specs.declared.register_names.RegisterNames.{RegisterNames}
+use Rattle.cfi_text.specs.declared.register_names.RegisterNames.TheVariants.{Numbers, X86_64}
 use Rattle.cfi_dump.specs.DumpInstructionLines.{instruction_line, instructions_text, address_after}
 use Rattle.cfi_dump.specs.DumpRowTexts.{addresses_line, fde_rows_text, is_asked_for}
 use Rattle.cfi_dump.specs.FunctionLines.{function_text}

@@ -12,7 +12,7 @@ use Rattle.cfi_unwind.specs.Scan.{read_fde}
 use Rattle.cfi_unwind.specs.declared.entry.entries.EntryFields.{EntryFields}
 use Rattle.cfi_unwind.specs.declared.entry.entries.EntryFields.TheVariants as code
 use Rattle.cfi_entry.specs.Sections.{Section, section_of}
-use Rattle.cfi_object.specs.declared.register_names.RegisterNames.{RegisterNames}
+use Rattle.cfi_text.specs.declared.register_names.RegisterNames.{RegisterNames}
 use Rattle.cfi_text.specs.WriterOutput.{Writes}
 use Rattle.cfi_text.proofs.WrittenLemmas.{IsGiven, given_all}
 use Rattle.cfi_dump.specs.DumpSectionTexts.{fde_text}

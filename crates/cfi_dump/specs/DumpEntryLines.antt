@@ -7,8 +7,8 @@ use Rattle.cfi_entry.specs.Augmentations.{address_encoding_of, lsda_encoding_of,
 use Rattle.cfi_entry.specs.Augmentations.{is_trampoline, has_b_key}
 use Rattle.cfi_entry.specs.Cies.{Cie}
 use Rattle.cfi_entry.specs.Fdes.{Fde, end_of}
-use Rattle.cfi_object.specs.RegisterNames.{register_text}
-use Rattle.cfi_object.specs.declared.register_names.RegisterNames.{RegisterNames}
+use Rattle.cfi_text.specs.RegisterNames.{register_text}
+use Rattle.cfi_text.specs.declared.register_names.RegisterNames.{RegisterNames}
 use Rattle.cfi_text.specs.Lines.{address_text}
 use Rattle.cfi_dump.specs.FunctionLines.{function_text}
 

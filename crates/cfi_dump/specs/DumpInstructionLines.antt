@@ -17,8 +17,8 @@ use Rattle.cfi_read_core.specs.Addresses.{checked_sum}
 use Rattle.cfi_read_core.specs.ExpressionPlaces.{expression_of}
 use Rattle.cfi_read_core.specs.ReadFunctions.{Readings}
 use Rattle.cfi_parts.specs.Instructions.{Instruction}
-use Rattle.cfi_object.specs.RegisterNames.{register_text}
-use Rattle.cfi_object.specs.declared.register_names.RegisterNames.{RegisterNames}
+use Rattle.cfi_text.specs.RegisterNames.{register_text}
+use Rattle.cfi_text.specs.declared.register_names.RegisterNames.{RegisterNames}
 use Rattle.cfi_text.specs.Lines.{address_text}
 use Rattle.cfi_dump.specs.ReadingTexts.{refusal_text}
 use Rattle.cfi_row_text.specs.Wordings.{Wording}

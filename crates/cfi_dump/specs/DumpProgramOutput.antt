@@ -6,7 +6,7 @@ use Rattle.cfi_entry.specs.Entries.{Entry, entries}
 use Rattle.cfi_entry.specs.Sections.{Section}
 use Rattle.cfi_elf.specs.FunctionNames.{name_in}
 use Rattle.cfi_read_core.specs.declared.error.Error.TheVariants.{OutOfMemory}
-use Rattle.cfi_object.specs.declared.register_names.RegisterNames.{RegisterNames}
+use Rattle.cfi_text.specs.declared.register_names.RegisterNames.{RegisterNames}
 use Rattle.cfi_text.specs.Lines.{Line}
 use Rattle.cfi_text.specs.Refusals.{refusal_in}
 use Rattle.cfi_text.specs.declared.style.Format.{Format}

@@ -17,7 +17,7 @@ use Rattle.cfi_entry.specs.EntryInstructions.{cie_instructions, fde_instructions
 use Rattle.cfi_entry.specs.Fdes.{Fde, PartialFde}
 use Rattle.cfi_unwind.specs.Scan.{read_fde}
 use Rattle.cfi_entry.specs.Sections.{Section}
-use Rattle.cfi_object.specs.declared.register_names.RegisterNames.{RegisterNames}
+use Rattle.cfi_text.specs.declared.register_names.RegisterNames.{RegisterNames}
 use Rattle.cfi_text.specs.Refusals.{refusal_told}
 use Rattle.cfi_row_text.specs.AnswerLines.{answer_line}
 use Rattle.cfi_dump.specs.DumpEntryLines.{cie_line, fde_line, partial_fde_line}

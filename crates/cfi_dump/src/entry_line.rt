@@ -14,9 +14,9 @@ ghost use Rattle.cfi_dump.specs.DumpEntryLines.{signal_flag_text, pointer_text};
 
 use crate::function_line::end_line;
 use cfi_elf::FunctionNames;
-use cfi_object::register_names::RegisterNames;
 use cfi_text::lines::{write_part, write_text};
 use cfi_text::numbers::Address;
+use cfi_text::register_names::RegisterNames;
 use cfi_text::style::Format;
 use gimli_cfi::{CommonInformationEntry, DwEhPe, FrameDescriptionEntry, Pointer, Reader};
 use std::fmt::{Display, Formatter};

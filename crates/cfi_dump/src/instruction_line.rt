@@ -13,11 +13,11 @@ ghost use Rattle.cfi_row_text.specs.Wordings.{text_style, worded};
 
 use crate::advances::{MovedTo, address_after_item, advance_target};
 use crate::instruction_words::{Registers, Value, dwarf_name, expression_of};
-use cfi_object::register_names::RegisterNames;
 use cfi_read_core::address::AddressSize;
 use cfi_row_text::expression_words::write_in_words;
 use cfi_text::lines::{write_part, write_text};
 use cfi_text::refusals::write_refused;
+use cfi_text::register_names::RegisterNames;
 use cfi_text::style::Format;
 use gimli_cfi::{
     _UnwindSectionPrivate, CallFrameInstruction as Instruction, CallFrameInstructionIter, Reader,

@@ -5,7 +5,7 @@ ghost use Rattle.cfi_dump.specs.DumpInstructionLines.{dest_and_src, single, fact
 ghost use Rattle.cfi_dump.specs.DumpInstructionLines.{registers_text, words_of};
 ghost use Rattle.cfi_dump.specs.DumpInstructionLines.{signed_factored_operand};
 
-use cfi_object::register_names::RegisterNames;
+use cfi_text::register_names::RegisterNames;
 use gimli_cfi::{CallFrameInstruction as Instruction, Register, UnwindExpression};
 use std::fmt;
 use std::fmt::{Display, Formatter};

@@ -8,8 +8,8 @@ ghost use Rattle.cfi_dump.specs.DumpProgramOutput.{IsPrinted};
 use crate::printed::Printed;
 use crate::section::write_section;
 use cfi_entry::in_section::InSection;
-use cfi_object::register_names::RegisterNames;
 use cfi_text::refusals::write_refusal_in;
+use cfi_text::register_names::RegisterNames;
 use gimli_cfi::{
     BaseAddresses, CallFrameSection, Reader, SectionSource, UnwindContext, UnwindSection,
 };

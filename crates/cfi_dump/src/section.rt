@@ -31,12 +31,12 @@ use crate::walk::Walk;
 use cfi_elf::FunctionNames;
 use cfi_entry::cie::address_size_of;
 use cfi_entry::in_section::InSection;
-use cfi_object::register_names::RegisterNames;
 use cfi_row_text::plain_rows::{FULL_OF_LINES, KeptRows, LineRoom};
 use cfi_row_text::row_words::{write_answer, write_apart};
 use cfi_row_text::style::Style;
 use cfi_text::lines::write_text;
 use cfi_text::refusals::write_refused;
+use cfi_text::register_names::RegisterNames;
 use cfi_text::style::Format;
 use cfi_text::text::{Text, write_out};
 use gimli_cfi::{

@@ -4,7 +4,7 @@ use Rattle.cfi_elf.specs.declared.error.ElfError.{ElfError}
 use Rattle.cfi_text.specs.Lines.{Line}
 use Rattle.cfi_dump.specs.DumpProgramOutput.{printed_format}
 use Rattle.cfi_text.specs.declared.style.Format.TheVariants.{Text}
-use Rattle.cfi_object.specs.declared.register_names.RegisterNames.{RegisterNames}
+use Rattle.cfi_text.specs.declared.register_names.RegisterNames.{RegisterNames}
 use Rattle.gimli_cfi.specs.SectionSources.{GivenSection}
 use Rattle.cfi_files.specs.declared.sections.SectionPrinted.{SectionPrinted}
 use Rattle.cfi_files.specs.declared.sections.SectionPrinted.TheVariants.{Compiled, Listed}

@@ -8,7 +8,7 @@ use Rattle.cfi_dump.specs.JsonLines.{json_section}
 use Rattle.cfi_read_core.specs.ReaderCalls.{map_ok}
 use Rattle.cfi_text.proofs.WrittenLemmas.{appends_then}
 use Rattle.cfi_text.proofs.PartsWritten.{first_refused, last_written}
-use Rattle.cfi_object.specs.FileInputs.{AreLeft}
+use Rattle.cfi_text.specs.Readings.{AreLeft}
 use Rattle.cfi_files.specs.FileLines.{InTurn, IsUnder, in_turn, under}
 use Rattle.cfi_files.specs.Findings.{ChecksSome}
 use Rattle.cfi_files.specs.declared.finding.Finding.{Finding}

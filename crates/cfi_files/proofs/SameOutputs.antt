@@ -19,7 +19,7 @@ use Rattle.cfi_elf.specs.SymbolTables.{SymbolTable, symbol_table, symbols}
 use Rattle.cfi_text.specs.Lines.{Line}
 use Rattle.cfi_object.specs.Numbers.{number}
 use Rattle.cfi_text.specs.WordTexts.{texts}
-use Rattle.cfi_object.specs.declared.register_names.RegisterNames.{RegisterNames}
+use Rattle.cfi_text.specs.declared.register_names.RegisterNames.{RegisterNames}
 use Rattle.cfi_row_text.specs.declared.style.Style.{Style}
 use Rattle.gimli_cfi.specs.SectionSources.{GivenSection}
 use Rattle.cfi_object.specs.CallFrames.{debug_frame_of, eh_frame_of}

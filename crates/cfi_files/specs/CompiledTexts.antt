@@ -19,7 +19,7 @@ use Rattle.cfi_text.specs.Refusals.{refusal_in}
 use Rattle.cfi_text.specs.declared.style.Format.TheVariants.{Text}
 use Rattle.cfi_row_text.specs.RowLines.{frame_saying, rules_saying}
 use Rattle.cfi_row_text.specs.Wordings.{Wording, of_section, text_style}
-use Rattle.cfi_object.specs.declared.register_names.RegisterNames.{RegisterNames}
+use Rattle.cfi_text.specs.declared.register_names.RegisterNames.{RegisterNames}
 
 abbrev pub refused_step_text : ℕ → Error → List ℕ
 refused_step_text start error =

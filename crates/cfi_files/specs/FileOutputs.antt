@@ -32,14 +32,14 @@ use Rattle.cfi_dump.specs.declared.printed.AskedRows.{AskedRows}
 use Rattle.cfi_dump.specs.declared.printed.Printed.TheVariants as listed
 use Rattle.cfi_dump.specs.DumpRowTexts.{given_addresses}
 use Rattle.cfi_dump.specs.DumpProgramOutput.{IsPrinted, printed_format}
-use Rattle.cfi_object.specs.declared.register_names.RegisterNames.{RegisterNames}
+use Rattle.cfi_text.specs.declared.register_names.RegisterNames.{RegisterNames}
 use Rattle.cfi_text.specs.declared.style.Format.{Format}
 use Rattle.cfi_text.specs.declared.style.Format.TheVariants.{Text}
 use Rattle.cfi_row_text.specs.declared.style.Style.{Style}
 use Rattle.cfi_object.specs.MachineNames.{names_in}
 use Rattle.cfi_object.specs.Targets.{names_entry, target_addresses}
 use Rattle.cfi_object.specs.declared.needed.Needed.{Needed}
-use Rattle.cfi_object.specs.FileInputs.{AreLeft}
+use Rattle.cfi_text.specs.Readings.{AreLeft}
 use Rattle.cfi_files.specs.declared.request.Request.{Request}
 use Rattle.cfi_files.specs.declared.request.Printed.{Printed}
 use Rattle.cfi_files.specs.declared.request.Printed.TheVariants.{Row, Rows, Dump, Table}

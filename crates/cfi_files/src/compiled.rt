@@ -15,13 +15,13 @@ ghost use Rattle.cfi_files.specs.CompiledTexts.{IsCompiledText, refused_step_tex
 ghost use Rattle.cfi_files.specs.CompiledTexts.{steps_text};
 
 use cfi_compiled::{CompiledRow, CompiledStep, CompiledTable};
-use cfi_object::register_names::RegisterNames;
 use cfi_row_text::register_rules::{HasRules, number_after};
 use cfi_row_text::row_words::{write_frame, write_rules};
 use cfi_text::error_words::ErrorWords;
 use cfi_text::lines::{write_part, write_text};
 use cfi_text::numbers::Address;
 use cfi_text::refusals::write_refusal;
+use cfi_text::register_names::RegisterNames;
 use cfi_text::style::Format;
 use gimli_cfi::{
     _UnwindSectionPrivate, BaseAddresses, CallFrameSection, Error, Reader, Register, RegisterRule,

@@ -6,8 +6,8 @@ ghost use Rattle.cfi_files.specs.FileOutputs.{AreEntries, AreNamedEntries, AreNa
 use crate::sections::{SectionPrinted, print_sections};
 use cfi_dump::Printed;
 use cfi_elf::{ElfFile, FunctionNames};
-use cfi_object::register_names::RegisterNames;
 use cfi_text::refusals::write_refusal_in;
+use cfi_text::register_names::RegisterNames;
 use cfi_text::style::Format;
 use gimli_cfi::Error;
 use std::alloc::Global;

@@ -17,7 +17,7 @@ use cfi_dump::Printed;
 use cfi_dump::print::print_source;
 use cfi_elf::{ElfError, ElfFile};
 use cfi_object::call_frames::{debug_frame, eh_frame};
-use cfi_object::register_names::RegisterNames;
+use cfi_text::register_names::RegisterNames;
 use cfi_text::style::Format;
 use gimli_cfi::SectionSource;
 use std::alloc::Global;

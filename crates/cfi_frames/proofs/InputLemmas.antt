@@ -1,6 +1,6 @@
 -- What holds of all bytes holds of those that a reader has left, known or not.
 use Rattle.std.proofs.Common.{ℕ, List, [], Option, Some, None, refl, unwrap_or}
-use Rattle.cfi_object.specs.FileInputs.{AreLeft}
+use Rattle.cfi_text.specs.Readings.{AreLeft}
 
 left_is : (known : Option (List ℕ)) → AreLeft known (unwrap_or known [])
 left_is None = tt

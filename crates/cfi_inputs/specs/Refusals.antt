@@ -1,7 +1,7 @@
 -- The line that says why an input wasn't read.
 use Rattle.std.specs.Prelude.{codes}
-use Rattle.cfi_object.specs.declared.input.InputError.{InputError}
-use Rattle.cfi_object.specs.declared.input.InputError.TheVariants as input_errors
+use Rattle.cfi_text.specs.declared.reading.InputError.{InputError}
+use Rattle.cfi_text.specs.declared.reading.InputError.TheVariants as input_errors
 use Rattle.cfi_read_core.specs.declared.error.Error.TheVariants.{OutOfMemory}
 use Rattle.cfi_text.specs.Lines.{Line}
 use Rattle.cfi_text.specs.Refusals.{reason_line, refusal_in}

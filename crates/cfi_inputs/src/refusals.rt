@@ -2,7 +2,7 @@
 ghost use Rattle.cfi_text.specs.WriterOutput.{Prints};
 ghost use Rattle.cfi_inputs.specs.Refusals.{input_refusal};
 
-use cfi_object::InputError;
+use cfi_text::reading::InputError;
 use cfi_text::refusals::{write_reason, write_refusal_in};
 use cfi_text::style::Format;
 use gimli_cfi::Error;

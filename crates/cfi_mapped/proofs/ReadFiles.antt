@@ -3,8 +3,8 @@ use Rattle.std.proofs.Common.{◌≡◌, ◌∙◌, inl, inr, ℕ, ◌+◌, ◌<
 use Rattle.std.proofs.Math.Seq.{drop-cons}
 use Rattle.std.proofs.lemmas.List.{drop_all}
 use Rattle.std.specs.declared.alloc.AllocError.{AllocError}
-use Rattle.cfi_object.specs.declared.input.InputError.{InputError}
-use Rattle.cfi_object.specs.declared.input.InputError.TheVariants.{NotHexadecimal, OutOfMemory, Unreadable}
+use Rattle.cfi_text.specs.declared.reading.InputError.{InputError}
+use Rattle.cfi_text.specs.declared.reading.InputError.TheVariants.{NotHexadecimal, OutOfMemory, Unreadable}
 use Rattle.std.specs.Prelude.{if◌then◌else◌, not, ◌||◌, ◌==◌}
 use Rattle.std.proofs.lemmas.Bool.{eq-eqb}
 use Rattle.std.specs.Option.{is_some}

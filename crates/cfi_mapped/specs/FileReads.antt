@@ -10,8 +10,8 @@ use Rattle.std.specs.Prelude.{◌≡◌, ◌⊎◌, ℕ, Bool, true, false, not,
 use Rattle.std.specs.Prelude.{Some, None, IfSome, Result, Ok, Err, alloc_error, codes}
 use Rattle.std.specs.Prelude.{if◌then◌else◌}
 use Rattle.std.specs.declared.alloc.AllocError.{AllocError}
-use Rattle.cfi_object.specs.declared.input.InputError.{InputError}
-use Rattle.cfi_object.specs.declared.input.InputError.TheVariants.{OutOfMemory}
+use Rattle.cfi_text.specs.declared.reading.InputError.{InputError}
+use Rattle.cfi_text.specs.declared.reading.InputError.TheVariants.{OutOfMemory}
 use Rattle.cfi_mapped.specs.CodeMaps.{begins_with}
 use Rattle.cfi_mapped.specs.KernelSymbols.{is_kernel_name}
 use Rattle.cfi_mapped.specs.Wanted.{FilePlace, Wanted, as_code, at_path, copy_of, debug_of}

@@ -4,7 +4,8 @@ ghost use Rattle.cfi_object.specs.FileParts.{image_of};
 ghost use Rattle.cfi_mapped.specs.Enough.{are_enough};
 
 use cfi_elf::Image;
-use cfi_object::{FileInput, FileParts, InputError, Needed, read_parts};
+use cfi_object::{FileInput, FileParts, Needed, read_parts};
+use cfi_text::reading::InputError;
 use std::alloc::Global;
 
 /// A file of code: its parts that are needed for its call frames, its functions, its build and the

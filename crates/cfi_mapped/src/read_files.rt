@@ -25,7 +25,8 @@ use crate::opened_file::OpenedFile;
 use crate::opener::Opener;
 use crate::wanted::{LinkFolder, WantedFile, is_text};
 use cfi_elf::DebugLink;
-use cfi_object::{FileInput, InputError, read_all, read_whole};
+use cfi_object::{FileInput, read_whole};
+use cfi_text::reading::{InputError, read_all};
 use std::alloc::{AllocError, Global};
 use std::io::Read;
 

@@ -5,6 +5,5 @@ pub mod SameBuilds
 pub mod SameFrames
 pub mod WholeParts
 pub mod SectionReads
-mod RegistersNamed
 mod NumbersRead
 mod Lacking

@@ -7,7 +7,8 @@ use Rattle.std.proofs.Math.Seq.{take-append-add, take-append_seam}
 use Rattle.cfi_elf.specs.declared.image.FilePart.{FilePart}
 use Rattle.cfi_elf.specs.Images.{ArePartsOf, Image, IsPartOf, Part, part_view, parts_view}
 use Rattle.cfi_elf.specs.Fields.{part}
-use Rattle.cfi_object.specs.FileInputs.{AreLeft, IsLength, IsPartRead}
+use Rattle.cfi_object.specs.FileInputs.{IsLength, IsPartRead}
+use Rattle.cfi_text.specs.Readings.{AreLeft}
 use Rattle.cfi_object.specs.FileParts.{AreOfInput, IsLongerTo, IsWhole, IsWithFree, IsWithMore, IsWithRange, are_apart, goes_on, is_apart, is_free}
 use Rattle.cfi_object.proofs.Splices.{spliced, spliced_after, spliced_before, spliced_length, spliced_part}
 

@@ -1,17 +1,13 @@
 -- What is read of a file whose bytes may be known.
---     AreLeft known bytes      all bytes that a reader has left
 --     IsLength known n      how many bytes the file has
 --     IsLengthRefused known error      why that is not told
 --     IsPartRead known offset size part      what a read of a part gives
 --     IsPartRefused known offset size error      why a part is not read
 use Rattle.std.specs.Prelude.{◌≡◌, ◌<◌, ◌+◌, ℕ, List, length, Option, Some, IfSome, IsNone}
 use Rattle.cfi_elf.specs.Fields.{part}
-use Rattle.cfi_object.specs.declared.input.InputError.{InputError}
-use Rattle.cfi_object.specs.declared.input.InputError.TheVariants.{Unreadable}
-use Rattle.cfi_object.specs.Readings.{IsReadRefused}
-
-abbrev pub AreLeft : Option (List ℕ) → List ℕ → Type 0
-AreLeft known bytes = IfSome known (λ left. bytes ≡ left)
+use Rattle.cfi_text.specs.declared.reading.InputError.{InputError}
+use Rattle.cfi_text.specs.declared.reading.InputError.TheVariants.{Unreadable}
+use Rattle.cfi_text.specs.Readings.{IsReadRefused}
 
 abbrev pub IsLength : Option (List ℕ) → ℕ → Type 0
 IsLength known n = IfSome known (λ all. n ≡ length all)

@@ -13,7 +13,7 @@ use Rattle.std.specs.Prelude.{Option, nat_le, true, false}
 use Rattle.std.specs.List.{list_all, push}
 use Rattle.cfi_elf.specs.Images.{Image, IsImageOf, Part, parts_view, whole}
 use Rattle.cfi_object.specs.declared.file_parts.FileParts.{FileParts}
-use Rattle.cfi_object.specs.FileInputs.{AreLeft}
+use Rattle.cfi_text.specs.Readings.{AreLeft}
 
 abbrev pub image_of : FileParts → Image
 image_of parts = record {

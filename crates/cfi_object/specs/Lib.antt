@@ -2,8 +2,6 @@ pub mod CallFrames
 pub mod FileInputs
 pub mod FileParts
 pub mod NeededParts
-pub mod Readings
 pub mod Numbers
 pub mod Targets
-pub mod RegisterNames
 pub mod MachineNames

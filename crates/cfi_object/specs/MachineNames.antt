@@ -1,12 +1,12 @@
 -- The names of registers in what is printed of a file.
 use Rattle.std.specs.Prelude.{ℕ, Bool, true, false, ◌==◌, if◌then◌else◌}
 use Rattle.cfi_elf.specs.ElfFiles.{File}
-use Rattle.cfi_object.specs.declared.register_names.RegisterNames.{RegisterNames}
-use Rattle.cfi_object.specs.declared.register_names.RegisterNames.TheVariants.{Numbers, X86_64}
-use Rattle.cfi_object.specs.declared.register_names.RegisterNames.TheVariants.{I386, AArch64, Arm}
-use Rattle.cfi_object.specs.declared.register_names.RegisterNames.TheVariants.{RiscV, S390x}
-use Rattle.cfi_object.specs.declared.register_names.RegisterNames.TheVariants.{PowerPc64, Mips}
-use Rattle.cfi_object.specs.declared.register_names.RegisterNames.TheVariants.{Sparc, M68k}
+use Rattle.cfi_text.specs.declared.register_names.RegisterNames.{RegisterNames}
+use Rattle.cfi_text.specs.declared.register_names.RegisterNames.TheVariants.{Numbers, X86_64}
+use Rattle.cfi_text.specs.declared.register_names.RegisterNames.TheVariants.{I386, AArch64, Arm}
+use Rattle.cfi_text.specs.declared.register_names.RegisterNames.TheVariants.{RiscV, S390x}
+use Rattle.cfi_text.specs.declared.register_names.RegisterNames.TheVariants.{PowerPc64, Mips}
+use Rattle.cfi_text.specs.declared.register_names.RegisterNames.TheVariants.{Sparc, M68k}
 
 -- those of the machine: EM_SPARC is 2, EM_386 is 3, EM_68K is 4, EM_MIPS is 8, EM_SPARC32PLUS is
 -- 18, EM_PPC64 is 21, EM_S390 is 22, EM_ARM is 40, EM_SPARCV9 is 43, EM_X86_64 is 62, EM_AARCH64 is

@@ -3,8 +3,9 @@ ghost use Rattle.std.specs.Prelude.{◌≡◌};
 ghost use Rattle.cfi_elf.specs.Images.{part_view, parts_view};
 ghost use Rattle.cfi_object.specs.FileParts.{are_apart, is_apart};
 
-use crate::input::{FileInput, InputError, read_whole};
+use crate::input::{FileInput, read_whole};
 use cfi_elf::{FilePart, Image};
+use cfi_text::reading::InputError;
 use std::alloc::Global;
 
 /// The parts of a file that were read: its first bytes, and others.

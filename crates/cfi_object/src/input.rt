@@ -1,20 +1,11 @@
 //! Files whose bytes are read where they are needed.
 ghost use Rattle.std.specs.Prelude.{◌≡◌, ℕ, List, Option, IfErr, IfOk, Some};
-ghost use Rattle.cfi_object.specs.FileInputs.{AreLeft, IsLength, IsLengthRefused, IsPartRead};
+ghost use Rattle.cfi_object.specs.FileInputs.{IsLength, IsLengthRefused, IsPartRead};
+ghost use Rattle.cfi_text.specs.Readings.{AreLeft};
 ghost use Rattle.cfi_object.specs.FileInputs.{IsPartRefused};
 
+use cfi_text::reading::InputError;
 use std::alloc::Global;
-
-/// Why there are no bytes.
-#[derive(Clone, Copy)]
-pub enum InputError {
-    /// A read failed.
-    Unreadable,
-    /// The text is not hexadecimal.
-    NotHexadecimal,
-    /// An allocation failed.
-    OutOfMemory,
-}
 
 /// A file whose bytes are read where they are needed. Its length is asked first: a file that can't
 /// be read by parts, as a pipe, is read for it.

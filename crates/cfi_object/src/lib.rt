@@ -2,8 +2,7 @@
 //! The call frames of an ELF file: its sections of call frames, each with its address and its
 //! bases (`call_frames`), the parts of the file that are read for them (`needed`, `file_parts`,
 //! `input`), the addresses that words name in it (`target`, `numbers`), and the names of the
-//! registers of its machine (`machine_names`, `register_names`). `reading` reads an input to its
-//! end.
+//! registers of its machine (`machine_names`).
 
 pub mod call_frames;
 pub mod file_parts;
@@ -11,16 +10,12 @@ pub mod input;
 pub mod machine_names;
 pub mod needed;
 pub mod numbers;
-pub mod reading;
-pub mod register_names;
 pub mod target;
 
 pub use call_frames::{bases_at, debug_frame, eh_frame, given_section};
 pub use file_parts::FileParts;
-pub use input::{FileInput, InputError, read_whole};
+pub use input::{FileInput, read_whole};
 pub use machine_names::names_in;
 pub use needed::{Needed, read_parts};
 pub use numbers::number_in;
-pub use reading::read_all;
-pub use register_names::RegisterNames;
 pub use target::{names_entry, target_addresses};

@@ -3,12 +3,12 @@ ghost use Rattle.std.specs.Prelude.{◌≡◌};
 ghost use Rattle.cfi_elf.specs.ElfFiles.{file_view};
 ghost use Rattle.cfi_object.specs.MachineNames.{names_in, register_names_of};
 
-use crate::register_names::RegisterNames;
 use cfi_elf::ElfFile;
 use cfi_elf::constants::{
     EM_68K, EM_386, EM_AARCH64, EM_ARM, EM_MIPS, EM_PPC64, EM_RISCV, EM_S390, EM_SPARC,
     EM_SPARC32PLUS, EM_SPARCV9, EM_X86_64,
 };
+use cfi_text::register_names::RegisterNames;
 
 /// Returns how registers are named in what is printed of the file: by its machine, or by number
 /// where `raw` is true.

@@ -10,8 +10,9 @@ ghost use Rattle.cfi_object.specs.NeededParts.{LacksSymbols};
 
 use crate::call_frames::{debug_frame, eh_frame};
 use crate::file_parts::FileParts;
-use crate::input::{FileInput, InputError};
+use crate::input::FileInput;
 use cfi_elf::{ElfError, ElfFile, Image};
+use cfi_text::reading::InputError;
 use std::alloc::Global;
 
 /// How many bytes are read at first: mostly they have the header, the program headers and the note

@@ -7,8 +7,8 @@ use Rattle.std.proofs.lemmas.List.{drop_all, get_or-take, length-take-le}
 use Rattle.std.proofs.lemmas.List.Sums.{passes_at_first, position_or_len_is}
 use Rattle.std.specs.List.{All, after_first, position_or_len}
 use Rattle.hex.specs.declared.error.FromHexError.{FromHexError}
-use Rattle.cfi_object.specs.declared.input.InputError.{InputError}
-use Rattle.cfi_object.specs.declared.input.InputError.TheVariants.{Unreadable, NotHexadecimal, OutOfMemory}
+use Rattle.cfi_text.specs.declared.reading.InputError.{InputError}
+use Rattle.cfi_text.specs.declared.reading.InputError.TheVariants.{Unreadable, NotHexadecimal, OutOfMemory}
 use Rattle.cfi_programs.specs.Input.{IsDecoded, bytes_by, decoded_bytes, is_line_feed, with_header}
 
 -- ---- two parts

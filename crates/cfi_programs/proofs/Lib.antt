@@ -1,4 +1,6 @@
 mod Computing
+pub mod NumberLemmas
+mod NumbersRead
 pub mod InputLemmas
 pub mod DecodingLemmas
 pub mod RunLemmas

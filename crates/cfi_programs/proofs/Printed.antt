@@ -1,24 +1,7 @@
--- Words and input, by computation.
+-- Input, by computation.
 use Rattle.std.proofs.Common.{◌≡◌, [], ◌∷◌, ◌++◌, Some, None, refl, codes}
-use Rattle.cfi_object.specs.Numbers.{number}
 use Rattle.cfi_programs.specs.Input.{bytes_by}
 use Rattle.cfi_programs.proofs.Computing.{computing}
-
--- ---- numbers
-
-of_ten : number (codes "4096") ≡ Some 4096
-unfolding computing
-of_ten = refl
-
-of_sixteen : number (codes "0x1F0a") ≡ Some 0x1f0a
-unfolding computing
-of_sixteen = refl
-
-signed : number (codes "-1") ≡ None
-unfolding computing
-signed = refl
-
--- ---- input
 
 spaces_are_ignored : bytes_by None (codes "0a 0B" ++ 13 ∷ 10 ∷ 9 ∷ codes "c" ++ codes " d") ≡ Some (record { section = 10 ∷ 11 ∷ 0xcd ∷ []; header = [] })
 unfolding computing

@@ -5,9 +5,9 @@ use Rattle.std.specs.Prelude.{◌==◌, filter}
 use Rattle.std.specs.List.{before_first, after_first}
 use Rattle.cfi_read_core.specs.ReaderCalls.{map_ok}
 use Rattle.hex.specs.Hex.{decode_of, decode_pairs, hex_digit_value}
-use Rattle.cfi_object.specs.declared.input.InputError.{InputError}
-use Rattle.cfi_object.specs.declared.input.InputError.TheVariants.{Unreadable, NotHexadecimal}
-use Rattle.cfi_object.specs.declared.input.InputError.TheVariants.{OutOfMemory}
+use Rattle.cfi_text.specs.declared.reading.InputError.{InputError}
+use Rattle.cfi_text.specs.declared.reading.InputError.TheVariants.{Unreadable, NotHexadecimal}
+use Rattle.cfi_text.specs.declared.reading.InputError.TheVariants.{OutOfMemory}
 use Rattle.cfi_programs.specs.declared.input.Sections.{Sections}
 use Rattle.hex.specs.declared.error.FromHexError.{FromHexError}
 

@@ -2,7 +2,7 @@
 use Rattle.std.specs.Prelude.{ℕ, Option, Some, None, List, ◌∷◌, codes, if◌then◌else◌}
 use Rattle.std.specs.Option.{option_and_then, option_map}
 use Rattle.std.specs.Str.{bytes_eq}
-use Rattle.cfi_object.specs.Numbers.{number}
+use Rattle.cfi_programs.specs.Numbers.{number}
 use Rattle.cfi_programs.specs.Words as sections
 use Rattle.cfi_programs.specs.Words.{◌>>=◌, each_word, section_word}
 use Rattle.cfi_programs.specs.declared.rows.command_line.Storage.{Storage}

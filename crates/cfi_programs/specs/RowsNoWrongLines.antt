@@ -3,7 +3,7 @@ use Rattle.std.specs.Prelude.{ℕ, Ok, Err, Result, refl}
 use Rattle.std.proofs.Common.{lit≤, subst, sym}
 use Rattle.cfi_read_core.specs.declared.error.Error.{Error}
 use Rattle.cfi_state.specs.Row.{Row}
-use Rattle.cfi_object.specs.declared.register_names.RegisterNames.TheVariants.{Numbers}
+use Rattle.cfi_text.specs.declared.register_names.RegisterNames.TheVariants.{Numbers}
 use Rattle.cfi_programs.specs.Input.{Bytes}
 use Rattle.cfi_text.specs.Lines.{Line}
 use Rattle.cfi_row_text.specs.AnswerLines.{plain_line}

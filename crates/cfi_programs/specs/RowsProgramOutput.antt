@@ -3,7 +3,7 @@ use Rattle.std.specs.Prelude.{◌≡◌, ℕ, Bool, true, false, Option, Some, N
 use Rattle.cfi_read_core.specs.declared.error.Error.{Error}
 use Rattle.cfi_state.specs.Row.{Row}
 use Rattle.gimli_cfi.specs.SectionSources.{IsGivenRow}
-use Rattle.cfi_object.specs.declared.register_names.RegisterNames.TheVariants.{Numbers}
+use Rattle.cfi_text.specs.declared.register_names.RegisterNames.TheVariants.{Numbers}
 use Rattle.cfi_programs.specs.declared.rows.command_line.Storage.{Storage}
 use Rattle.cfi_programs.specs.declared.rows.command_line.Storage.TheVariants.{OnHeap, Growing}
 use Rattle.cfi_programs.specs.declared.rows.command_line.Request.{Request}

@@ -10,7 +10,7 @@ use Rattle.cfi_read_core.specs.declared.endianity.RunTimeEndian.{RunTimeEndian}
 use Rattle.cfi_read_core.specs.declared.endianity.RunTimeEndian.TheVariants.{Little, Big}
 use Rattle.gimli_cfi.specs.declared.source.SectionKind.{SectionKind}
 use Rattle.gimli_cfi.specs.declared.source.SectionKind.TheVariants.{DebugFrame, EhFrame}
-use Rattle.cfi_object.specs.Numbers.{after_prefix, number}
+use Rattle.cfi_programs.specs.Numbers.{after_prefix, number}
 use Rattle.cfi_programs.specs.declared.words.SectionWords.{SectionWords}
 
 -- ---- the words after the first ones, each at most once

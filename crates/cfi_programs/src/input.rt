@@ -8,7 +8,7 @@ ghost use Rattle.cfi_programs.specs.Input.{BeginsWithByte, BeginsWithNoByte, Beg
 ghost use Rattle.cfi_programs.specs.Input.{BeginsWithNoDigit, bytes_by, bytes_of_sections};
 ghost use Rattle.cfi_programs.specs.Input.{decoded_bytes, without_spaces, is_line_feed, is_space};
 
-use cfi_object::{InputError, read_all};
+use cfi_text::reading::{InputError, read_all};
 use hex::FromHex;
 use std::alloc::Global;
 use std::io::Read;

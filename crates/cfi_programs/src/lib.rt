@@ -1,9 +1,10 @@
 //! The program `cfi_rows`, over any reader and writer: the words that name a section and its
-//! addresses, the input in hexadecimal, and the run of the program.
+//! addresses, its numbers, the input in hexadecimal, and the run of the program.
 #![tactic(auto)]
 
 mod arguments;
 pub mod input;
+pub mod numbers;
 pub mod rows;
 pub mod run;
 pub mod words;

@@ -9,7 +9,7 @@ ghost use Rattle.cfi_text.specs.WordTexts.{texts, texts_given};
 
 use crate::arguments::{texts_of, words_after_name};
 use crate::input::Sections;
-use cfi_object::InputError;
+use cfi_text::reading::InputError;
 use cfi_text::refusals::{
     write_refusal, write_wrong_hexadecimal, write_wrong_input, write_wrong_words,
 };

@@ -1,15 +1,17 @@
 //! The words of the command line that say what a section is and which addresses it has.
 ghost use Rattle.std.specs.Prelude.{◌≡◌, option_map};
-ghost use Rattle.cfi_object.specs.Numbers.{number};
+ghost use Rattle.cfi_programs.specs.Numbers.{number};
 ghost use Rattle.cfi_programs.specs.Words.{first_words, kind_named, order_named, size_named};
 ghost use Rattle.cfi_programs.specs.Words.{once_given, section_word, set_data_base, set_header};
 ghost use Rattle.cfi_programs.specs.Words.{set_section, set_text, set_vendor};
-ghost use Rattle.cfi_programs.specs.SectionOfWords.{given_by, header_of_words};
+ghost use Rattle.cfi_programs.specs.SectionOfWords.{bases_of, given_by, header_of_words};
 ghost use Rattle.gimli_cfi.specs.SectionSources.{source_view};
 
-use cfi_object::numbers::after_prefix;
-use cfi_object::{bases_at, number_in};
-use gimli_cfi::{AddressSize, RunTimeEndian, SectionKind, SectionSource, Vendor};
+use crate::numbers::{after_prefix, number_in};
+use gimli_cfi::{
+    AddressSize, BaseAddresses, RunTimeEndian, SectionBaseAddresses, SectionKind, SectionSource,
+    Vendor,
+};
 
 /// What the words say of the section.
 #[derive(Clone, Copy)]
@@ -47,9 +49,28 @@ impl SectionWords {
             endian: self.endian,
             address_size: self.address_size,
             vendor: self.vendor,
-            bases: bases_at(self.section, self.text, self.data_base, self.header),
+            bases: self.bases(),
             bytes: section,
             header: self.header_of(header),
+        }
+    }
+
+    /// Returns the bases of the section and of its header. In the header, data is relative to the
+    /// header itself.
+    fn bases(&self) -> BaseAddresses
+        ensures { result ≡ bases_of self.now }
+    {
+        BaseAddresses {
+            eh_frame_hdr: SectionBaseAddresses {
+                section: self.header,
+                text: self.text,
+                data_base: self.header,
+            },
+            eh_frame: SectionBaseAddresses {
+                section: self.section,
+                text: self.text,
+                data_base: self.data_base,
+            },
         }
     }
 

@@ -7,7 +7,7 @@ use Rattle.cfi_read_core.specs.Numbers.{unsigned}
 use Rattle.cfi_read_core.specs.ReadFunctions.{Source, Position, Outcome, rest}
 use Rattle.cfi_read_core.specs.ReaderCalls.{IsSound, Reads, bytes_left, map_ok, remaining}
 use Rattle.cfi_read_core.proofs.Leb128.{byte_there, no_byte_there}
-use Rattle.cfi_object.specs.declared.register_names.RegisterNames.{RegisterNames}
+use Rattle.cfi_text.specs.declared.register_names.RegisterNames.{RegisterNames}
 use Rattle.cfi_row_text.specs.OperationReads.{operation}
 use Rattle.cfi_row_text.specs.declared.operation_reader.Operation.{Operation}
 use Rattle.cfi_row_text.specs.ExpressionWords.{operation_comma, known_operation, operation_then, operation_text, unknown_text, words_from}

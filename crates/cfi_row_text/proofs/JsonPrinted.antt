@@ -6,11 +6,11 @@ use Rattle.cfi_state.specs.declared.table.rules.RegisterRule.{RegisterRule}
 use Rattle.cfi_state.specs.declared.table.rules.RegisterRule.TheVariants as rules
 use Rattle.cfi_state.specs.Row.{Row}
 use Rattle.std.specs.FinMap as map
-use Rattle.cfi_object.specs.declared.register_names.RegisterNames.TheVariants.{X86_64}
+use Rattle.cfi_text.specs.declared.register_names.RegisterNames.TheVariants.{X86_64}
 use Rattle.cfi_row_text.specs.JsonRows.{bytes_of_rule, json_head, json_rule, rules_end}
 use Rattle.cfi_text.specs.JsonTexts.{separated}
 use Rattle.std.specs.Fmt.{decimal}
-use Rattle.cfi_object.specs.declared.register_names.RegisterNames.{RegisterNames}
+use Rattle.cfi_text.specs.declared.register_names.RegisterNames.{RegisterNames}
 use Rattle.cfi_row_text.specs.RowLines.{expression_text, rules_by}
 use Rattle.cfi_row_text.specs.Wordings.{Wording}
 use Rattle.cfi_text.specs.declared.style.Format.TheVariants.{Json}

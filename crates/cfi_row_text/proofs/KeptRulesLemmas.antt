@@ -4,7 +4,7 @@ use Rattle.std.specs.FinMap.{get}
 use Rattle.cfi_read_core.specs.declared.common.Register.{Register}
 use Rattle.cfi_state.specs.RulePairs.{rules_of, IsRising}
 use Rattle.cfi_state.specs.declared.table.rules.RegisterRule.{RegisterRule}
-use Rattle.cfi_object.specs.declared.register_names.RegisterNames.{RegisterNames}
+use Rattle.cfi_text.specs.declared.register_names.RegisterNames.{RegisterNames}
 use Rattle.cfi_row_text.specs.RowLines.{ruled, rules_by}
 use Rattle.cfi_row_text.proofs.RowLineLemmas.{get_of_none, rules_none, rules_rise}
 

@@ -15,8 +15,8 @@ use Rattle.cfi_state.specs.declared.table.rules.RegisterRule.{RegisterRule}
 use Rattle.cfi_state.specs.declared.table.rules.RegisterRule.TheVariants as rules
 use Rattle.cfi_state.specs.Row.{Row}
 use Rattle.cfi_state.specs.RulePairs.{rules_of}
-use Rattle.cfi_object.specs.RegisterNames.{register_text}
-use Rattle.cfi_object.specs.declared.register_names.RegisterNames.{RegisterNames}
+use Rattle.cfi_text.specs.RegisterNames.{register_text}
+use Rattle.cfi_text.specs.declared.register_names.RegisterNames.{RegisterNames}
 use Rattle.cfi_row_text.specs.AnswerLines.{answer_line, plain_line}
 use Rattle.cfi_row_text.specs.ExpressionWords.{in_words}
 use Rattle.cfi_row_text.specs.KeptRules.{HaveNoExpression}

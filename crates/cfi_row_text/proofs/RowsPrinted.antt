@@ -3,7 +3,7 @@ use Rattle.std.proofs.Common.{◌≡◌, ℕ, ◌++◌, Option, Some, None, pos,
 use Rattle.cfi_state.specs.declared.table.rules.CfaRule.TheVariants as cfas
 use Rattle.cfi_state.specs.declared.table.rules.RegisterRule.{RegisterRule}
 use Rattle.cfi_state.specs.declared.table.rules.RegisterRule.TheVariants as rules
-use Rattle.cfi_object.specs.declared.register_names.RegisterNames.TheVariants.{Numbers, X86_64}
+use Rattle.cfi_text.specs.declared.register_names.RegisterNames.TheVariants.{Numbers, X86_64}
 use Rattle.std.specs.FinMap as map
 use Rattle.cfi_state.specs.declared.table.rules.CfaRule.{CfaRule}
 use Rattle.cfi_state.specs.Row.{Row}

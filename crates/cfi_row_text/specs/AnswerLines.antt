@@ -2,7 +2,7 @@
 use Rattle.std.specs.Prelude.{ℕ, List, Result, Ok, Err}
 use Rattle.cfi_read_core.specs.declared.error.Error.{Error}
 use Rattle.cfi_state.specs.Row.{Row}
-use Rattle.cfi_object.specs.declared.register_names.RegisterNames.{RegisterNames}
+use Rattle.cfi_text.specs.declared.register_names.RegisterNames.{RegisterNames}
 use Rattle.cfi_text.specs.Lines.{Line, line}
 use Rattle.cfi_text.specs.Refusals.{refusal_end, refusal_line, refusal_told}
 use Rattle.cfi_row_text.specs.JsonRows.{json_members, json_row}

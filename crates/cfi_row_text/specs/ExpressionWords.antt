@@ -12,8 +12,8 @@ use Rattle.cfi_read_core.specs.ReadFunctions.{Source, Position, Extent, rest}
 use Rattle.cfi_read_core.specs.ReaderCalls.{bytes_left, read_at, remaining}
 use Rattle.cfi_read_core.specs.ExpressionPlaces.{expression_bytes}
 use Rattle.cfi_names.specs.Names.{byte_digits}
-use Rattle.cfi_object.specs.RegisterNames.{register_text}
-use Rattle.cfi_object.specs.declared.register_names.RegisterNames.{RegisterNames}
+use Rattle.cfi_text.specs.RegisterNames.{register_text}
+use Rattle.cfi_text.specs.declared.register_names.RegisterNames.{RegisterNames}
 use Rattle.cfi_text.specs.Lines.{address_text}
 use Rattle.cfi_row_text.specs.Operations.{operation_entry}
 use Rattle.cfi_row_text.specs.OperationReads.{operation}

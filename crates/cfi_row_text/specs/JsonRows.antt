@@ -9,7 +9,7 @@ use Rattle.cfi_state.specs.declared.table.rules.CfaRule.TheVariants as cfas
 use Rattle.cfi_state.specs.declared.table.rules.RegisterRule.{RegisterRule}
 use Rattle.cfi_state.specs.Machine.{Parts}
 use Rattle.cfi_state.specs.Row.{Row}
-use Rattle.cfi_object.specs.RegisterNames.{register_text}
+use Rattle.cfi_text.specs.RegisterNames.{register_text}
 use Rattle.cfi_text.specs.JsonTexts.{json_number, separated}
 use Rattle.cfi_text.specs.Lines.{address_text}
 use Rattle.cfi_row_text.specs.RowLines.{cfa_saying, expression_in, rule_saying, rules_by}

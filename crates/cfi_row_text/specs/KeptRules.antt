@@ -4,7 +4,7 @@ use Rattle.std.specs.FinMap as map
 use Rattle.cfi_read_core.specs.declared.common.Register.{Register}
 use Rattle.cfi_state.specs.RulePairs.{rules_of}
 use Rattle.cfi_state.specs.declared.table.rules.RegisterRule.{RegisterRule}
-use Rattle.cfi_object.specs.declared.register_names.RegisterNames.{RegisterNames}
+use Rattle.cfi_text.specs.declared.register_names.RegisterNames.{RegisterNames}
 use Rattle.cfi_row_text.specs.RowLines.{expression_in, ruled, rules_by}
 use Rattle.cfi_row_text.specs.declared.kept_rules.KeptRules.{KeptRules}
 

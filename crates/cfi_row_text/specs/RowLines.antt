@@ -13,8 +13,8 @@ use Rattle.cfi_state.specs.declared.table.rules.RegisterRule.{RegisterRule}
 use Rattle.cfi_state.specs.declared.table.rules.RegisterRule.TheVariants as rules
 use Rattle.cfi_state.specs.Machine.{Parts}
 use Rattle.cfi_state.specs.Row.{Row}
-use Rattle.cfi_object.specs.RegisterNames.{register_text}
-use Rattle.cfi_object.specs.declared.register_names.RegisterNames.{RegisterNames}
+use Rattle.cfi_text.specs.RegisterNames.{register_text}
+use Rattle.cfi_text.specs.declared.register_names.RegisterNames.{RegisterNames}
 use Rattle.cfi_text.specs.Lines.{address_text}
 
 -- ---- the parts

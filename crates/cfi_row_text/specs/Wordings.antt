@@ -5,7 +5,7 @@ use Rattle.std.specs.Prelude.{ℕ, List}
 use Rattle.cfi_read_core.specs.declared.instruction.UnwindExpression.{UnwindExpression}
 use Rattle.cfi_read_core.specs.ReadFunctions.{Position}
 use Rattle.cfi_entry.specs.Sections.{Section, position_of}
-use Rattle.cfi_object.specs.declared.register_names.RegisterNames.{RegisterNames}
+use Rattle.cfi_text.specs.declared.register_names.RegisterNames.{RegisterNames}
 use Rattle.cfi_row_text.specs.ExpressionWords.{hexadecimal_of, in_words}
 use Rattle.cfi_text.specs.declared.style.Format.{Format}
 use Rattle.cfi_text.specs.declared.style.Format.TheVariants.{Text}

@@ -10,13 +10,13 @@ ghost use Rattle.cfi_row_text.specs.ExpressionWords.{known_operation, operand_te
 ghost use Rattle.cfi_row_text.specs.ExpressionWords.{unknown_text, with_operand, words_at};
 ghost use Rattle.cfi_row_text.specs.ExpressionWords.{words_in};
 ghost use Rattle.cfi_row_text.specs.RowLines.{offset_text};
-ghost use Rattle.cfi_object.specs.RegisterNames.{register_text};
+ghost use Rattle.cfi_text.specs.RegisterNames.{register_text};
 
 use crate::operation_reader::{Operand, Operation, read_operation};
 use crate::operations::entry_of;
 use cfi_names::digit;
-use cfi_object::register_names::RegisterNames;
 use cfi_text::lines::{write_part, write_text};
+use cfi_text::register_names::RegisterNames;
 use gimli_cfi::{Error, Reader, Register, UnwindExpression, UnwindSection};
 use std::fmt::{Display, Formatter};
 use std::io::Write;

@@ -7,7 +7,7 @@ ghost use Rattle.cfi_row_text.specs.JsonRows.{address_members, json_row, json_ru
 ghost use Rattle.cfi_row_text.specs.JsonRows.{bytes_opening};
 ghost use Rattle.cfi_text.specs.JsonTexts.{separated};
 ghost use Rattle.cfi_row_text.specs.RowLines.{expression_at};
-ghost use Rattle.cfi_object.specs.RegisterNames.{register_text};
+ghost use Rattle.cfi_text.specs.RegisterNames.{register_text};
 ghost use Rattle.cfi_row_text.specs.ExpressionWords.{hexadecimal_of};
 ghost use Rattle.cfi_row_text.specs.Wordings.{worded};
 ghost use Rattle.cfi_text.specs.WriterOutput.{Writes};
@@ -16,10 +16,10 @@ use crate::expression_words::write_bytes_of;
 use crate::register_rules::{HasRules, expression_at};
 use crate::row_words::{write_cfa, write_rule};
 use crate::style::Style;
-use cfi_object::register_names::RegisterNames;
 use cfi_text::json::push_number;
 use cfi_text::lines::{write_part, write_text};
 use cfi_text::numbers::Address;
+use cfi_text::register_names::RegisterNames;
 use cfi_text::text::{Text, push};
 use gimli_cfi::{
     _UnwindSectionPrivate, ArrayLike, CfaRule, Reader, Register, RegisterRule, UnwindExpression,

@@ -4,14 +4,14 @@ ghost use Rattle.std.specs.Prelude.{◌≡◌, ◌≤◌, ◌++◌, [], ◌∷�
 ghost use Rattle.std.specs.FinMap as map;
 ghost use Rattle.cfi_state.specs.RegisterRuleIters.{rules_left};
 ghost use Rattle.cfi_state.specs.RulePairs.{IsRising, rules_of};
-ghost use Rattle.cfi_object.specs.declared.register_names.RegisterNames.{RegisterNames};
+ghost use Rattle.cfi_text.specs.declared.register_names.RegisterNames.{RegisterNames};
 ghost use Rattle.cfi_row_text.specs.KeptRules.{AreKept, kept_rules, kept_text};
 ghost use Rattle.cfi_row_text.specs.RowLines.{ruled, rules_by};
 
 use crate::register_rules::is_rising;
 use crate::row_text::push_ruled;
 use arrayvec::ArrayVec;
-use cfi_object::register_names::RegisterNames;
+use cfi_text::register_names::RegisterNames;
 use cfi_text::text::Text;
 use gimli_cfi::{Register, RegisterRule, RegisterRuleIter};
 use std::fmt;

@@ -3,7 +3,7 @@ ghost use Rattle.std.specs.Prelude.{◌≡◌, ◌<◌, ◌++◌, [], ◌∷◌,
 ghost use Rattle.cfi_read_core.specs.ReaderCalls.{map_ok};
 ghost use Rattle.cfi_state.specs.RegisterRuleIters.{rules_left};
 ghost use Rattle.cfi_state.specs.RulePairs.{rules_of};
-ghost use Rattle.cfi_object.specs.declared.register_names.RegisterNames.{RegisterNames};
+ghost use Rattle.cfi_text.specs.declared.register_names.RegisterNames.{RegisterNames};
 ghost use Rattle.cfi_row_text.specs.AnswerLines.{plain_line};
 ghost use Rattle.cfi_row_text.specs.KeptRules.{AreKept, kept_rules, HaveNoExpression};
 ghost use Rattle.cfi_row_text.specs.RowLines.{HasNoExpression, is_plain_cfa};
@@ -12,7 +12,7 @@ ghost use Rattle.cfi_row_text.specs.RowLines.{row_text};
 use crate::kept_rules::KeptRules;
 use crate::register_rules::expression_in;
 use crate::row_text::push_head;
-use cfi_object::register_names::RegisterNames;
+use cfi_text::register_names::RegisterNames;
 use cfi_text::text::{Text, push};
 use gimli_cfi::{
     ArrayLike, CfaRule, Error, Register, RegisterRule, RegisterRuleIter, UnwindTableRow,
@@ -35,7 +35,7 @@ pub struct KeptRows {
 impl Model for KeptRows {
     ghost use Rattle.std.specs.List.{All};
     ghost use Rattle.cfi_row_text.specs.KeptRules.{AreKept};
-    ghost use Rattle.cfi_object.specs.declared.register_names.RegisterNames.{RegisterNames};
+    ghost use Rattle.cfi_text.specs.declared.register_names.RegisterNames.{RegisterNames};
 
     ghost Value = { RegisterNames };
 

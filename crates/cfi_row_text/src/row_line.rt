@@ -10,9 +10,9 @@ ghost use Rattle.cfi_row_text.specs.RowLines.{parts_rules, row_text, ruled, rule
 
 use crate::register_rules::{HasRules, is_rising};
 use crate::row_text::{push_head, push_ruled};
-use cfi_object::register_names::RegisterNames;
 use cfi_text::lines::write_text;
 use cfi_text::refusals::write_refusal;
+use cfi_text::register_names::RegisterNames;
 use cfi_text::text::{Text, push};
 use gimli_cfi::{ArrayLike, Error, Register, RegisterRule, RegisterRuleIter, UnwindTableRow};
 use std::io;

@@ -1,13 +1,13 @@
 //! The parts of a row in text, with the place of each expression in the section.
 ghost use Rattle.std.specs.Prelude.{◌≡◌, ◌≤◌, ◌+◌, ◌++◌, ◌∷◌, OnOk, codes, ◌<◌, IfSome};
 ghost use Rattle.std.specs.Fmt.{decimal, signed_decimal};
-ghost use Rattle.cfi_object.specs.RegisterNames.{register_text};
-ghost use Rattle.cfi_object.specs.declared.register_names.RegisterNames.TheVariants.{X86_64};
+ghost use Rattle.cfi_text.specs.RegisterNames.{register_text};
+ghost use Rattle.cfi_text.specs.declared.register_names.RegisterNames.TheVariants.{X86_64};
 ghost use Rattle.cfi_row_text.specs.RowLines.{cfa_text, expression_text, offset_text, row_head};
 ghost use Rattle.cfi_row_text.specs.RowLines.{rule_text, ruled};
 
-use cfi_object::register_names::RegisterNames;
 use cfi_text::numbers::{push_address, push_decimal, push_signed};
+use cfi_text::register_names::RegisterNames;
 use cfi_text::text::{Text, push};
 use gimli_cfi::{ArrayLike, CfaRule, Register, RegisterRule, UnwindExpression, UnwindTableRow};
 use std::fmt;

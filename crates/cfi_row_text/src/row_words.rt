@@ -3,7 +3,7 @@ ghost use Rattle.std.specs.Prelude.{◌≡◌, ◌++◌, [], ◌∷◌, OnOk, co
 ghost use Rattle.std.specs.Fmt.{decimal, signed_decimal};
 ghost use Rattle.cfi_read_core.specs.ReaderCalls.{map_ok};
 ghost use Rattle.gimli_cfi.specs.SectionSources.{given_section, source_view};
-ghost use Rattle.cfi_object.specs.RegisterNames.{register_text};
+ghost use Rattle.cfi_text.specs.RegisterNames.{register_text};
 ghost use Rattle.cfi_text.specs.WriterOutput.{Prints, Writes};
 ghost use Rattle.cfi_row_text.specs.AnswerLines.{answer_end, answer_line, row_end};
 ghost use Rattle.cfi_row_text.specs.AnswerLines.{row_by_format};
@@ -17,10 +17,10 @@ use crate::expression_words::{RegisterOffset, write_in_words};
 use crate::json_row::{write_json_members, write_json_row};
 use crate::register_rules::HasRules;
 use crate::style::Style;
-use cfi_object::register_names::RegisterNames;
 use cfi_text::lines::{write_part, write_text};
 use cfi_text::numbers::Address;
 use cfi_text::refusals::{write_refusal_end, write_refusal_told};
+use cfi_text::register_names::RegisterNames;
 use cfi_text::style::Format;
 use cfi_text::text::{Text, write_out};
 use gimli_cfi::{

@@ -1,6 +1,6 @@
 //! How answers are printed: the form of the lines, and the names of registers.
 
-use cfi_object::register_names::RegisterNames;
+use cfi_text::register_names::RegisterNames;
 use cfi_text::style::Format;
 
 /// How answers are printed.

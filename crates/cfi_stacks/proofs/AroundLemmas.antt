@@ -5,7 +5,8 @@ use Rattle.std.proofs.lemmas.Bool.{leb-true}
 use Rattle.std.proofs.lemmas.List.{length-drop, length-replicate, length-take, nil_from_length, take_all}
 use Rattle.std.specs.Prelude.{if◌then◌else◌, nat_le, nat_lt, not, slice_range}
 use Rattle.cfi_elf.specs.Fields.{part}
-use Rattle.cfi_object.specs.FileInputs.{AreLeft, IsLength, IsPartRead}
+use Rattle.cfi_object.specs.FileInputs.{IsLength, IsPartRead}
+use Rattle.cfi_text.specs.Readings.{AreLeft}
 use Rattle.cfi_perf.specs.declared.error.PerfError.{PerfError}
 use Rattle.cfi_perf.specs.FileHeaders.{byte_order, file_header}
 use Rattle.cfi_perf.specs.Pipes.{is_pipe}

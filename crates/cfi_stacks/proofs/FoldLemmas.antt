@@ -22,7 +22,7 @@ use Rattle.cfi_mapped.specs.declared.mappings.MappedCode.{MappedCode}
 use Rattle.cfi_processes.specs.declared.registers.SampleMachine.{SampleMachine}
 use Rattle.cfi_processes.specs.KnownFiles.{KnownFile}
 use Rattle.cfi_stacks.specs.FoldedTexts.{frame_name, names_text}
-use Rattle.cfi_object.specs.declared.input.InputError.TheVariants.{OutOfMemory as InputMemory}
+use Rattle.cfi_text.specs.declared.reading.InputError.TheVariants.{OutOfMemory as InputMemory}
 use Rattle.cfi_stacks.specs.declared.folding.Unfolded.TheVariants.{Input, TooMany}
 use Rattle.cfi_stacks.specs.Turns.{AddsAll, IsFollowed, IsNotFollowed, IsTurn}
 use Rattle.cfi_stacks.specs.Choices.{Choice}

@@ -1,9 +1,9 @@
 -- What is said of a profile: after the status 0 alone, from the tally of an index up to the bytes of the file.
 use Rattle.std.proofs.Common.{◌≡◌, ◌∙◌, ◌≤◌, ◌+◌, ◌&&◌, ℕ, Bool, true, false, List, Option, Some, None, Result, Ok, Err, IfOk, IfSome, ap, arith, not, refl, subst, sym}
 use Rattle.std.specs.Prelude.{◌==◌, slice_range}
-use Rattle.cfi_object.specs.FileInputs.{AreLeft}
-use Rattle.cfi_object.specs.declared.input.InputError.{InputError}
-use Rattle.cfi_object.specs.declared.input.InputError.TheVariants as input_errors
+use Rattle.cfi_text.specs.Readings.{AreLeft}
+use Rattle.cfi_text.specs.declared.reading.InputError.{InputError}
+use Rattle.cfi_text.specs.declared.reading.InputError.TheVariants as input_errors
 use Rattle.cfi_inputs.specs.Refusals.{input_refusal}
 use Rattle.cfi_perf.specs.declared.error.PerfError.{PerfError}
 use Rattle.cfi_perf.specs.declared.windows.RecordWalk.{RecordWalk}

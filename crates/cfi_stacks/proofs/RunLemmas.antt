@@ -9,8 +9,8 @@ use Rattle.cfi_perf.specs.Events.{Record, SampleEvent}
 use Rattle.cfi_perf.specs.Samples.{Sample}
 use Rattle.cfi_text.specs.declared.style.Format.{Format}
 use Rattle.cfi_inputs.specs.Refusals.{input_refusal}
-use Rattle.cfi_object.specs.declared.input.InputError.{InputError}
-use Rattle.cfi_object.specs.declared.input.InputError.TheVariants.{OutOfMemory}
+use Rattle.cfi_text.specs.declared.reading.InputError.{InputError}
+use Rattle.cfi_text.specs.declared.reading.InputError.TheVariants.{OutOfMemory}
 use Rattle.cfi_text.specs.Lines.{Line}
 use Rattle.cfi_text.specs.WriterOutput.{IsBeginning, Prints, PrintsSome}
 use Rattle.cfi_text.proofs.WrittenLemmas.{appends_then, beginning_then, none_yet, writes_refused}

@@ -4,7 +4,7 @@ use Rattle.std.specs.Io.KnownBytes.{Appends}
 use Rattle.std.specs.Result.{IsErr}
 use Rattle.cfi_flame.specs.FoldedCounts.{AreCounted}
 use Rattle.cfi_flame.specs.FoldedStacks.{Stack}
-use Rattle.cfi_object.specs.declared.input.InputError.{InputError}
+use Rattle.cfi_text.specs.declared.reading.InputError.{InputError}
 use Rattle.cfi_perf.specs.declared.index.RecordPlace.{RecordPlace}
 use Rattle.cfi_perf.specs.declared.record.Event.{Event as EventOfCode}
 use Rattle.cfi_perf.specs.declared.record.Event.TheVariants as events

@@ -2,7 +2,7 @@
 use Rattle.std.proofs.Common.{◌≡◌, ◌∙◌, ◌⊎◌, ◌+◌, ℕ, Bool, List, Option, Some, None, Result, Ok, Err, ap, inl, inr, map, refl, replicate, subst, sym}
 use Rattle.std.proofs.lemmas.List.{length-replicate}
 use Rattle.std.specs.Prelude.{slice_range}
-use Rattle.cfi_object.specs.FileInputs.{AreLeft}
+use Rattle.cfi_text.specs.Readings.{AreLeft}
 use Rattle.cfi_perf.specs.declared.error.PerfError.{PerfError}
 use Rattle.cfi_perf.specs.declared.windows.RecordWalk.{RecordWalk}
 use Rattle.cfi_perf.specs.Events.{Record}

@@ -17,7 +17,7 @@ use Rattle.std.specs.Prelude.{Option, Some, None, Ok, IfSome, slice_range, if◌
 use Rattle.std.specs.List.{All, Contains, flat_map}
 use Rattle.std.specs.List.Sorted.{IsSortedByKey}
 use Rattle.std.specs.Ordering.{nat_cmp}
-use Rattle.cfi_object.specs.FileInputs.{AreLeft}
+use Rattle.cfi_text.specs.Readings.{AreLeft}
 use Rattle.cfi_perf.specs.declared.index.PlaceKind.{PlaceKind}
 use Rattle.cfi_perf.specs.declared.index.PlaceKind.TheVariants.{InFile, Kept, Nothing}
 use Rattle.cfi_perf.specs.declared.index.RecordPlace.{RecordPlace}

@@ -15,7 +15,7 @@ use Rattle.cfi_flame.specs.declared.folded.FoldedError.TheVariants.{OutOfMemory,
 use Rattle.cfi_flame.specs.declared.folded.FoldedError.TheVariants.{NoSamples, TooManySamples}
 use Rattle.cfi_flame.specs.FoldedCounts.{AreCounted}
 use Rattle.cfi_flame.specs.FoldedStacks.{Stack}
-use Rattle.cfi_object.specs.declared.input.InputError.{InputError}
+use Rattle.cfi_text.specs.declared.reading.InputError.{InputError}
 use Rattle.cfi_perf.specs.declared.index.RecordPlace.{RecordPlace}
 use Rattle.cfi_perf.specs.Events.{Event, Record, SampleEvent}
 use Rattle.cfi_processes.specs.declared.registers.SampleMachine.{SampleMachine}

@@ -3,8 +3,9 @@ ghost use Rattle.std.specs.Prelude.{◌≡◌, ◌≤◌, IfOk};
 ghost use Rattle.cfi_object.specs.FileInputs.{IsLength};
 ghost use Rattle.cfi_stacks.specs.ProfileIndexes.{IsReadAround};
 
-use cfi_object::input::{FileInput, InputError};
+use cfi_object::input::FileInput;
 use cfi_perf::records_section;
+use cfi_text::reading::InputError;
 use std::alloc::Global;
 
 /// How many bytes the header of a profile has.

@@ -34,7 +34,7 @@ use crate::turns::{ChosenSamples, Walker, follow_other, is_left_out, left_after,
 use cfi_flame::{FoldedError, StackCounts};
 use cfi_frames::room::Room;
 use cfi_inputs::write_input_refusal;
-use cfi_object::input::{FileInput, InputError};
+use cfi_object::input::FileInput;
 use cfi_perf::{Event, PerfError, PlaceKind, Record, RecordPlace, Sample};
 use cfi_processes::process_code::KERNEL;
 use cfi_processes::process_modules::FileModule;
@@ -42,6 +42,7 @@ use cfi_processes::profile_files::ProfileFile;
 use cfi_processes::registers::SampleMachine;
 use cfi_processes::replay::Replay;
 use cfi_text::lines::write_text;
+use cfi_text::reading::InputError;
 use cfi_text::refusals::write_refusal;
 use cfi_text::style::Format;
 use gimli_cfi::Error;

@@ -20,8 +20,9 @@ ghost use Rattle.cfi_stacks.specs.ProfileIndexes.{Piece, kernel_after, record_of
 use cfi_elf::bytes::part;
 use cfi_mapped::wanted::WantedFile;
 use cfi_mapped::wanted_files::{code_file, has_kernel_frames, push_file};
-use cfi_object::input::{FileInput, InputError};
+use cfi_object::input::FileInput;
 use cfi_perf::{Event, Lost, PerfError, PlaceKind, Record, RecordIndex, RecordPlace, RecordWalk};
+use cfi_text::reading::InputError;
 use std::alloc::{AllocError, Global};
 
 /// How many bytes a window has: few enough for the cache, and enough for several records.

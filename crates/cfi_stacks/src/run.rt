@@ -1,6 +1,6 @@
 //! The stacks of a profile, by the files that it names.
 ghost use Rattle.std.specs.Prelude.{◌⊎◌, ℕ, List, Some, map};
-ghost use Rattle.cfi_object.specs.FileInputs.{AreLeft};
+ghost use Rattle.cfi_text.specs.Readings.{AreLeft};
 ghost use Rattle.cfi_perf.specs.Profiles.{records_by};
 ghost use Rattle.cfi_perf.specs.ProfileHeads.{head_view};
 ghost use Rattle.cfi_perf.specs.Windows.{records_in};

@@ -13,10 +13,10 @@ ghost use Rattle.cfi_stacks.specs.KnownSamples.{known_in};
 use crate::choice::Choice;
 use crate::profile_index::ProfileIndex;
 use cfi_frames::room::Room;
-use cfi_object::input::InputError;
 use cfi_perf::{Event, PlaceKind, Record, RecordPlace};
 use cfi_processes::registers::SampleMachine;
 use cfi_processes::replay::Replay;
+use cfi_text::reading::InputError;
 use std::alloc::{AllocError, Global};
 
 /// The samples of a profile that are printed or counted, which are the same for all of its records.

@@ -2,11 +2,11 @@
 pub(crate) mod failing;
 
 use crate::comparison::expect;
-use cfi_object::register_names::RegisterNames;
 use cfi_parts::instruction::UnwindExpression;
 use cfi_row_text::row_text::{push_frame, push_ruled};
 use cfi_state::table::rules::{CfaRule, RegisterRule};
 use cfi_text::numbers::push_address;
+use cfi_text::register_names::RegisterNames;
 use cfi_text::text::{Text, push};
 use gimli_cfi::Register;
 use std::fmt;

@@ -7,3 +7,4 @@ pub mod EscapedLemmas
 pub mod PushedLemmas
 pub mod RefusedLines
 mod JsonPrinted
+mod RegistersNamed

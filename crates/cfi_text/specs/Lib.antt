@@ -5,3 +5,5 @@ pub mod Lines
 pub mod Refusals
 pub mod JsonTexts
 pub mod WriterOutput
+pub mod RegisterNames
+pub mod Readings

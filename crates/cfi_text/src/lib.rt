@@ -1,5 +1,6 @@
 //! The parts of which the programs make their lines: text that is put together and written, numbers
-//! and addresses, names, the strings of JSON, and the lines that say why there is no answer.
+//! and addresses, names, the names of registers, the strings of JSON, and the lines that say why
+//! there is no answer. `reading` reads an input to its end.
 #![tactic(auto)]
 
 pub mod error_words;
@@ -7,6 +8,8 @@ pub mod json;
 pub mod lines;
 pub mod names;
 pub mod numbers;
+pub mod reading;
 pub mod refusals;
+pub mod register_names;
 pub mod style;
 pub mod text;

@@ -4,9 +4,9 @@ ghost use Rattle.cfi_text.specs.WordTexts.{texts};
 ghost use Rattle.cfi_programs.specs.RowsCommandLine.{first_four_words, option_word, option_words};
 ghost use Rattle.cfi_programs.specs.RowsCommandLine.{request_of, set_storage};
 
+use crate::numbers::number_in;
 use crate::words;
 use crate::words::SectionWords;
-use cfi_object::number_in;
 
 /// Where an unwind keeps its rows.
 #[derive(Clone, Copy)]

@@ -7,9 +7,9 @@ ghost use Rattle.cfi_programs.specs.Runs.{PrintsAnswer};
 
 use crate::input::Sections;
 use crate::rows::command_line::{Request, Storage};
-use cfi_object::register_names::RegisterNames;
 use cfi_row_text::row_line::write_plain_answer;
 use cfi_text::refusals::write_refusal;
+use cfi_text::register_names::RegisterNames;
 use gimli_cfi::{
     Error, StoreGrowing, StoreOnHeap, UnwindContext, UnwindContextStorage, UnwindTableRow,
 };

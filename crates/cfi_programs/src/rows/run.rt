@@ -10,7 +10,7 @@ use crate::input::{Sections, read_sections};
 use crate::rows::command_line::{Request, parse};
 use crate::rows::row_lookup::print_answer;
 use crate::run::{ProgramRequest, run_program};
-use cfi_object::InputError;
+use cfi_text::reading::InputError;
 use std::alloc::Global;
 use std::io;
 use std::io::{Read, Write};

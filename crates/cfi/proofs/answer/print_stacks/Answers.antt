@@ -1,5 +1,5 @@
 use Rattle.std.proofs.Common.{ℕ, List, Option, subst, sym}
-use Rattle.cfi_object.specs.FileInputs.{AreLeft}
+use Rattle.cfi_text.specs.Readings.{AreLeft}
 use Rattle.cfi_text.specs.Lines.{Line}
 use Rattle.cfi_stacks.specs.Choices.{choice_view}
 use Rattle.cfi_stacks.specs.ProfileOutputs.{IsListingOwed}

@@ -1,5 +1,5 @@
 use Rattle.std.proofs.Common.{ℕ, List, Option, subst, sym}
-use Rattle.cfi_object.specs.FileInputs.{AreLeft}
+use Rattle.cfi_text.specs.Readings.{AreLeft}
 use Rattle.cfi_text.specs.Lines.{Line}
 use Rattle.cfi_core_stacks.specs.CoreOutputs.{IsCoreOwed}
 use Rattle.cfi_commands.specs.Disks.{Disk, MayOpenNamed, disk_of}

@@ -1,6 +1,6 @@
 use Rattle.std.proofs.Common.{rules, ◌≡◌, ◌∙◌, ◌++◌, ℕ, Bool, List, Option, Some, None, IfSome, ap, append_assoc, false, inl, inr, sym}
 use Rattle.std.specs.Io.KnownBytes.{Consumes}
-use Rattle.cfi_object.specs.Readings.{IsAppended}
+use Rattle.cfi_text.specs.Readings.{IsAppended}
 use Rattle.cfi_inputs.specs.Beginnings.{IsReadAsEither, may_be_either}
 use Rattle.cfi_inputs.proofs.beginnings.read_elf_or_profile.Goals as goal
 

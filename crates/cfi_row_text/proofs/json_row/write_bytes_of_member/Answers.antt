@@ -1,5 +1,5 @@
 use Rattle.std.proofs.Common.{◌++◌, codes}
-use Rattle.cfi_object.specs.RegisterNames.{register_text}
+use Rattle.cfi_text.specs.RegisterNames.{register_text}
 use Rattle.cfi_row_text.specs.ExpressionWords.{hexadecimal_of}
 use Rattle.cfi_text.proofs.PartsWritten.{first_refused, last_written}
 use Rattle.cfi_row_text.proofs.json_row.write_bytes_of_member.Goals as goal

@@ -1,5 +1,5 @@
 use Rattle.std.proofs.Common.{◌++◌, codes}
-use Rattle.cfi_object.specs.RegisterNames.{register_text}
+use Rattle.cfi_text.specs.RegisterNames.{register_text}
 use Rattle.cfi_row_text.specs.ExpressionWords.{in_words}
 use Rattle.cfi_row_text.specs.RowLines.{rule_saying}
 use Rattle.cfi_text.proofs.PartsWritten.{first_refused, last_written}

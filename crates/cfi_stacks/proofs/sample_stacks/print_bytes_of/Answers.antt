@@ -1,5 +1,5 @@
 use Rattle.std.proofs.Common.{inl, inr, refl}
-use Rattle.cfi_object.specs.declared.input.InputError.TheVariants.{Unreadable}
+use Rattle.cfi_text.specs.declared.reading.InputError.TheVariants.{Unreadable}
 use Rattle.cfi_perf.specs.Events.{record_view}
 use Rattle.cfi_stacks.proofs.sample_stacks.print_bytes_of.Goals as goal
 

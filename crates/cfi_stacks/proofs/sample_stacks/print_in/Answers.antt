@@ -1,5 +1,5 @@
 use Rattle.std.proofs.Common.{◌∙◌, ℕ, List, Option, Result, Ok, get_or, map, refl, subst, sym}
-use Rattle.cfi_object.specs.declared.input.InputError.{InputError}
+use Rattle.cfi_text.specs.declared.reading.InputError.{InputError}
 use Rattle.cfi_perf.specs.declared.index.PlaceKind.TheVariants.{InFile}
 use Rattle.cfi_perf.specs.declared.index.RecordPlace.{RecordPlace}
 use Rattle.cfi_processes.specs.declared.profile_files.ProfileFile.{ProfileFile}

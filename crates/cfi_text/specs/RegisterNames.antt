@@ -9,13 +9,13 @@ use Rattle.std.specs.Prelude.{ℕ, ◌+◌, ◌-◌, ◌&&◌, List, [], ◌∷�
 use Rattle.std.specs.Prelude.{nat_le, nat_lt, codes, if◌then◌else◌}
 use Rattle.std.specs.Fmt.{decimal}
 use Rattle.std.specs.Option.{option_map_or}
-use Rattle.cfi_object.specs.declared.register_names.RegisterNames.{RegisterNames}
-use Rattle.cfi_object.specs.declared.register_names.RegisterNames.TheVariants.{Numbers, X86_64}
-use Rattle.cfi_object.specs.declared.register_names.RegisterNames.TheVariants.{I386, AArch64, Arm}
-use Rattle.cfi_object.specs.declared.register_names.RegisterNames.TheVariants.{RiscV, S390x}
-use Rattle.cfi_object.specs.declared.register_names.RegisterNames.TheVariants.{PowerPc64, Mips}
-use Rattle.cfi_object.specs.declared.register_names.RegisterNames.TheVariants.{Sparc, M68k}
-use Rattle.cfi_object.specs.declared.register_names.RegisterName.{RegisterName}
+use Rattle.cfi_text.specs.declared.register_names.RegisterNames.{RegisterNames}
+use Rattle.cfi_text.specs.declared.register_names.RegisterNames.TheVariants.{Numbers, X86_64}
+use Rattle.cfi_text.specs.declared.register_names.RegisterNames.TheVariants.{I386, AArch64, Arm}
+use Rattle.cfi_text.specs.declared.register_names.RegisterNames.TheVariants.{RiscV, S390x}
+use Rattle.cfi_text.specs.declared.register_names.RegisterNames.TheVariants.{PowerPc64, Mips}
+use Rattle.cfi_text.specs.declared.register_names.RegisterNames.TheVariants.{Sparc, M68k}
+use Rattle.cfi_text.specs.declared.register_names.RegisterName.{RegisterName}
 
 -- ---- blocks of a table, each before those that come after it
 

@@ -1,7 +1,7 @@
 -- Names of registers, by computation: the first and the last of a block, and a number that has no name.
 use Rattle.std.proofs.Common.{◌≡◌, [], ◌∷◌, map, refl, codes}
-use Rattle.cfi_object.specs.RegisterNames.{register_text}
-use Rattle.cfi_object.specs.declared.register_names.RegisterNames.TheVariants.{Numbers, X86_64, I386, AArch64, Arm, RiscV, S390x, PowerPc64, Mips, Sparc, M68k}
+use Rattle.cfi_text.specs.RegisterNames.{register_text}
+use Rattle.cfi_text.specs.declared.register_names.RegisterNames.TheVariants.{Numbers, X86_64, I386, AArch64, Arm, RiscV, S390x, PowerPc64, Mips, Sparc, M68k}
 use Rattle.std.specs.Fmt.{digits}
 
 by_number : map (register_text Numbers) (0 ∷ 16 ∷ 65535 ∷ []) ≡ codes "r0" ∷ codes "r16" ∷ codes "r65535" ∷ []

@@ -1,11 +1,20 @@
 //! Inputs that are read to their end.
 ghost use Rattle.std.specs.Prelude.{◌≡◌, [], IfErr, IfOk, IfSome, OnOk};
-ghost use Rattle.cfi_object.specs.FileInputs.{AreLeft};
-ghost use Rattle.cfi_object.specs.Readings.{IsAppended, IsReadRefused};
+ghost use Rattle.cfi_text.specs.Readings.{AreLeft, IsAppended, IsReadRefused};
 
-use crate::input::InputError;
 use std::alloc::Global;
 use std::io::Read;
+
+/// Why there are no bytes.
+#[derive(Clone, Copy)]
+pub enum InputError {
+    /// A read failed.
+    Unreadable,
+    /// The text is not hexadecimal.
+    NotHexadecimal,
+    /// An allocation failed.
+    OutOfMemory,
+}
 
 /// How many bytes a read asks for.
 const CHUNK: usize = 16384;

@@ -1,9 +1,9 @@
 //! The names of registers, by the machine.
 ghost use Rattle.std.specs.Prelude.{◌≡◌, ◌++◌, Some};
-ghost use Rattle.cfi_object.specs.RegisterNames.{aarch64_name, arm_name, i386_name, m68k_name};
-ghost use Rattle.cfi_object.specs.RegisterNames.{mips_name, powerpc64_name, register_text};
-ghost use Rattle.cfi_object.specs.RegisterNames.{riscv_name, s390x_name, shown_name, sparc_name};
-ghost use Rattle.cfi_object.specs.RegisterNames.{x86_64_name};
+ghost use Rattle.cfi_text.specs.RegisterNames.{aarch64_name, arm_name, i386_name, m68k_name};
+ghost use Rattle.cfi_text.specs.RegisterNames.{mips_name, powerpc64_name, register_text};
+ghost use Rattle.cfi_text.specs.RegisterNames.{riscv_name, s390x_name, shown_name, sparc_name};
+ghost use Rattle.cfi_text.specs.RegisterNames.{x86_64_name};
 ghost use Rattle.std.specs.Fmt.{decimal};
 
 use std::fmt;
