@@ -100,6 +100,11 @@ FAULTS = [
         "reader = tail;\n                    break;\n",
         "reader = tail;\n                    len = len - (len / 2);\n",
     ),
+    (
+        "restore takes the rule of the register with the low 8 bits of the number",
+        "None => self.stack[0].registers.get(register),",
+        "None => self.stack[0].registers.get(Register(register.0 & 0xff)),",
+    ),
 ]
 
 

@@ -11,7 +11,7 @@ import zlib
 from pathlib import Path
 
 MMAP, LOST, COMM, SAMPLE, MMAP2, LOST_SAMPLES = 1, 2, 3, 9, 10, 13
-IP, TID, TIME, CALLCHAIN, REGISTERS, STACK = 1, 2, 4, 1 << 5, 1 << 12, 1 << 13
+IP, TID, TIME, CALLCHAIN, PERIOD, REGISTERS, STACK = 1, 2, 4, 1 << 5, 1 << 8, 1 << 12, 1 << 13
 RBP_RSP_RIP = 7 << 6
 KERNEL, USER, OWN_BUILD, SIZED_BUILD = 1, 2, 1 << 14, 1 << 15
 CONTEXT_KERNEL, CONTEXT_USER = 2**64 - 128, 2**64 - 512
@@ -36,27 +36,27 @@ def lost(kind, time, *numbers):
     return record(kind, struct.pack(f"<{len(numbers)}Q2IQ", *numbers, PROCESS, PROCESS, time))
 
 
-def called(time, mode, chain):
-    """A sample without registers and stack."""
+def called(time, mode, chain, *period):
+    """A sample without registers and stack; with its period, if one is given."""
     address = next(entry for entry in chain if entry < CONTEXT_USER)
-    body = struct.pack("<Q2IQ", address, PROCESS, PROCESS, time) + struct.pack(f"<Q{len(chain)}Q", len(chain), *chain)
-    return record(SAMPLE, body, mode=mode)
+    body = struct.pack("<Q2IQ", address, PROCESS, PROCESS, time) + struct.pack(f"<{len(period)}Q", *period)
+    return record(SAMPLE, body + struct.pack(f"<Q{len(chain)}Q", len(chain), *chain), mode=mode)
 
 
-def mapping(time, address, name, build=b""):
-    """The first 4,096 bytes of a file, mapped as code; with its build, if one is given."""
-    body = struct.pack("<2I3Q", PROCESS, PROCESS, address, 4096, 0)
+def mapping(time, address, name, build=b"", size=4096):
+    """The first bytes of a file, 4,096 mostly, mapped as code; with its build, if one is given."""
+    body = struct.pack("<2I3Q", PROCESS, PROCESS, address, size, 0)
     body += struct.pack("<B3x", len(build)) + build.ljust(20, b"\0") + struct.pack("<2I", 5, 2)
     name = FOLDER + name + b"\0"
     body += name.ljust(-(-len(name) // 8) * 8, b"\0") + struct.pack("<2IQ", PROCESS, PROCESS, time)
     return record(MMAP2, body, OWN_BUILD if build else 0)
 
 
-def renamed(time, name):
-    """The name of the thread with the number of the process."""
+def renamed(time, name, thread=PROCESS):
+    """The name of a thread of the process, or of the one with its number."""
     name += b"\0"
-    body = struct.pack("<2I", PROCESS, PROCESS) + name.ljust(-(-len(name) // 8) * 8, b"\0")
-    return record(COMM, body + struct.pack("<2IQ", PROCESS, PROCESS, time))
+    body = struct.pack("<2I", PROCESS, thread) + name.ljust(-(-len(name) // 8) * 8, b"\0")
+    return record(COMM, body + struct.pack("<2IQ", PROCESS, thread, time))
 
 
 def listed(name, build):
@@ -193,6 +193,95 @@ of_linked = profile(
     ),
 )
 
+# Of two threads with names of their own and one without, in the same functions.
+of_threads_names = profile(
+    mapping(1_000_001_000, 0x400000, b"calls"),
+    renamed(1_000_001_000, b"main"),
+    renamed(1_000_001_500, b"worker 1;a", 8),
+    *(
+        sample(thread, 1_000_002_000 + n * 1000, (0x7020, 0x7000, IN_INNER), STACK_OF_INNER)
+        for n, thread in enumerate((7, 8, 9, 8))
+    ),
+)
+
+# Of shortened, on the last byte of each function and on the one behind it: of outer after its prologue, and in a call chain.
+of_ends = profile(
+    mapping(1_000_001_000, 0x400000, b"shortened"),
+    *(
+        sample(7, 1_000_002_000 + n * 1000, registers, stack)
+        for n, (registers, stack) in enumerate(
+            (
+                ((0, 0x7000, 0x4000B6), [0]),
+                ((0x7000, 0x7000, 0x4000BF), [0, IN_START, 0]),
+                ((0x7000, 0x7000, 0x4000C0), [0, IN_START, 0]),
+                ((0x7008, 0x7000, 0x4000CB), [IN_OUTER, 0, IN_START, 0]),
+                ((0x7008, 0x7000, 0x4000CC), [IN_OUTER, 0, IN_START, 0]),
+            )
+        )
+    ),
+)
+of_chained_ends = profile(
+    mapping(1_000_001_000, 0x400000, b"shortened"),
+    called(1_000_002_000, USER, [CONTEXT_USER, 0x4000CC, 0x4000C0, 0x4000BF, 0x4000B7, 0x4000B6, 0x4000AF]),
+    fields=IP | TID | TIME | CALLCHAIN,
+)
+
+# With periods above 2^32, with one that is 0, and with two whose sum is 2^64.
+of_periods = profile(
+    mapping(1_000_001_000, 0x400000, b"calls"),
+    *(
+        called(1_000_002_000 + n * 1000, USER, [CONTEXT_USER, *chain], period)
+        for n, (chain, period) in enumerate(
+            (
+                ([IN_INNER, IN_OUTER, IN_START], 2**32 + 1),
+                ([IN_INNER, IN_OUTER, IN_START], 0),
+                ([IN_OUTER, IN_START], 2**32),
+                ([IN_START], 2**63),
+                ([IN_START], 2**63),
+            )
+        )
+    ),
+    fields=IP | TID | TIME | PERIOD | CALLCHAIN,
+)
+
+# Of two files that have other rows at the same places, in turn; deeper's inner has a frame of 40 bytes.
+STACK_OF_DEEPER = [1, 2, 3, 4, IN_OUTER + 0x100000, 0x7FE0, IN_START + 0x100000, 0]
+of_neighbours = profile(
+    mapping(1_000_001_000, 0x400000, b"calls"),
+    mapping(1_000_001_000, 0x500000, b"deeper"),
+    *(
+        sample(7, 1_000_002_000 + n * 1000, registers, stack)
+        for n, (registers, stack) in enumerate(
+            (
+                ((0x7020, 0x7000, IN_INNER), STACK_OF_INNER),
+                ((0x7028, 0x7000, IN_INNER + 0x100000), STACK_OF_DEEPER),
+                ((0x7020, 0x7000, IN_INNER), STACK_OF_INNER),
+            )
+        )
+    ),
+)
+
+# Of shifted: where inner is, its row begins at an address whose low byte is 0.
+of_shifted = profile(
+    mapping(1_000_001_000, 0x500000, b"shifted"),
+    sample(
+        7,
+        1_000_002_000,
+        (0x7020, 0x7000, IN_BARE_INNER + 0x100000),
+        [1, 2, 3, IN_BARE_OUTER + 0x100000, 0x7FE0, IN_BARE_START + 0x100000, 0],
+    ),
+)
+
+# Of calls, whose first bytes another mapping covers later: up to outer, and then from there on.
+of_covered = profile(
+    mapping(1_000_001_000, 0x400000, b"calls"),
+    sample(7, 1_000_002_000, (0x7020, 0x7000, IN_INNER), STACK_OF_INNER),
+    mapping(1_000_003_000, 0x400000, b"absent", size=0xB7),
+    sample(7, 1_000_004_000, (0x7020, 0x7000, IN_INNER), STACK_OF_INNER),
+    mapping(1_000_005_000, 0x4000B7, b"absent", size=11),
+    sample(7, 1_000_006_000, (0x7020, 0x7000, IN_INNER), STACK_OF_INNER),
+)
+
 # ---- core files
 
 PT_LOAD, PT_NOTE, EXECUTABLE, WRITABLE = 1, 4, 5, 6
@@ -289,6 +378,18 @@ of_fault = core(
     (WRITABLE, 0x7000, 4096, STACK_OF_INNER),
 )
 
+# A thread in each of two files that have other rows at the same places.
+of_neighbouring_threads = core(
+    thread(8, 11, 0x7020, 0x7000, IN_INNER)
+    + process(b"calls")
+    + thread(7, 0, 0x9028, 0x9000, IN_INNER + 0x100000)
+    + files((0x400000, 0x401000, 0, b"calls"), (0x500000, 0x501000, 0, b"deeper")),
+    CODE,
+    (EXECUTABLE, 0x500000, 4096, []),
+    (WRITABLE, 0x7000, 4096, STACK_OF_INNER),
+    (WRITABLE, 0x9000, 4096, STACK_OF_DEEPER),
+)
+
 # Inner called the address 0, and would go on at the second byte behind its prologue.
 of_null_call = core(
     thread(8, 11, 0x7020, 0x6FF8, 0)
@@ -353,6 +454,34 @@ indirect = bytearray((data / "calls").read_bytes())
 indirect[7] = 3
 indirect[indirect.index(struct.pack("<BBHQQ", 2, 0, 1, 0x4000C2, 10))] = 10
 
+# Of calls, with the size of outer without its last two instructions, from 0x4000c0 on.
+shortened = bytearray((data / "calls").read_bytes())
+shortened[shortened.index(struct.pack("<BBHQQ", 2, 0, 1, 0x4000B7, 11)) + 12] = 9
+
+# Of calls, where inner's frame has 40 bytes: DW_CFA_def_cfa_offset, behind the advance over the prologue.
+deeper = bytearray((data / "calls").read_bytes())
+assert deeper.count(bytes([0x44, 0x0E, 32])) == 1
+deeper[deeper.index(bytes([0x44, 0x0E, 32])) + 2] = 40
+
+# Bare with each address 0x72 higher, so that inner's row behind its prologue begins at 0x400100: the entry, those of the
+# segment, of .text, of the symbols from outer on, and of the entries of .debug_frame, whose second numbers are sizes.
+shifted = bytearray((data / "bare").read_bytes())
+for place in (24, 64 + 16, 64 + 24, 0x248 + 64 + 16, *range(0x128 + 48 + 8, 0x1E8, 24), 0x98 + 0x20, 0x98 + 0x50, 0x98 + 0x78):
+    address, = struct.unpack_from("<Q", shifted, place)
+    assert 0x400078 <= address <= 0x400098
+    struct.pack_into("<Q", shifted, place, address + 0x72)
+
+(data / "shifted").write_bytes(shifted)
+(data / "shifted.perf").write_bytes(of_shifted)
+(data / "shortened").write_bytes(shortened)
+(data / "deeper").write_bytes(deeper)
+(data / "ends.perf").write_bytes(of_ends)
+(data / "periods.perf").write_bytes(of_periods)
+(data / "chained.perf").write_bytes(of_chained_ends)
+(data / "threads.perf").write_bytes(of_threads_names)
+(data / "neighbours.perf").write_bytes(of_neighbours)
+(data / "covered.perf").write_bytes(of_covered)
+(data / "neighbours.core").write_bytes(of_neighbouring_threads)
 (data / "mislinked").write_bytes(mislinked)
 (data / "indirect").write_bytes(indirect)
 (data / "linked.perf").write_bytes(of_linked)

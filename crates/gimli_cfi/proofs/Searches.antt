@@ -1,11 +1,11 @@
 -- What a search in the rows comes to.
-use Rattle.std.proofs.Common.{◌≡◌, ℕ, Option, Some, None, Result, Ok, Err, refl, ap, ◌∙◌, inl, inr, ⊎_elim}
+use Rattle.std.proofs.Common.{◌≡◌, ◌+◌, arith, ℕ, Option, Some, None, Result, Ok, Err, refl, ap, ◌∙◌, inl, inr, ⊎_elim}
 use Rattle.std.specs.Prelude.{IsSome, ok_or}
 use Rattle.cfi_read_core.specs.declared.error.Error.{Error}
 use Rattle.cfi_read_core.specs.declared.error.Error.TheVariants.{UnsupportedPointerEncoding}
 use Rattle.gimli_cfi.specs.BoundaryRows.{IsBoundaryRow, IsRefusalOfRow, AreRising, IsLastUpTo}
 use Rattle.gimli_cfi.specs.EhFrameHdr.{Table}
-use Rattle.gimli_cfi.specs.Halving.{by_found, looked_up_in}
+use Rattle.gimli_cfi.specs.Halving.{by_found, looked_up_in, reads_in}
 use Rattle.gimli_cfi.specs.TableLookup.{SearchedBy}
 use Rattle.gimli_cfi.proofs.Rising.{last_up_to}
 
@@ -54,3 +54,12 @@ pub looked_up_found : {A : Type 0} (size : Option ℕ) (n : ℕ) (e : Error) (ta
     ok_or size e ≡ Ok n → found ≡ searched → given ≡ by_found of_row found → given ≡ looked_up_in size table of_row searched
 looked_up_found None n e table of_row found searched given searchable is same = absurd (cc)
 looked_up_found (Some size) n e table of_row found searched given searchable is same = same ∙ ap (by_found of_row) is
+
+-- how many starts were read for it
+pub reads_format : (size : Option ℕ) (e refusal : Error) (before reads : ℕ) → ◌≡◌ {A = Result ℕ Error} (Err e) (ok_or size refusal) → before ≡ before + reads_in size reads
+reads_format None e refusal before reads refused = omega arith
+reads_format (Some size) e refusal before reads refused = absurd (cc)
+
+pub reads_searched : (size : Option ℕ) (n : ℕ) (e : Error) (before after reads : ℕ) → ok_or size e ≡ Ok n → after ≡ before + reads → after ≡ before + reads_in size reads
+reads_searched None n e before after reads searchable made = absurd (cc)
+reads_searched (Some size) n e before after reads searchable made = made

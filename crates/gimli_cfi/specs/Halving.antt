@@ -3,12 +3,16 @@
 --     search start count address      what is found in the first `count` rows, and how many starts
 --         are read on the way
 --     looked_up table of_row found      what a table gives by it, of_row being what a row gives
---     most_reads header      how many starts a lookup by a header reads at most
+--     table_reads table reads      how many starts are read for it, of a search's reads
+--     reads_by_header header read address      the same by a header that was read, or the error of
+--         one that can't be
+--     most_reads read      how many these are at most
 use Rattle.std.specs.Prelude.{ℕ, zero, suc, ◌+◌, ◌-◌, ◌/◌, Option, Some, None, Result, Ok, Err}
 use Rattle.std.specs.Prelude.{nat_eq, nat_lt, nat_le, if◌then◌else◌}
 use Rattle.cfi_read_core.specs.declared.error.Error.{Error}
 use Rattle.cfi_read_core.specs.declared.error.Error.TheVariants.{UnsupportedPointerEncoding}
-use Rattle.gimli_cfi.specs.EhFrameHdr.{Header, Table, value_size}
+use Rattle.gimli_cfi.specs.EhFrameHdr.{Header, HeaderSection, Table}
+use Rattle.gimli_cfi.specs.EhFrameHdr.{start_of, value_size}
 use Rattle.gimli_cfi.specs.HalvingSteps.{steps}
 
 -- the row that is found, or the error of a start; and how many starts were read
@@ -62,7 +66,23 @@ abbrev pub looked_up :
     {A : Type 0} → Table → (ℕ → Result A Error) → Result ℕ Error → Result A Error
 looked_up table of_row found = looked_up_in (value_size table.encoding) table of_row found
 
--- ---- of a header, or the error of one that can't be parsed
+abbrev pub reads_in : Option ℕ → ℕ → ℕ
+reads_in None reads = 0
+reads_in (Some size) reads = reads
+
+abbrev pub table_reads : Table → ℕ → ℕ
+table_reads table reads = reads_in (value_size table.encoding) reads
+
+-- ---- of a header
+
+abbrev pub reads_by_table : HeaderSection → Option Table → ℕ → ℕ
+reads_by_table header None address = 0
+reads_by_table header (Some table) address =
+    table_reads table (search (start_of header table) table.count address).reads
+
+abbrev pub reads_by_header : HeaderSection → Result Header Error → ℕ → ℕ
+reads_by_header header (Err e) address = 0
+reads_by_header header (Ok read) address = reads_by_table header read.table address
 
 abbrev pub most_reads_in : Option Table → ℕ
 most_reads_in None = 0
@@ -70,4 +90,4 @@ most_reads_in (Some table) = steps table.count
 
 abbrev pub most_reads : Result Header Error → ℕ
 most_reads (Err e) = 0
-most_reads (Ok header) = most_reads_in header.table
+most_reads (Ok read) = most_reads_in read.table

@@ -181,7 +181,8 @@ pub use Rattle.gimli_cfi.specs.PassedRows.{MeetsAfter}
 unfoldable pub use Rattle.gimli_cfi.specs.PassedRows.{walk_past}
 pub use Rattle.gimli_cfi.specs.BoundaryRows.{IsBoundaryRow, IsRefusalOfRow, AreRising, IsLastUpTo}
 pub use Rattle.gimli_cfi.specs.HalvingSteps.{steps}
-pub use Rattle.gimli_cfi.specs.Halving.{Search, search, looked_up, most_reads}
+pub use Rattle.gimli_cfi.specs.Halving.{Search, search, looked_up, table_reads}
+pub use Rattle.gimli_cfi.specs.Halving.{most_reads, reads_by_header}
 unfoldable pub use Rattle.gimli_cfi.specs.Halving.{search_in}
 pub use Rattle.gimli_cfi.specs.TableLookup.{IsFoundBySearch, IsFoundByTable, FindsByTable}
 pub use Rattle.gimli_cfi.specs.RowsByTable.{IsFdeFound, IsRowByTable, IfFaithful, IfStartsOf}

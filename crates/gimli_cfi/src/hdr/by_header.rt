@@ -1,5 +1,5 @@
 //! The FDE and the unwind row of an address, by a header that isn't parsed yet.
-ghost use Rattle.std.specs.Prelude.{◌≤◌, IfOk};
+ghost use Rattle.std.specs.Prelude.{◌≡◌, ◌≤◌, IfOk};
 ghost use Rattle.cfi_read_core.specs.Addresses.{IsAddressSize};
 ghost use Rattle.cfi_read_core.specs.ReaderCalls.{map_ok};
 ghost use Rattle.cfi_entry.specs.Fdes.{Covers};
@@ -9,7 +9,7 @@ ghost use Rattle.cfi_state.specs.Row.{RowContains};
 ghost use Rattle.cfi_state.specs.RowExpressions.{HasExpressionsIn};
 ghost use Rattle.cfi_unwind.specs.FdeViews.{HasCieOf, IsFdeOf, fde_view};
 ghost use Rattle.gimli_cfi.specs.EhFrameHdr.{header_of};
-ghost use Rattle.gimli_cfi.specs.Halving.{most_reads};
+ghost use Rattle.gimli_cfi.specs.Halving.{most_reads, reads_by_header};
 ghost use Rattle.gimli_cfi.specs.HeaderViews.{section_view, unparsed_view};
 ghost use Rattle.gimli_cfi.specs.RowsByHeader.{FoundByHeader, IsRowByHeader};
 
@@ -72,7 +72,9 @@ pub fn fde_by_header_counted<R: Reader>(
         (HasCieOf R.position (eh_frame_view R.position frame.now).position) }
     ensures contains { IfOk result.0 (λ fde.
         Covers (fde_view R.position R.Offset.number fde) address) }
-    ensures reads { result.1.calls
+    ensures reads { let bytes = unparsed_view R.position header.now address_size bases.now in
+        result.1.calls ≡ reads_by_header bytes (header_of bytes) address }
+    ensures few { result.1.calls
         ≤ most_reads (header_of (unparsed_view R.position header.now address_size bases.now)) }
 {
     let header = match header.parse(bases, address_size) {
@@ -131,7 +133,9 @@ pub fn row_by_header_counted<'ctx, R: Reader, S: UnwindContextStorage<R::Offset>
     ensures contains { IfOk result.0 (λ row. RowContains address row.now) }
     ensures expressions { IfOk result.0 (λ row. HasExpressionsIn R.Offset.number
         (eh_frame_view R.position frame.now).position row.now.parts) }
-    ensures reads { result.1.calls
+    ensures reads { let bytes = unparsed_view R.position header.now address_size bases.now in
+        result.1.calls ≡ reads_by_header bytes (header_of bytes) address }
+    ensures few { result.1.calls
         ≤ most_reads (header_of (unparsed_view R.position header.now address_size bases.now)) }
 {
     let (fde, reads) = fde_by_header_counted(header, address_size, frame, bases, address);

@@ -10,6 +10,7 @@ ghost use Rattle.cfi_unwind.specs.AddressRow.{IsRowByScan};
 ghost use Rattle.cfi_unwind.specs.FdeViews.{HasCieOf, IsFdeOf, fde_cie, fde_view};
 ghost use Rattle.cfi_unwind.specs.GetCieCalls.{AsksForCie, GivesCiesOf, IsAnswered};
 ghost use Rattle.gimli_cfi.specs.EhFrameHdr.{value_size};
+ghost use Rattle.gimli_cfi.specs.Halving.{search, table_reads};
 ghost use Rattle.gimli_cfi.specs.HalvingSteps.{steps};
 ghost use Rattle.gimli_cfi.specs.HeaderViews.{listing_view, section_view};
 ghost use Rattle.gimli_cfi.specs.HeaderViews.{table_offset, table_starts, table_view};
@@ -130,7 +131,10 @@ pub(crate) fn own_table_fde<R: Reader>(
         (HasCieOf R.position (eh_frame_view R.position frame.now).position) }
     ensures contains { IfOk result.0 (λ fde.
         Covers (fde_view R.position R.Offset.number fde) address) }
-    ensures reads { result.1.calls ≤ steps (table_view R.position table.now).count }
+    ensures reads { let rows = table_view R.position table.now in
+        let starts = table_starts R.position table.now bases.now in
+        result.1.calls ≡ table_reads rows (search starts rows.count address).reads }
+    ensures few { result.1.calls ≤ steps (table_view R.position table.now).count }
 {
     let (target, reads) = table.lookup_counted(address, bases);
     match target {

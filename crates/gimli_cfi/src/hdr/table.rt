@@ -3,7 +3,7 @@ ghost use Rattle.std.specs.Prelude.{◌≡◌, ℕ, ◌+◌, ◌≤◌, ⊤, IsS
 ghost use Rattle.cfi_read_core.specs.ReaderCalls.{map_ok};
 ghost use Rattle.gimli_cfi.specs.BoundaryRows.{AreRising, IsLastUpTo};
 ghost use Rattle.gimli_cfi.specs.EhFrameHdr.{value_size};
-ghost use Rattle.gimli_cfi.specs.Halving.{looked_up, search};
+ghost use Rattle.gimli_cfi.specs.Halving.{looked_up, search, table_reads};
 ghost use Rattle.gimli_cfi.specs.HalvingSteps.{steps};
 ghost use Rattle.gimli_cfi.specs.HeaderRows.{rows_left, walk_of};
 ghost use Rattle.gimli_cfi.specs.TableLookup.{IsFoundBySearch};
@@ -125,7 +125,10 @@ impl<R: Reader> EhHdrTable<'_, R> {
             let starts = table_starts R.position self.now bases.now in
             result.0 ≡ looked_up table (table_targets R.position self.now bases.now)
             (search starts table.count address).found }
-        ensures reads { result.1.calls ≤ steps (table_view R.position self.now).count }
+        ensures reads { let table = table_view R.position self.now in
+            let starts = table_starts R.position self.now bases.now in
+            result.1.calls ≡ table_reads table (search starts table.count address).reads }
+        ensures few { result.1.calls ≤ steps (table_view R.position self.now).count }
     {
         if let Some(mut starts) = SignedStarts::new(self, bases) {
             let target = self.lookup_in(&mut starts, address, bases);
@@ -156,6 +159,9 @@ impl<R: Reader> EhHdrTable<'_, R> {
         ensures searched { let table = table_view R.position self.now in
             result ≡ looked_up table (table_targets R.position self.now bases.now)
             (search (St.answer starts.old) table.count address).found }
+        ensures made { let table = table_view R.position self.now in
+            St.calls starts.new ≡ St.calls starts.old
+            + table_reads table (search (St.answer starts.old) table.count address).reads }
         ensures calls { St.calls starts.new
             ≤ St.calls starts.old + steps (table_view R.position self.now).count }
         ensures not_asked { value_size (table_view R.position self.now).encoding ≡ None →

@@ -1,7 +1,7 @@
 use Rattle.std.proofs.Common.{◌≡◌, Err, ◌∙◌, refl, rules, sym}
 use Rattle.gimli_cfi.specs.EhFrameHdr.{value_size}
 use Rattle.gimli_cfi.specs.HeaderViews.{table_view}
-use Rattle.gimli_cfi.proofs.Searches.{by_format, by_refusal, by_row, looked_up_format, looked_up_found, not_none}
+use Rattle.gimli_cfi.proofs.Searches.{by_format, by_refusal, by_row, looked_up_format, looked_up_found, not_none, reads_format, reads_searched}
 use Rattle.gimli_cfi.proofs.hdr.table.EhHdrTable.lookup_in.Goals as goal
 
 pub returns-in_err-size-clause-found : goal.returns-in_err-size-clause-found
@@ -42,3 +42,14 @@ pub returns-clause-searched : goal.returns-clause-searched
 returns-clause-searched g c =
     looked_up_found (value_size c.args.self.now.hdr.now.table_enc.0) c.in_ok-size.size _ (table_view g.R.Reader.position c.args.self.now) _ _ _ _
     (sym c.searchable_size.ensures ∙ c.in_ok-size.was) c.in_ok-row.ensures.searched c.target_of_row.ensures
+
+pub returns-in_err-size-clause-made : goal.returns-in_err-size-clause-made
+returns-in_err-size-clause-made g c = reads_format (value_size c.args.self.now.hdr.now.table_enc.0) _ _ _ _ c.in_err-size.ensures
+
+pub returns-in_err-row-clause-made : goal.returns-in_err-row-clause-made
+returns-in_err-row-clause-made g c =
+    reads_searched (value_size c.args.self.now.hdr.now.table_enc.0) c.in_ok-size.size _ _ _ _ (sym c.searchable_size.ensures ∙ c.in_ok-size.was) c.in_err-row.ensures.made
+
+pub returns-clause-made : goal.returns-clause-made
+returns-clause-made g c =
+    reads_searched (value_size c.args.self.now.hdr.now.table_enc.0) c.in_ok-size.size _ _ _ _ (sym c.searchable_size.ensures ∙ c.in_ok-size.was) c.in_ok-row.ensures.made
