@@ -29,11 +29,11 @@ AT_ONCE = ("graphs", "flame", "report", "fold", "stack")
 FILES = (*AT_ONCE, "unwind", "row", "rows", "dump", "table", "check")
 FEW = 24
 # The files of code that profiles and core files have.
-CODE = ("calls", "built", "bare", "linked", "bare.debug", "names", "deeper", "shortened", "signed", "handled")
+CODE = ("calls", "built", "bare", "linked", "bare.debug", "names", "deeper", "shortened", "shifted", "signed", "handled")
 
-# Refuses the allocation of the number CFI_REFUSED; fails the writes to standard output from the number CFI_FAILED on, as
-# of a full disk, and takes one byte alone of that of the number CFI_SHORT. Each allocation and each such write is a byte in the open file
-# CFI_COUNTED.
+# Refuses the allocation of the number CFI_REFUSED; fails the writes to standard output from the number CFI_FAILED on, as on a
+# full disk, and takes one byte alone of that of the number CFI_SHORT. Each allocation and each such write is a byte in the open
+# file CFI_COUNTED.
 LIBRARY = """
 #define _GNU_SOURCE
 #include <dlfcn.h>
@@ -130,6 +130,8 @@ def stored_runs(file):
 
 
 class Test:
+    """Stored runs of a program, before which the library stands, in a folder with the data."""
+
     def __init__(self, program, library, folder):
         self.program, self.library, self.folder = program, library, folder
 
@@ -163,7 +165,11 @@ class Test:
             is_right = ran == (stored.output, stored.status)
             found.append(("as stored" if is_right else "wrong", f"write {number} of {writes} takes a byte", ran, said))
         verdicts = [verdict for verdict, *_ in found]
-        wrong = [f"{stored.command!r}: {what}: status {ran[1]}, {ran[0][-200:]!r} {said[-200:]!r}" for verdict, what, ran, said in found if verdict == "wrong"]
+        wrong = [
+            f"{stored.command!r}: {what}: status {ran[1]}, {ran[0][-200:]!r} {said[-200:]!r}"
+            for verdict, what, ran, said in found
+            if verdict == "wrong"
+        ]
         return wrong, {verdict: verdicts.count(verdict) for verdict in verdicts}
 
     def verdict(self, file, stored, number, ran, said):

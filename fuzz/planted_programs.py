@@ -3,11 +3,12 @@
 
   planted_programs.py [--keep FOLDER] [FAULT..]     all faults, or those
   planted_programs.py --list                        lists them
+  planted_programs.py --stale                       names those whose lines aren't in the sources; nothing is built
 
 The program is built without proofs (unproved.py), once: each fault stands behind a switch, which the variable CFI_PLANTED turns
 on by its number as the program runs. Without one all runs are as stored. Prints for each fault the files of stored runs that differ,
-and how many runs of each; status 1 if a fault was found by none. A fault `REFUSED` shows only where memory is refused: the run
-that finds it is one of .ci/refused_runs.py. FOLDER keeps what was built, and is taken again if the sources are as they were. Needs rt,
+and how many runs of each; status 1 if a fault was found by none. For faults that show
+where memory is refused .ci/refused_runs.py is run, too. FOLDER keeps what was built, and is taken again if the sources are as they were. Needs rt,
 gcc, and the clang of the kit; some three minutes for the build, then some seconds a fault.
 """
 import hashlib
@@ -365,7 +366,7 @@ FAULTS = [
         "0x7f <= number && number <= 0x9f && !(SWITCH() && number >= 0x80)",
     ),
 ]
-# Those that only .ci/refused_runs.py can find.
+# Those for which .ci/refused_runs.py is run, too.
 REFUSED = {"cut-graph-as-whole", "cut-report-as-whole"}
 
 # What is linked to the program: the switch, by the variable.
@@ -379,20 +380,24 @@ __attribute__((constructor)) static void read_switch(void) {
 """
 
 
-def planted_source(text, old, new, number):
-    """The text of a source with the fault, and its switch."""
-    assert text.count(old) == 1, f"{text.count(old)} times in the sources: {old}"
-    name = f"planted_{number}"
-    text = text.replace(old, new.replace("SWITCH", name))
-    return text + f"\n/// Whether the fault of this number is on.\n#[inline(never)]\nfn {name}() -> bool {{\n    false\n}}\n"
+def edits_of(fault):
+    """Each edit of a fault: the file, and what is replaced by what."""
+    return zip(*[iter(fault[2:])] * 3)
+
+
+def stale():
+    """The faults with a line that isn't in the sources, or not once."""
+    return [fault[0] for fault in FAULTS if any((TOP / "crates" / file).read_text().count(old) != 1 for file, old, _ in edits_of(fault))]
 
 
 def plant(crates):
     """Puts all faults, each behind its switch, into the sources below this folder."""
-    for number, (_, _, *edits) in enumerate(FAULTS, 1):
-        for file, old, new in zip(*[iter(edits)] * 3):
-            source = crates / file
-            source.write_text(planted_source(source.read_text(), old, new, number))
+    for number, fault in enumerate(FAULTS, 1):
+        for file, old, new in edits_of(fault):
+            text, name = (crates / file).read_text(), f"planted_{number}"
+            assert text.count(old) == 1, f"{fault[0]}: another fault changes its line"
+            switch = f"\n/// Whether the fault of this number is on.\n#[inline(never)]\nfn {name}() -> bool {{\n    false\n}}\n"
+            (crates / file).write_text(text.replace(old, new.replace("SWITCH", name)) + switch)
 
 
 def copied(folder):
@@ -417,7 +422,7 @@ def switched(text):
 
     pattern = r'(define internal [^\n]*?\b(i1|i8) @"[^"\n]*::planted_(\d+)"\(\)[^\n]*\{)\n.*?^\}'
     text, count = re.subn(pattern, body, text, flags=re.M | re.S)
-    assert count == sum(len(edits) // 3 for _, _, *edits in FAULTS), f"{count} switches"
+    assert count == sum(len(list(edits_of(fault))) for fault in FAULTS), f"{count} switches"
     return text + "\n@cfi_planted = external global i32\n"
 
 
@@ -457,18 +462,26 @@ def built(folder):
 
 
 def found_by(program, number):
-    """What finds a fault: lines of the tests' programs, one for each file of stored runs that differs."""
-    name = FAULTS[number - 1][0] if number else None
-    words = [TOP / ".ci/refused_runs.py", program, "graphs", "report"] if name in REFUSED else [TOP / ".ci/program", program]
-    environment = {**os.environ, "CFI_PLANTED": str(number)}
-    ran = subprocess.run(words, env=environment, capture_output=True, text=True, errors="replace")
-    return ran.returncode, re.findall(r"^[a-z-]+: (\w+: \d+ of \d+ runs? .*)$", ran.stderr, re.M), ran.stderr
+    """Of how many runs of each file of stored runs differ, whether any does, and what is printed of it."""
+    tests = [[TOP / ".ci/program", program]]
+    if number and FAULTS[number - 1][0] in REFUSED:
+        tests.append([TOP / ".ci/refused_runs.py", program, "graphs", "report"])
+    found, status, said = [], 0, ""
+    for test in tests:
+        ran = subprocess.run(test, env={**os.environ, "CFI_PLANTED": str(number)}, capture_output=True, text=True, errors="replace")
+        found += re.findall(r"^([a-z-]+: \w+: \d+ of \d+) runs", ran.stderr, re.M)
+        status, said = status or ran.returncode, said + ran.stderr
+    return status, [line.removeprefix("program: ") for line in found], said
 
 
 def main(words):
     if words == ["--list"]:
         for name, means, *_ in FAULTS:
             print(f"{name:28} {means}")
+        return 0
+    if stale():
+        sys.exit("not in the sources: " + ", ".join(stale()))
+    if words == ["--stale"]:
         return 0
     kept = None
     if words[:1] == ["--keep"]:

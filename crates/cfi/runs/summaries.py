@@ -1,6 +1,7 @@
 #!/usr/bin/env python3
 """Computes what `cfi flame`, `cfi report` and `cfi fold` print, from their input and docs/PROGRAMS.md alone, and compares it with
-the stored runs: summaries.py FOLDER, the folder with these files. The program isn't run.
+the stored runs: summaries.py FOLDER, the folder with these files. The program isn't run. It also compares the objects of stacks
+with the text of the same stacks, as they are stored.
 
 Of graphs it computes all but the text that is in each: the style and the script, which are taken from the first whole graph of
 `graphs`. Folded stacks are computed from what is stored for `cfi unwind` with the same words, and the summaries of those from what
@@ -194,8 +195,51 @@ def folded(stacks, by_period):
     return b"".join(b"%s %d\n" % pair for pair in sorted(counts.items())), 0
 
 
+def frames_in(lines):
+    """The frames and the end of a stack, as the objects of JSON have them."""
+    frames, members = [], {}
+    for line in lines:
+        if line.startswith("#"):
+            members = {"end": re.search(r"\((\w+)", line)[1]}
+            continue
+        *addresses, rest = line.removeprefix("\t").split("\t")
+        place, function, file = re.fullmatch(r" *([0-9a-f]+)(?: (.*))? \((.*)\)", rest).groups()
+        frame = {"address": f"0x{addresses[0].strip()}"} if addresses else {}
+        frame["place"] = f"0x{place}"
+        if function not in (None, "[unknown]"):
+            name, _, offset = function.rpartition("+0x")
+            frame |= {"function": name, "offset": int(offset, 16)}
+        frame |= {} if file == "[unknown]" else {"file": file}
+        frames.append(frame | ({"kernel": True} if place.startswith("ffff") else {}))
+    return {"frames": frames} | members
+
+
+def stack_objects(text):
+    """The objects of the stacks of samples and of threads; times have six digits, as in text."""
+    for stack in text.decode().removesuffix("\n\n").split("\n\n"):
+        head, *lines = stack.split("\n")
+        of_thread = re.fullmatch(r"thread (\d+)(?: signal (\d+)(?: (SIG\w+))?)?(?: code (\S+) address (\S+))?(?: of (.*))?", head)
+        if of_thread:
+            names, kinds = ("tid", "signal", "name", "code", "fault", "process"), (int, int, str, int, str, str)
+            parts = zip(names, kinds, of_thread.groups())
+            yield {name: kind(part) for name, kind, part in parts if part is not None} | frames_in(lines)
+            continue
+        comm, pid, tid, cpu, time, period, event = re.fullmatch(r"(.*?) +(\d+)/(\d+) +(?:\[(\d+)\] +)?([\d.]+): +(\d+) (.*):", head).groups()
+        numbers = {"comm": comm, "pid": int(pid), "tid": int(tid)} | ({} if cpu is None else {"cpu": int(cpu)})
+        yield numbers | {"time": time, "period": number(int(period)), "event": event} | frames_in(lines)
+
+
+def is_alike(text, output):
+    """Whether the objects of JSON are the stacks of the text."""
+    found = [json.loads(line) for line in output.splitlines()]
+    for stack in found:
+        if "time" in stack:
+            stack["time"] = stack["time"][:-3]
+    return found == list(stack_objects(text))
+
+
 def main(folder):
-    stored = {command: (output, status) for file in ("unwind", "fold") for command, output, status in runs_in(folder / file)}
+    stored = {command: (output, status) for file in ("unwind", "fold", "stack") for command, output, status in runs_in(folder / file)}
     fixed = fixed_in(next(output for command, output, _ in runs_in(folder / "graphs")))
     count, failed = 0, 0
     for file in FILES:
@@ -207,7 +251,16 @@ def main(folder):
             if expected != (output, status):
                 failed += 1
                 print(f"summaries: {file}: {command!r}: stored {output[-300:]!r}, {status}; computed {expected[0][-300:]!r}, {expected[1]}")
-    print(f"summaries: {count} stored runs of flame, report and fold computed" + (f", {failed} differ" if failed else ", and as stored"))
+    for command, (output, status) in stored.items():
+        text = command.replace(" --format=json", "")
+        # Names that JSON escapes otherwise than text, and what isn't a stack, are left out.
+        if text == command or text not in stored or status or not re.fullmatch(rb"[^\\]*", output):
+            continue
+        count += 1
+        if not is_alike(stored[text][0], output):
+            failed += 1
+            print(f"summaries: {command!r}: the objects aren't the stacks of {text!r}")
+    print(f"summaries: {count} stored runs computed" + (f", {failed} differ" if failed else ", and as stored"))
     return int(failed != 0)
 
 
