@@ -8,9 +8,11 @@ struct dwarf_eh_bases {
 EXPORT const void *_Unwind_Find_FDE(void *pc, struct dwarf_eh_bases *bases);
 
 const void *_Unwind_Find_FDE(void *pc, struct dwarf_eh_bases *bases) {
+    struct call call;
     CfiModule module;
     CfiFunction function;
-    if (!find_function(begin_call(), (uint64_t)pc, &module, &function))
+    begin_call(&call);
+    if (!find_function(&call, (uint64_t)pc, &module, &function))
         return NULL;
     bases->text = (void *)module.bases.text;
     bases->data = (void *)module.bases.data_base;

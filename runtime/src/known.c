@@ -65,7 +65,7 @@ static struct known_module *look_for(struct known_modules *known, uint64_t call,
     struct known_module *module = at_start(known, loaded.module.start);
     if (!module->file || !is_same(&module->loaded, &loaded)) {
         module->loaded = loaded;
-        module->file = ++known->files;
+        module->file = known->files += 2;
         module->stays = stays(&loaded.module);
     }
     module->call = call;

@@ -27,6 +27,20 @@ enum { LOADED = 9 };
 static const uint64_t SIGNATURE = 0;
 #define IS_AARCH64 false
 
+enum { REGION = 4096 /* what regions are aligned to: the largest page that the machine has */ };
+
+/* What tells a thread from others that run. */
+static inline uint64_t thread_pointer(void) {
+    uint64_t pointer;
+    __asm__("movq %%fs:0, %0" : "=r"(pointer));
+    return pointer;
+}
+
+/* Says that the processor waits for another. */
+static inline void pause_processor(void) {
+    __asm__ volatile("pause");
+}
+
 /* A request of valgrind.h. These instructions do nothing but where valgrind runs them. */
 static inline uint64_t ask_valgrind(uint64_t number, uint64_t first, uint64_t second) {
     volatile uint64_t request[6] = {number, first, second, 0, 0, 0};
@@ -58,6 +72,16 @@ enum { LOADED = 25 };
 
 static const uint64_t SIGNATURE = 0x007f000000000000; /* of 48 bits of address; the top byte is data */
 #define IS_AARCH64 true
+
+enum { REGION = 1 << 16 };
+
+static inline uint64_t thread_pointer(void) {
+    return (uint64_t)__builtin_thread_pointer();
+}
+
+static inline void pause_processor(void) {
+    __asm__ volatile("yield");
+}
 
 /* A request of valgrind.h. These instructions do nothing but where valgrind runs them. */
 static inline uint64_t ask_valgrind(uint64_t number, uint64_t first, uint64_t second) {

@@ -7,7 +7,10 @@
 
 #include "unwinder.h"
 
-enum { BEGINNING = 8 /* of the header: its version, three encodings, and a distance */ };
+enum {
+    BEGINNING = 8, /* of the header: its version, three encodings, and a distance */
+    PAGE = 4096    /* the first page of a module has so many bytes, or more */
+};
 
 /* The program headers of a module, and what to add to their addresses. */
 struct headers {
@@ -38,20 +41,33 @@ static uint64_t section_by(uint64_t header) {
     return header + 4 + (uint64_t)(int64_t)distance;
 }
 
-/* Writes the first address of the module, and the first after it. */
-static void find_ends(const struct headers *headers, CfiModule *module) {
+/* Adds a segment to the parts: to the last one where no page is between them. */
+static void add_part(struct loaded *loaded, uint64_t start, uint64_t end) {
+    CfiRange *last = loaded->part_count ? &loaded->parts[loaded->part_count - 1] : NULL;
+    if (last && start >= last->end && page_of(start) <= page_of(last->end + page_size() - 1))
+        last->end = end;
+    else if (loaded->part_count < PARTS)
+        loaded->parts[loaded->part_count++] = (CfiRange){start, end};
+}
+
+/* Writes the first address of the module, and the first after it; and the parts that can be read. */
+static void find_ends(const struct headers *headers, struct loaded *loaded) {
+    CfiModule *module = &loaded->module;
     *module = (CfiModule){.start = UINT64_MAX};
     for (size_t i = 0; i < headers->count; i++) {
         uint64_t start = start_of(headers, i), end = start + headers->all[i].p_memsz;
-        if (headers->all[i].p_type != PT_LOAD)
+        if (headers->all[i].p_type != PT_LOAD || start == end)
             continue;
         module->start = start < module->start ? start : module->start;
         module->end = end > module->end ? end : module->end;
+        if (headers->all[i].p_flags & PF_R)
+            add_part(loaded, start, end);
     }
 }
 
 /* Writes where the sections lie: the section up to the end of its segment, for its own length stands nowhere in memory. */
-static bool find_sections(const struct headers *headers, uint64_t header, CfiModule *module) {
+static bool find_sections(const struct headers *headers, uint64_t header, struct loaded *loaded) {
+    CfiModule *module = &loaded->module;
     const ElfW(Phdr) *of_header = header_with(headers, PT_GNU_EH_FRAME, header);
     if (!of_header || headers->bias + of_header->p_vaddr != header || of_header->p_filesz < BEGINNING)
         return false;
@@ -59,7 +75,7 @@ static bool find_sections(const struct headers *headers, uint64_t header, CfiMod
     const ElfW(Phdr) *segment = section ? header_with(headers, PT_LOAD, section) : NULL;
     if (!segment)
         return false;
-    find_ends(headers, module);
+    find_ends(headers, loaded);
     module->eh_frame = (const uint8_t *)section;
     module->eh_frame_len = headers->bias + segment->p_vaddr + segment->p_filesz - section;
     module->header = (const uint8_t *)header;
@@ -101,6 +117,14 @@ static void find_id(const struct headers *headers, struct loaded *loaded) {
     }
 }
 
+/* Takes the loader's lock, which no handler of a signal leaves. */
+static int iterate(int (*look)(struct dl_phdr_info *info, size_t size, void *data), void *data) {
+    Mask mask = block_signals();
+    int result = dl_iterate_phdr(look, data);
+    set_signals(mask);
+    return result;
+}
+
 static int read_unloads(struct dl_phdr_info *info, size_t size, void *unloads) {
     *(uint64_t *)unloads = size >= offsetof(struct dl_phdr_info, dlpi_subs) + sizeof info->dlpi_subs ? info->dlpi_subs : 0;
     return 1;
@@ -109,13 +133,13 @@ static int read_unloads(struct dl_phdr_info *info, size_t size, void *unloads) {
 /* Takes the loader's lock. */
 static uint64_t count_unloads(void) {
     uint64_t unloads = 0;
-    dl_iterate_phdr(read_unloads, &unloads);
+    iterate(read_unloads, &unloads);
     return unloads;
 }
 
 static bool find_parts(const struct headers *headers, uint64_t header, struct loaded *loaded) {
     *loaded = (struct loaded){0};
-    if (!find_sections(headers, header, &loaded->module))
+    if (!find_sections(headers, header, loaded))
         return false;
     find_id(headers, loaded);
     return true;
@@ -149,7 +173,7 @@ static int look_in(struct dl_phdr_info *info, size_t size, void *data) {
 
 static bool find_by_iteration(uint64_t address, struct loaded *loaded) {
     struct wanted wanted = {address, loaded, false};
-    dl_iterate_phdr(look_in, &wanted);
+    iterate(look_in, &wanted);
     return wanted.is_found;
 }
 
@@ -172,7 +196,7 @@ static bool headers_in_first_page(const struct dl_find_object *object, struct he
     headers->all = (const ElfW(Phdr) *)(start + file->e_phoff);
     for (size_t i = 0; i < headers->count; i++)
         if (headers->all[i].p_type == PT_LOAD) {
-            headers->bias = start - (headers->all[i].p_vaddr & -(uint64_t)PAGE);
+            headers->bias = start - page_of(headers->all[i].p_vaddr);
             return headers->all[i].p_offset < PAGE;
         }
     return false;
@@ -252,7 +276,16 @@ static int look_for_part(struct dl_phdr_info *info, size_t size, void *data) {
 }
 
 static bool is_part(struct part part) {
-    return dl_iterate_phdr(look_for_part, &part) != 0;
+    return iterate(look_for_part, &part) != 0;
+}
+
+bool is_in_parts(const struct loaded *loaded, uint64_t address, CfiRange *found) {
+    for (unsigned i = 0; i < loaded->part_count; i++)
+        if (is_in(loaded->parts[i], address)) {
+            *found = loaded->parts[i];
+            return true;
+        }
+    return false;
 }
 
 bool is_code(uint64_t address) {

@@ -4,9 +4,24 @@
 
 #include "unwinder.h"
 
-/* Whether a word is there, as far as can be told: in the module, if the frame's code is loaded. */
-static bool has_word(const struct walk *walk, uint64_t address) {
-    return !walk->is_loaded || (is_in(walk->module, address) && is_in(walk->module, address + sizeof address - 1));
+/* Finds the part of the frame's module that has the address. */
+static bool find_part(struct walk *walk, uint64_t address) {
+    struct workspace *workspace = take_workspace(&walk->call);
+    const struct known_module *known =
+        workspace ? find_known(workspace->modules, walk->call.number, walk->module.start) : NULL;
+    bool is_found = known && is_in_parts(&known->loaded, address, &walk->part);
+    if (workspace)
+        give_workspace(workspace);
+    return is_found;
+}
+
+/* Whether a word, or a byte, is there: in a segment of the module, if the frame's code is loaded. */
+static bool has_bytes(struct walk *walk, uint64_t address, uint64_t length) {
+    if (!walk->is_loaded)
+        return is_readable(address);
+    if (!is_in(walk->part, address) && !find_part(walk, address))
+        return false;
+    return walk->part.end - address >= length;
 }
 
 /* Whether a personality may be there: code of a loaded module. It need not be the first address of a function that has unwind
@@ -15,24 +30,24 @@ static bool has_word(const struct walk *walk, uint64_t address) {
 static bool may_be_personality(const struct walk *walk, uint64_t address) {
     CfiModule module;
     CfiFunction function;
-    if (find_function(walk->call, address, &module, &function)) {
+    if (find_function(&walk->call, address, &module, &function)) {
         if (function.start == address)
             return true;
         if (function.has_personality)
             return false;
     }
-    return is_code(address) || (!walk->is_loaded && is_mapped(address & -(uint64_t)PAGE, (address | (PAGE - 1)) + 1));
+    return is_code(address) || (!walk->is_loaded && is_readable(address));
 }
 
 /* Whether the personality is there: each frame of a throw has one, mostly the same. */
 static bool is_personality(const struct walk *walk, _Unwind_Personality_Fn personality) {
-    const struct workspace *first = own_workspaces[0];
+    const struct workspace *first = first_workspace(&walk->call);
     for (int i = 0; first && i < PERSONALITIES; i++)
         if (first->personalities[i] == personality)
             return true;
     if (!may_be_personality(walk, (uint64_t)personality))
         return false;
-    struct workspace *workspace = take_workspace();
+    struct workspace *workspace = take_workspace(&walk->call);
     if (workspace) {
         memmove(workspace->personalities + 1, workspace->personalities, sizeof personality * (PERSONALITIES - 1));
         workspace->personalities[0] = personality;
@@ -46,12 +61,12 @@ static bool find_lsda(struct walk *walk) {
     const CfiFunction *facts = &walk->facts;
     uint64_t lsda = facts->has_lsda ? facts->lsda : 0;
     if (lsda && facts->lsda_is_indirect) {
-        if (!has_word(walk, lsda))
+        if (!has_bytes(walk, lsda, sizeof lsda))
             return false;
         lsda = *(const uint64_t *)lsda;
     }
     walk->frame.lsda = lsda;
-    return !lsda || has_word(walk, lsda);
+    return !lsda || has_bytes(walk, lsda, 1);
 }
 
 _Unwind_Reason_Code call_personality_of(struct walk *walk, _Unwind_Action actions, struct _Unwind_Exception *exception) {
@@ -60,7 +75,7 @@ _Unwind_Reason_Code call_personality_of(struct walk *walk, _Unwind_Action action
     if (!address)
         return _URC_CONTINUE_UNWIND;
     if (facts->personality_is_indirect) {
-        if (!has_word(walk, address))
+        if (!has_bytes(walk, address, sizeof address))
             return _URC_FATAL_PHASE1_ERROR;
         address = *(const uint64_t *)address;
     }
@@ -76,8 +91,8 @@ bool may_land(const struct walk *walk) {
     if (pc - facts->start < facts->end - facts->start)
         return true;
     if (!walk->is_loaded)
-        return find_registered_function(pc, &(CfiModule){0}, &(CfiFunction){0});
+        return find_registered_function(&walk->call, pc, &(CfiModule){0}, &(CfiFunction){0});
     CfiModule module;
     CfiFunction part; /* of a function that the compiler split into a hot and a cold part */
-    return is_in(walk->module, pc) && find_function(walk->call, pc, &module, &part) && part.has_lsda;
+    return is_in(walk->module, pc) && find_function(&walk->call, pc, &module, &part) && part.has_lsda;
 }

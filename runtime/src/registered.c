@@ -1,113 +1,218 @@
 /* Sections that a compiler at run time registers for the code that it makes, and the crtbegin.o of some static programs for their
  * own. They have no header, so the library scans them.
  *
- * Readers take no lock: they are counted, and what is taken out of the list is freed once there are none. */
-#include <pthread.h>
+ * No lock is taken. Each section has a place in a list that only grows, and its state says what stands there. A thread writes
+ * which section it reads, and looks at its state again, before it reads it. Who takes a section out writes its state, and then
+ * waits for the threads that read this one: no other begins to. */
 #include <sched.h>
 #include <stdlib.h>
 #include <string.h>
 
 #include "unwinder.h"
 
-/* Files of loaded modules have smaller numbers. */
-static const uint64_t REGISTERED = (uint64_t)1 << 63;
+/* States: nothing stands there, or it is being written or taken out. Else the number of the section: another for each
+ * registration, and for each section of a table; they are odd, and those of files of loaded modules even. */
+enum { EMPTY = 0, CHANGING = 2 };
 
 struct section {
-    _Atomic(struct section *) next;
-    const void *begin; /* what was registered: the section, or a table of sections */
+    _Atomic(uint64_t) state;
+    _Atomic(const void *) begin; /* what was registered: the section, or a table of sections */
+    _Atomic(uint64_t) registration;
+    uint64_t changer; /* the thread that changes it */
     void *object;
-    uint64_t file; /* its number: another for each registration */
     CfiModule module;
+    struct section *next;
 };
 
 static _Atomic(struct section *) sections;
-static atomic_uint readers;
-static _Atomic(uint64_t) registrations;
-static pthread_mutex_t changing = PTHREAD_MUTEX_INITIALIZER;
+static _Atomic(uint64_t) numbers = 1, registrations = 1;
 
-/* How long a section is: entries begin with their lengths, and one of length 0 ends it. */
-static size_t length_of(const uint8_t *section) {
-    const uint8_t *at = section;
+static bool is_number(uint64_t state) {
+    return state % 2;
+}
+
+/* A section in memory. */
+struct bytes {
+    const uint8_t *start;
+    size_t length;
+};
+
+/* The section that begins there, or before: a CIE of one of its FDEs may lie before, as the crtbegin.o of a static program
+ * registers .eh_frame from its own part on, and linkers leave one of equal CIEs. Entries begin with their lengths, and then an
+ * FDE has how far back its CIE is, and a CIE 0. An entry of length 0 ends the section. */
+static struct bytes section_at(const uint8_t *begin) {
+    const uint8_t *at = begin, *first = begin;
     for (;;) {
-        uint32_t length;
-        uint64_t extended;
+        uint32_t length, distance;
+        uint64_t extended = 0;
         memcpy(&length, at, sizeof length);
         at += sizeof length;
         if (length == 0)
-            return (size_t)(at - section);
+            return (struct bytes){first, (size_t)(at - first)};
         if (length == UINT32_MAX) { /* the 64-bit format */
             memcpy(&extended, at, sizeof extended);
-            at += sizeof extended + extended;
-        } else {
-            at += length;
+            at += sizeof extended;
         }
+        memcpy(&distance, at, sizeof distance);
+        if (distance && distance <= (uint64_t)at && at - distance < first)
+            first = at - distance;
+        at += length == UINT32_MAX ? extended : length;
     }
 }
 
-static void add(const void *begin, const uint8_t *section, void *object, uint64_t text, uint64_t data) {
+/* The first section from there on; NULL where there is none. */
+static struct section *from(struct section *each) {
+    while (each && !is_number(atomic_load(&each->state)))
+        each = each->next;
+    return each;
+}
+
+/* A place that nothing stands at. */
+static struct section *take_place(void) {
+    for (struct section *each = atomic_load(&sections); each; each = each->next) {
+        uint64_t empty = EMPTY;
+        if (atomic_compare_exchange_strong(&each->state, &empty, CHANGING))
+            return each;
+    }
+    struct section *added = calloc(1, sizeof *added);
+    if (!added)
+        return NULL;
+    atomic_store(&added->state, CHANGING);
+    added->changer = thread_pointer();
+    added->next = atomic_load(&sections);
+    while (!atomic_compare_exchange_weak(&sections, &added->next, added))
+        ;
+    return added;
+}
+
+static void add(uint64_t registration, const void *begin, const uint8_t *section, void *object, uint64_t text, uint64_t data) {
     CfiModule module;
     /* a module that has a header is found by that */
     if (find_module((uint64_t)section, &module))
         return;
-    struct section *added = calloc(1, sizeof *added);
+    struct section *added = take_place();
     if (!added)
         return;
-    added->begin = begin;
+    added->changer = thread_pointer();
+    atomic_store(&added->begin, begin);
+    atomic_store(&added->registration, registration);
     added->object = object;
-    added->file = REGISTERED | atomic_fetch_add(&registrations, 1);
-    added->module = (CfiModule){.end = UINT64_MAX, .eh_frame = section, .eh_frame_len = length_of(section), .header = section};
+    struct bytes bytes = section_at(section);
+    added->module =
+        (CfiModule){.end = UINT64_MAX, .eh_frame = bytes.start, .eh_frame_len = bytes.length, .header = bytes.start};
     added->module.bases = (CfiBases){
-        .section = (uint64_t)section, .text = text, .data_base = data, .aarch64 = IS_AARCH64, .address_size = 8};
-    pthread_mutex_lock(&changing);
-    added->next = atomic_load(&sections);
-    atomic_store(&sections, added);
-    pthread_mutex_unlock(&changing);
+        .section = (uint64_t)bytes.start, .text = text, .data_base = data, .aarch64 = IS_AARCH64, .address_size = 8};
+    atomic_store(&added->state, atomic_fetch_add(&numbers, 2));
+}
+
+/* A step takes microseconds, unless its thread lost the processor. */
+static void wait_for_reader(struct thread *thread, void *section) {
+    enum { SPINS = 4000 };
+    for (int i = 0; i < NESTED; i++)
+        for (int spins = 0; atomic_load(&thread->reading[i]) == section; spins++)
+            if (spins < SPINS)
+                pause_processor();
+            else
+                sched_yield();
+}
+
+/* The last registration of it; 0 where there is none. */
+static uint64_t registration_of(const void *begin) {
+    uint64_t last = 0;
+    for (struct section *each = from(atomic_load(&sections)); each; each = from(each->next)) {
+        uint64_t registration = atomic_load(&each->registration);
+        if (atomic_load(&each->begin) == begin && registration > last)
+            last = registration;
+    }
+    return last;
 }
 
 /* Takes the sections of a registration out; returns what was passed with it. */
 static void *take_out(const void *begin) {
     void *object = NULL;
-    struct section *out = NULL;
-    pthread_mutex_lock(&changing);
-    for (_Atomic(struct section *) *each = &sections; *each;) {
-        struct section *section = *each;
-        if (section->begin != begin) {
-            each = &section->next;
+    uint64_t registration = registration_of(begin);
+    for (struct section *each = atomic_load(&sections); each && registration; each = each->next) {
+        uint64_t state = atomic_load(&each->state);
+        if (!is_number(state) || atomic_load(&each->registration) != registration ||
+            !atomic_compare_exchange_strong(&each->state, &state, CHANGING))
             continue;
-        }
-        object = section->object;
-        atomic_store(each, section->next);
-        while (atomic_load(&readers)) /* one of them may be at this section, and go on to the next */
-            sched_yield();
-        out = section;
-        free(out);
+        each->changer = thread_pointer();
+        visit_others(wait_for_reader, each);
+        wait_for_reserve(each);
+        object = each->object;
+        atomic_store(&each->state, EMPTY);
     }
-    pthread_mutex_unlock(&changing);
     return object;
 }
 
-bool find_registered_function(uint64_t address, CfiModule *module, CfiFunction *function) {
+void mend_sections(void) {
+    for (struct section *each = atomic_load(&sections); each; each = each->next)
+        if (atomic_load(&each->state) == CHANGING && each->changer != thread_pointer())
+            atomic_store(&each->state, EMPTY);
+}
+
+/* The number of the section that is read from now on, until stop_reading; 0 where none stands there. */
+static uint64_t start_reading(struct workspace *workspace, struct section *section) {
+    uint64_t state = atomic_load(&section->state);
+    atomic_store(workspace->reading, section);
+    return is_number(state) && atomic_load(&section->state) == state ? state : 0;
+}
+
+static void stop_reading(struct workspace *workspace) {
+    atomic_store_explicit(workspace->reading, NULL, memory_order_release);
+}
+
+static bool function_in(struct workspace *workspace, struct section *section, uint64_t address, CfiModule *module,
+                        CfiFunction *function) {
+    uint64_t file = start_reading(workspace, section);
     bool is_found = false;
-    if (!atomic_load(&sections))
-        return false;
-    atomic_fetch_add(&readers, 1);
-    for (struct section *each = atomic_load(&sections); each && !is_found; each = each->next) {
-        *module = each->module;
-        is_found = function_in(module, each->file, address, function);
+    if (file) {
+        *module = section->module;
+        is_found = function_with(workspace, module, file, address, function);
     }
-    atomic_fetch_sub(&readers, 1);
+    stop_reading(workspace);
     return is_found;
 }
 
-enum found step_in_registered(struct walk *walk) {
+bool find_registered_function(const struct call *call, uint64_t address, CfiModule *module, CfiFunction *function) {
+    bool is_found = false;
+    for (struct section *each = from(atomic_load(&sections)); each && !is_found; each = from(each->next)) {
+        struct workspace *workspace = take_workspace(call);
+        if (!workspace)
+            return false;
+        is_found = function_in(workspace, each, address, module, function);
+        give_workspace(workspace);
+    }
+    return is_found;
+}
+
+/* The step in one section: by a row of it that is kept, or by any. */
+static enum found step_in(struct workspace *workspace, struct walk *walk, struct section *section, bool is_kept) {
     enum found found = AT_END;
-    if (!atomic_load(&sections))
-        return found;
-    atomic_fetch_add(&readers, 1);
-    for (struct section *each = atomic_load(&sections); each && found == AT_END; each = each->next)
-        found = step_in(walk, &each->module, each->file);
-    atomic_fetch_sub(&readers, 1);
+    walk->file = start_reading(workspace, section);
+    if (walk->file && is_kept)
+        found = step_by_kept(workspace, walk) ? FOUND : AT_END;
+    else if (walk->file)
+        found = step_with(workspace, walk, &section->module, walk->file);
+    stop_reading(workspace);
     return found;
+}
+
+static enum found step_in_any(struct walk *walk, bool is_kept) {
+    enum found found = AT_END;
+    for (struct section *each = from(atomic_load(&sections)); each && found == AT_END; each = from(each->next)) {
+        struct workspace *workspace = take_workspace(&walk->call);
+        if (!workspace)
+            return CORRUPT;
+        found = step_in(workspace, walk, each, is_kept);
+        give_workspace(workspace);
+    }
+    return found;
+}
+
+enum found step_in_registered(struct walk *walk) {
+    enum found found = step_in_any(walk, true);
+    return found == AT_END ? step_in_any(walk, false) : found;
 }
 
 /* ---- the calls, by the names of libgcc_s */
@@ -128,7 +233,7 @@ static bool is_empty(const void *section) {
 
 void __register_frame_info_bases(const void *begin, void *object, void *text, void *data) {
     if (!is_empty(begin))
-        add(begin, begin, object, (uint64_t)text, (uint64_t)data);
+        add(atomic_fetch_add(&registrations, 1), begin, begin, object, (uint64_t)text, (uint64_t)data);
 }
 
 void __register_frame_info(const void *begin, void *object) {
@@ -141,8 +246,9 @@ void __register_frame(void *begin) {
 
 /* begin is an array of sections that ends with a null pointer. */
 void __register_frame_info_table_bases(void *begin, void *object, void *text, void *data) {
+    uint64_t registration = atomic_fetch_add(&registrations, 1);
     for (const uint8_t *const *each = begin; *each; each++)
-        add(begin, *each, object, (uint64_t)text, (uint64_t)data);
+        add(registration, begin, *each, object, (uint64_t)text, (uint64_t)data);
 }
 
 void __register_frame_info_table(void *begin, void *object) {

@@ -1,6 +1,7 @@
 /* A signal's trampoline that has no unwind information, as some programs make their own: it is known by its code, and what was
  * interrupted by the kernel's frame above it. */
 #include <signal.h>
+#include <stddef.h>
 #include <string.h>
 #include <ucontext.h>
 
@@ -15,11 +16,15 @@ static bool may_be_code(uint64_t pc) {
     return is_readable_code(pc, sizeof CODE);
 }
 
+/* What of the kernel's frame is read. */
+typedef ucontext_t Interrupted;
+static const uint64_t READ = offsetof(Interrupted, uc_mcontext.gregs) + sizeof(gregset_t);
+
 /* Writes the registers that were interrupted, and returns their pc. */
 static uint64_t read_interrupted(uint64_t stack_pointer, CfiValue *registers) {
     static const uint8_t places[] = {REG_RAX, REG_RDX, REG_RCX, REG_RBX, REG_RSI, REG_RDI, REG_RBP, REG_RSP,
                                      REG_R8, REG_R9, REG_R10, REG_R11, REG_R12, REG_R13, REG_R14, REG_R15};
-    const ucontext_t *interrupted = (const ucontext_t *)stack_pointer;
+    const Interrupted *interrupted = (const Interrupted *)stack_pointer;
     for (size_t k = 0; k < sizeof places; k++)
         registers[k] = (CfiValue){(uint64_t)interrupted->uc_mcontext.gregs[places[k]], true};
     return (uint64_t)interrupted->uc_mcontext.gregs[REG_RIP];
@@ -32,14 +37,18 @@ static const uint32_t CODE[] = {0xd2801168, 0xd4000001};
 
 /* It is in no module where there is no vDSO. */
 static bool may_be_code(uint64_t pc) {
-    return pc % sizeof *CODE == 0 && is_mapped(pc & -(uint64_t)4096, (pc & -(uint64_t)4096) + 4096);
+    return pc % sizeof *CODE == 0 && is_readable(pc);
 }
 
+typedef struct {
+    siginfo_t info;
+    ucontext_t context;
+} Interrupted;
+static const uint64_t READ =
+    offsetof(Interrupted, context.uc_mcontext.__reserved) + sizeof(struct fpsimd_context);
+
 static uint64_t read_interrupted(uint64_t stack_pointer, CfiValue *registers) {
-    const struct {
-        siginfo_t info;
-        ucontext_t context;
-    } *saved = (const void *)stack_pointer;
+    const Interrupted *saved = (const Interrupted *)stack_pointer;
     const mcontext_t *interrupted = &saved->context.uc_mcontext;
     const struct fpsimd_context *vectors = (const void *)interrupted->__reserved;
     for (int k = 0; k < 31; k++)
@@ -53,12 +62,15 @@ static uint64_t read_interrupted(uint64_t stack_pointer, CfiValue *registers) {
 #endif
 
 bool step_from_trampoline(struct walk *walk) {
-    uint64_t at = walk->frame.pc;
+    uint64_t at = walk->frame.pc, saved = walk->frame.value[STACK_POINTER];
     if (!may_be_code(at) || memcmp((const void *)at, CODE, sizeof CODE) != 0)
         return false;
-    uint64_t pc = read_interrupted(walk->frame.cfa, walk->registers);
+    /* less than a page: its ends are in all pages that it has bytes in */
+    if (saved > UINT64_MAX - READ || !is_readable(saved) || !is_readable(saved + READ - sizeof(uint64_t)))
+        return false;
+    uint64_t pc = read_interrupted(saved, walk->registers);
     walk->facts = (CfiFunction){.start = at, .is_signal_trampoline = true};
-    walk->caller = (CfiCaller){.pc = pc, .is_interrupted = true};
+    walk->caller = (CfiCaller){.cfa = walk->registers[STACK_POINTER].value, .pc = pc, .is_interrupted = true};
     walk->is_caller_plain = false;
     return true;
 }

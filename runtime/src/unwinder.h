@@ -11,15 +11,62 @@
 #include "cfi_c.h"
 #include "machine.h"
 
-enum { PAGE = 4096 };
-
-#define LOCAL __thread __attribute__((tls_model("initial-exec")))
 #define HIDDEN __attribute__((visibility("hidden")))
 #ifdef HIDE_EXPORTS
 #define EXPORT HIDDEN
 #else
 #define EXPORT __attribute__((visibility("default")))
 #endif
+
+/* ---- threads (thread.c) */
+
+enum { NESTED = 2 /* a throw, and a handler of a signal that interrupts it */ };
+
+struct workspace;
+struct section;
+
+/* A thread that threw. It is found by its pointer: a library that is loaded late may not get memory of each thread. */
+struct thread {
+    _Alignas(64) _Atomic(uint64_t) key; /* of the thread and of the process; 0: free */
+    uint64_t calls;        /* how often it called an entry */
+    struct workspace *workspaces[NESTED];
+    struct workspace *made;                   /* while its context or its cache is made: whose memory the library takes */
+    _Atomic(struct section *) reading[NESTED]; /* what each workspace reads of what was registered */
+    _Atomic(int) number;                       /* the kernel's, where nothing is called at the thread's end; else 0 */
+};
+
+/* A call of an entry, on its thread's stack. */
+struct call {
+    uint64_t number;       /* no other call of the thread has it */
+    struct thread *thread; /* NULL where there is no memory for one */
+};
+
+/* Begins a call. */
+HIDDEN void begin_call(struct call *call);
+
+/* This thread, if it threw before; else NULL. */
+HIDDEN struct thread *find_thread(void);
+
+/* Calls visit for each thread of this process but this one. */
+HIDDEN void visit_others(void (*visit)(struct thread *thread, void *argument), void *argument);
+
+/* Signals that are blocked. */
+typedef uint64_t Mask;
+
+/* Blocks all, and returns those that were. */
+HIDDEN Mask block_signals(void);
+HIDDEN void set_signals(Mask mask);
+
+/* Whether eight bytes at the address can be read. It asks the kernel, but under valgrind. */
+HIDDEN bool is_readable(uint64_t address);
+
+/* The size of the kernel's pages. */
+HIDDEN uint64_t page_size(void);
+
+/* Where the address's page begins. */
+static inline uint64_t page_of(uint64_t address) {
+    return address & -page_size();
+}
 
 /* ---- frames (frame.c) */
 
@@ -28,7 +75,7 @@ enum { PAGE = 4096 };
  * other's contexts. */
 struct _Unwind_Context {
     uint64_t value[GCC_REGISTERS]; /* of a register, or its address where by_value is 0 */
-    uint64_t cfa;                  /* the CFA of the frame that it called: its stack pointer */
+    uint64_t cfa;                  /* the CFA of the frame that it called: mostly its stack pointer */
     uint64_t pc, lsda, text_base, data_base, function;
     uint64_t flags, version, args_size;
     uint8_t by_value[GCC_REGISTERS];
@@ -47,9 +94,12 @@ struct walk {
     bool is_plain, is_caller_plain;
     bool is_loaded;    /* the last module that had a pc is a loaded one, that was found in this call */
     CfiRange module;   /* where it is; else empty */
+    CfiRange part;     /* a part of it that can be read, or empty */
     uint64_t file;     /* the number of its file */
-    uint64_t call;     /* the number of the entry's call in its thread */
+    struct call call;
     struct workspace *own; /* the thread's first, once it was taken in this call, else NULL */
+    uint64_t steps_back;   /* how many callers had no greater stack pointer than their frames, */
+    uint64_t back_pc, back_pointer; /* and where one of them was */
     CfiFunction facts; /* what the FDE of the frame's pc says */
     CfiCaller caller;
 };
@@ -85,7 +135,7 @@ static inline __attribute__((always_inline)) void go_up(struct walk *walk) {
     frame->pc = pc;
     frame->is_interrupted = is_interrupted;
     frame->flags = EXTENDED | (uint64_t)is_interrupted << 63;
-    frame->cfa = walk->registers[STACK_POINTER].value;
+    frame->cfa = walk->caller.cfa;
     return_address->known = is_interrupted;
     if (!IS_AARCH64)
         frame->value[RETURN_ADDRESS] = return_address->value = pc;
@@ -97,24 +147,33 @@ static inline __attribute__((always_inline)) void go_up(struct walk *walk) {
         show_all(walk);
 }
 
-/* What the FDE of an address says, and the module with it: whether there is one. For the call of that number of the thread. */
-HIDDEN bool find_function(uint64_t call, uint64_t address, CfiModule *module, CfiFunction *function);
+/* What the FDE of an address says, and the module with it: whether there is one. */
+HIDDEN bool find_function(const struct call *call, uint64_t address, CfiModule *module, CfiFunction *function);
 
-/* The number of another call. */
-HIDDEN uint64_t begin_call(void);
+/* The step in a section that was registered (registered.c), by a workspace. */
+HIDDEN enum found step_with(struct workspace *workspace, struct walk *walk, const CfiModule *module, uint64_t file);
 
-/* Steps in a section that was registered (registered.c). */
-HIDDEN enum found step_in(struct walk *walk, const CfiModule *module, uint64_t file);
+/* The same by a row that is kept for walk->file. False where there is none; then nothing is changed. */
+HIDDEN bool step_by_kept(struct workspace *workspace, struct walk *walk);
+
+/* What the FDE of an address of the module says, whose file has this number, by a workspace. */
+HIDDEN bool function_with(struct workspace *workspace, const CfiModule *module, uint64_t file, uint64_t address,
+                          CfiFunction *function);
 
 /* ---- where sections lie (module.c, registered.c) */
 
-enum { ID = 20 /* bytes of a build id that are compared: all of it, as linkers make them */ };
+enum {
+    ID = 20,  /* bytes of a build id that are compared: all of it, as linkers make them */
+    PARTS = 4 /* as many segments as linkers make; others count as holes */
+};
 
 /* A loaded module, and what tells its file from another that is loaded at the same place later. */
 struct loaded {
     CfiModule module;
     uint64_t map_start, map_end; /* as the loader says, and its record; 0 where it wasn't asked */
     const void *record;
+    CfiRange parts[PARTS]; /* that can be read: segments, and those that follow on each other as one */
+    uint8_t part_count;
     uint64_t unloads;  /* without a build id: how many modules the process had unloaded by then */
     uint8_t id[ID];    /* the build id */
     uint8_t id_length; /* 0: there is none, or none that tells files apart */
@@ -126,6 +185,9 @@ HIDDEN bool find_loaded(uint64_t address, struct loaded *loaded);
 
 /* Whether the loaded module of the address is still that one, by its build id. Takes no lock; false where it can't tell. */
 HIDDEN bool is_still(const struct loaded *loaded, uint64_t address);
+
+/* Whether the address is in a part of the module that can be read, and in which. */
+HIDDEN bool is_in_parts(const struct loaded *loaded, uint64_t address, CfiRange *found);
 
 /* The module alone. */
 HIDDEN bool find_module(uint64_t address, CfiModule *module);
@@ -144,10 +206,10 @@ static inline bool is_in(CfiRange range, uint64_t address) {
 HIDDEN enum found step_in_registered(struct walk *walk);
 
 /* As find_function, in these sections. */
-HIDDEN bool find_registered_function(uint64_t address, CfiModule *module, CfiFunction *function);
+HIDDEN bool find_registered_function(const struct call *call, uint64_t address, CfiModule *module, CfiFunction *function);
 
-/* What the FDE of an address of the module says, whose file has this number. */
-HIDDEN bool function_in(const CfiModule *module, uint64_t file, uint64_t address, CfiFunction *function);
+/* In a forked child: the sections that other threads were about to change. */
+HIDDEN void mend_sections(void);
 
 /* A signal's trampoline that has no unwind information (trampoline.c): its caller is what was interrupted. */
 HIDDEN bool step_from_trampoline(struct walk *walk);
@@ -166,7 +228,7 @@ struct known_module {
 
 /* Empty where all is 0. */
 struct known_modules {
-    uint64_t files; /* how many numbers are taken */
+    uint64_t files; /* the last number that was taken: they are even */
     unsigned count;
     uint16_t by_page[PLACES];  /* by a page of their code: its index and 1, or 0 */
     uint16_t by_start[PLACES]; /* by their first address, as far on as there is room */
@@ -205,6 +267,9 @@ HIDDEN CfiMemory memory_of(const CfiWindow *windows, size_t count);
 /* The view of a frame with this stack pointer. */
 HIDDEN void view_from(const struct windows *known, uint64_t stack_pointer, struct view *view);
 
+/* Has the view show what is known below the stack pointer too; false where it shows that already. */
+HIDDEN bool view_below(const struct windows *known, struct view *view);
+
 /* Whether all pages from start to end are mapped. */
 HIDDEN bool is_mapped(uint64_t start, uint64_t end);
 
@@ -225,51 +290,70 @@ struct workspace {
     CfiCache cache; /* of rows; none where there was no memory for it */
     struct windows windows;
     struct view view; /* of the frame that was stepped from last */
-    bool is_busy;
+    const struct call *holder; /* the call that uses it, and its number; NULL: it is free */
+    uint64_t holder_number;
+    bool is_closed;  /* signals are blocked while it is used, */
+    Mask mask;       /* and before these were */
+    _Atomic(struct section *) *reading;                   /* what it reads of what was registered */
     _Unwind_Personality_Fn personalities[PERSONALITIES]; /* the last that were found to be code, or NULL */
     struct room rooms[ROOMS];           /* memory for the library: the first that has enough of it */
+    struct room stack;                  /* for calls that may take more of a stack than the thread has */
     unsigned first_rows;                /* once so many rows were looked for the cache is made larger; never if 0 */
     struct known_modules *modules;
 };
 
-enum { NESTED = 4 /* a throw, and handlers of signals that interrupt each other */ };
-
-/* Those of this thread, as far as they are made. */
-extern HIDDEN LOCAL struct workspace *own_workspaces[NESTED];
-
 /* Makes the view of a frame with this stack pointer, and its stack known. */
 HIDDEN void look_anew(struct workspace *workspace, uint64_t stack_pointer);
+
+/* Calls on the workspace's stack, with signals blocked: no handler runs there. */
+HIDDEN int32_t call_on_own_stack(struct workspace *workspace, int32_t (*call)(void *), void *argument);
 
 /* Makes the cache as large as it gets, without a row. */
 HIDDEN void enlarge_cache(struct workspace *workspace);
 
-/* Where the first isn't free, and where it may be the reserve that is given back. */
-HIDDEN struct workspace *take_other_workspace(void);
-HIDDEN void give_other_back(const struct workspace *workspace);
+/* Where the first isn't free, and where signals were blocked for the one that is given back. */
+HIDDEN struct workspace *take_other_workspace(const struct call *call);
+HIDDEN void give_other_back(struct workspace *workspace);
 
-/* For one of this thread that isn't busy, but not the reserve. */
-static inline void hold_workspace(struct workspace *workspace) {
-    workspace->is_busy = true;
+/* In a forked child: what other threads had. */
+HIDDEN void mend_workspaces(void);
+
+/* Waits until nobody reads the section by the reserve. */
+HIDDEN void wait_for_reserve(const struct section *section);
+
+/* What a thread that ended had, for others to come. */
+HIDDEN void leave_workspaces(struct thread *thread);
+
+/* For the first of a thread, while it is free. */
+static inline void hold_workspace(struct workspace *workspace, const struct call *call) {
+    workspace->holder_number = call->number;
+    workspace->holder = call;
     atomic_signal_fence(memory_order_seq_cst);
 }
 
 static inline void let_workspace_go(struct workspace *workspace) {
     atomic_signal_fence(memory_order_seq_cst);
-    workspace->is_busy = false;
+    workspace->holder = NULL;
 }
 
-/* Takes a workspace of this thread; NULL where there is none. Each is given back before a call of what isn't the library's. */
-static inline struct workspace *take_workspace(void) {
-    struct workspace *workspace = own_workspaces[0];
-    if (!workspace || workspace->is_busy)
-        return take_other_workspace();
-    hold_workspace(workspace);
+/* The first of the call's thread; NULL where there is none. */
+static inline struct workspace *first_workspace(const struct call *call) {
+    return call->thread ? call->thread->workspaces[0] : NULL;
+}
+
+/* Takes a workspace of the call's thread; NULL where there is none. Each is given back before a call of what isn't the
+ * library's. */
+static inline struct workspace *take_workspace(const struct call *call) {
+    struct workspace *workspace = first_workspace(call);
+    if (!workspace || workspace->holder)
+        return take_other_workspace(call);
+    hold_workspace(workspace, call);
     return workspace;
 }
 
 static inline void give_workspace(struct workspace *workspace) {
     let_workspace_go(workspace);
-    if (workspace != own_workspaces[0])
+    if (workspace->is_closed)
         give_other_back(workspace);
 }
 
@@ -294,6 +378,6 @@ HIDDEN bool may_land(const struct walk *walk);
 HIDDEN _Noreturn void land(const struct landing *landing);
 
 /* Calls on another stack, that ends at top. */
-HIDDEN int32_t call_on_stack(int32_t (*call)(struct workspace *), struct workspace *workspace, void *top);
+HIDDEN int32_t call_on_stack(int32_t (*call)(void *), void *argument, void *top);
 
 #endif

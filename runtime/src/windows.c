@@ -22,10 +22,6 @@ enum {
 /* The most that a stack has. Nothing is mapped so near below the first thread's. */
 static const uint64_t FIRST_STACK = (uint64_t)1 << 27, OTHER_STACK = (uint64_t)1 << 30;
 
-static uint64_t page_of(uint64_t address) {
-    return address & -(uint64_t)PAGE;
-}
-
 /* That of the stack that is used here: there is nothing to ask. */
 static uint64_t own_page(void) {
     return page_of((uint64_t)__builtin_frame_address(0));
@@ -42,25 +38,23 @@ static CfiWindow window_of(uint64_t start, uint64_t end) {
 /* Of the advices this is the one that changes nothing. */
 bool is_mapped(uint64_t start, uint64_t end) {
     int was = errno;
-    if (start == own_page() && end == start + PAGE)
+    if (start == own_page() && end == start + page_size())
         return true;
     bool is = madvise((void *)start, end - start, MADV_NORMAL) == 0;
     errno = was;
     return is;
 }
 
-/* Where the mapped memory from the page on ends, as far as it is taken; the page itself where it is not mapped. */
+/* Where the mapped memory from the page on ends, as far as it is taken; the page itself where it can't be read. */
 static uint64_t mapped_from(uint64_t page) {
     uint64_t first = &__libc_stack_end ? (uint64_t)__libc_stack_end : 0, own = (uint64_t)pthread_self();
-    if (page <= first && first - page < FIRST_STACK && is_mapped(page, page + PAGE))
-        return page_of(first) + PAGE;
-    if (page <= own && own - page < OTHER_STACK && is_mapped(page, page_of(own) + PAGE))
-        return page_of(own) + PAGE;
-    if (is_mapped(page, page + PART))
-        return page + PART;
+    if (page <= first && first - page < FIRST_STACK && is_mapped(page, page + page_size()))
+        return page_of(first) + page_size();
+    if (page <= own && own - page < OTHER_STACK && is_mapped(page, page_of(own) + page_size()))
+        return page_of(own) + page_size();
     uint64_t end = page;
-    while (end < page + PART && is_mapped(end, end + PAGE))
-        end += PAGE;
+    while (end < page + PART && is_readable(end))
+        end += page_size();
     return end;
 }
 
@@ -86,6 +80,19 @@ void view_from(const struct windows *known, uint64_t stack_pointer, struct view 
     }
 }
 
+bool view_below(const struct windows *known, struct view *view) {
+    bool is_more = false;
+    for (unsigned i = 0; i < known->count; i++) {
+        const CfiWindow *window = &known->list[i];
+        CfiWindow *first = &view->list[0];
+        if (window->base < first->base && end_of(window) == end_of(first)) {
+            *first = *window;
+            is_more = true;
+        }
+    }
+    return is_more;
+}
+
 /* Takes out the windows that overlap or touch these pages, and returns the pages with them. */
 static CfiWindow merged(struct windows *known, uint64_t start, uint64_t end) {
     unsigned kept = 0;
@@ -108,10 +115,10 @@ static uint64_t start_before(const struct windows *known, uint64_t address) {
     uint64_t page = page_of(address);
     for (unsigned i = 0; i < known->count; i++) {
         uint64_t end = end_of(&known->list[i]);
-        if (end <= page && page - end < GAP && is_mapped(end, page + PAGE))
+        if (end <= page && page - end < GAP && is_mapped(end, page + page_size()))
             return end;
     }
-    return page != own_page() && is_mapped(page - PAGE, page) ? page - PAGE : page;
+    return page != own_page() && is_readable(page - page_size()) ? page - page_size() : page;
 }
 
 /* Whether the memory at the address is known to be mapped. */
@@ -123,11 +130,13 @@ static bool is_known(const struct windows *known, uint64_t address) {
 }
 
 bool add_window(struct windows *known, uint64_t address) {
-    if (address < 2 * PAGE || address > UINT64_MAX - 2 * PART)
+    if (address < 2 * page_size() || address > UINT64_MAX - 2 * PART)
         return false;
     if (is_known(known, address)) /* the number may end behind the window, else it is below the stack pointer */
         address += WORD - 1;
     if (is_known(known, address))
+        return false;
+    if (page_of(address) != own_page() && !is_readable(address & -(uint64_t)WORD))
         return false;
     uint64_t start = start_before(known, address), end = mapped_from(page_of(address));
     if (end <= page_of(address))

@@ -1,8 +1,11 @@
 /* What a thread needs to step: a context of the library, a cache of rows, and the modules that it knows. The first thread that
- * throws has it in the library; for others it is mapped at their first throws. It is given back at the thread's end. A signal
- * handler that interrupts a throw takes another one. If there is no memory, all threads share one that is held in reserve. */
+ * throws has it in the library; for others it is mapped at their first throws. It is given back at the thread's end. If there is
+ * no memory, all threads share one that is held in reserve.
+ *
+ * A signal handler that interrupts a step takes another one, and all signals are blocked while that is used, as while the
+ * reserve is: so no more are needed, and no handler leaves these. Where a handler doesn't return, but leaves by siglongjmp, the
+ * thread's first is in use for ever, by a call whose stack is gone. It is made anew once that stack has other contents. */
 #include <errno.h>
-#include <pthread.h>
 #include <sched.h>
 #include <string.h>
 #include <sys/mman.h>
@@ -19,50 +22,54 @@ enum {
     FIRST = CACHE + FIRST_SETS * 4 * LINE,
     CONTEXT = 196 * LINE, /* what a context takes, */
     SELDOM = 128 * 1024,  /* but for the rows that it remembers, which few have; more is taken here too */
-    STACK = 44 * 1024,    /* as much as is taken to make a context now */
+    MOST = 44 * 1024,     /* as much of a stack as is taken to make a context now */
+    STACK = 64 * 1024,    /* as much as it has once the rows have its first place */
     LEFT = 4              /* so many of ended threads are kept */
 };
 
-/* Pages are touched only when they are needed. What a first throw touches lies together: the rows' last bytes, on which the
- * context is made, as on a stack, and then the first rows; the context; and the first modules. */
+/* Pages are touched only when they are needed. What a first throw touches lies together: the place of later rows, on which the
+ * context is made, as on a stack; the first rows; the context; and the first modules. */
 struct region {
-    _Alignas(PAGE) char seldom[SELDOM];
-    _Alignas(LINE) char rows[ROWS];
+    _Alignas(REGION) char seldom[SELDOM];
+    char stack[STACK];
+    _Alignas(LINE) char rows[ROWS]; /* the first ones at its end */
     _Alignas(LINE) char context[CONTEXT];
     struct workspace workspace;
     struct known_modules modules;
 };
 
-LOCAL struct workspace *own_workspaces[NESTED];
-static LOCAL struct workspace *made; /* while its context or cache is made: whose memory the library takes */
-
-static pthread_key_t key;
-static bool has_key;
-
 /* That of the first thread that throws, and the one that all share where there is no memory. */
 static struct region first, reserve;
+static struct workspace *made_in_reserve;
+static _Atomic(struct section *) read_in_reserve;
 
-/* What one thread has at a time: the address of its own, or NULL. */
-typedef _Atomic(void *) Taken;
+/* What one thread has at a time: its pointer, or 0. */
+typedef _Atomic(uint64_t) Taken;
 static Taken first_thread, reserve_thread;
 
 static bool take(Taken *thread) {
-    void *none = NULL;
-    return atomic_compare_exchange_strong(thread, &none, &own_workspaces);
+    uint64_t none = 0;
+    return atomic_compare_exchange_strong(thread, &none, thread_pointer());
 }
 
 static void give(Taken *thread) {
-    atomic_store(thread, NULL);
+    atomic_store(thread, 0);
 }
 
-/* Waits until no other thread has it; false if this one has it already, in what a signal handler interrupted. */
+/* Waits until no other thread has it; false if this one has it already. */
 static bool wait_for(Taken *thread) {
     while (!take(thread)) {
-        if (atomic_load(thread) == &own_workspaces)
+        if (atomic_load(thread) == thread_pointer())
             return false;
         sched_yield();
     }
     return true;
+}
+
+/* Where the workspace is written whose memory the library takes. */
+static struct workspace **made_here(void) {
+    struct thread *thread = find_thread();
+    return thread ? &thread->made : &made_in_reserve;
 }
 
 /* ---- memory for the library: these three are the toolchain's bridge to malloc, in whose place they stand */
@@ -80,6 +87,7 @@ HIDDEN void rattle_dealloc(void *block);
 Tried rattle_alloc(size_t length, size_t alignment) {
     static char nothing;
     size_t size = (length + LINE) & -(size_t)LINE;
+    struct workspace *made = *made_here();
     (void)alignment;
     for (int i = 0; made && size > length && i < ROOMS; i++) {
         struct room *room = &made->rooms[i];
@@ -109,8 +117,8 @@ void rattle_dealloc(void *block) {
 static void touch(void *start, size_t size) {
 #ifdef MADV_POPULATE_WRITE
     int was = errno;
-    uint64_t first = (uint64_t)start & -(uint64_t)PAGE;
-    madvise((void *)first, (uint64_t)start + size - first, MADV_POPULATE_WRITE);
+    uint64_t page = page_of((uint64_t)start);
+    madvise((void *)page, (uint64_t)start + size - page, MADV_POPULATE_WRITE);
     errno = was;
 #else
     (void)start, (void)size;
@@ -125,50 +133,61 @@ static struct room room_of(char *start, size_t size) {
     return (struct room){start, start + size};
 }
 
+int32_t call_on_own_stack(struct workspace *workspace, int32_t (*call)(void *), void *argument) {
+    enum { STACK_REGISTER = 0x1501, STACK_DEREGISTER = 0x1502 };
+    uint64_t start = (uint64_t)workspace->stack.free, end = (uint64_t)workspace->stack.end;
+    Mask mask = block_signals();
+    uint64_t stack = ask_valgrind(STACK_REGISTER, start, end);
+    int32_t result = call_on_stack(call, argument, workspace->stack.end);
+    ask_valgrind(STACK_DEREGISTER, stack, 0);
+    set_signals(mask);
+    return result;
+}
+
+/* Valgrind takes what lay on a stack for lost. */
+static void make_undefined(char *start, size_t size) {
+    enum { MAKE_MEM_UNDEFINED = 0x4d430001 };
+    ask_valgrind(MAKE_MEM_UNDEFINED, (uint64_t)start, size);
+}
+
 /* Without memory for the cache there is none: then each row is found anew. */
 static void make_cache(struct workspace *workspace, size_t sets, size_t size) {
-    struct workspace *was = made;
     struct region *region = region_of(workspace);
+    struct workspace **made = made_here(), *was = *made;
     workspace->rooms[0] = room_of(region->rows + ROWS - size, size);
-    made = workspace;
+    *made = workspace;
     cfi_cache_new(sets, &workspace->cache);
-    made = was;
+    *made = was;
 }
 
 void enlarge_cache(struct workspace *workspace) {
     struct region *region = region_of(workspace);
+    Mask mask = block_signals();
     cfi_cache_free(&workspace->cache);
-    touch(region->rows, ROWS - STACK);
+    touch(region->rows, ROWS - FIRST - MOST);
+    make_undefined(region->rows, ROWS);
+    workspace->stack = room_of(region->stack, STACK);
     make_cache(workspace, SETS, ROWS);
+    set_signals(mask);
 }
 
-static int32_t make_context(struct workspace *workspace) {
-    return cfi_context_new(&workspace->context);
+static int32_t make_context(void *workspace) {
+    return cfi_context_new(&((struct workspace *)workspace)->context);
 }
 
-/* Makes the context on a stack in the place of the rows. Valgrind is told of it, since it takes what lies below a stack pointer
- * for lost. */
-static int32_t make_on_rows(struct workspace *workspace, struct region *region) {
-    enum { STACK_REGISTER = 0x1501, STACK_DEREGISTER = 0x1502, MAKE_MEM_UNDEFINED = 0x4d430001 };
-    uint64_t top = (uint64_t)(region->rows + ROWS) & -(uint64_t)LINE;
-    uint64_t stack = ask_valgrind(STACK_REGISTER, (uint64_t)region->seldom, top);
-    int32_t status = call_on_stack(make_context, workspace, (void *)top);
-    ask_valgrind(STACK_DEREGISTER, stack, 0);
-    ask_valgrind(MAKE_MEM_UNDEFINED, (uint64_t)region->rows, ROWS);
-    return status;
-}
-
-/* Makes the workspace of a region of zeros. A larger stack has room too: what is seldom needed is not written then. */
+/* Makes the workspace of a region of zeros. The context is made on a stack in the place of the rows, which is the workspace's
+ * until there are more of them: its pages are touched then. A larger stack has room too. */
 static bool make(struct region *region) {
-    struct workspace *was = made, *workspace = &region->workspace;
+    struct workspace *workspace = &region->workspace, **made = made_here(), *was = *made;
     char *top = region->rows + ROWS;
     workspace->modules = &region->modules;
     workspace->rooms[0] = room_of(region->context, CONTEXT);
     workspace->rooms[1] = room_of(region->seldom, SELDOM);
-    touch(top - STACK, (size_t)((char *)&region->modules.all[1] - (top - STACK)));
-    made = workspace;
-    int32_t status = make_on_rows(workspace, region);
-    made = was;
+    workspace->stack = room_of(region->stack, (size_t)(top - FIRST - region->stack));
+    touch(top - MOST - FIRST, (size_t)((char *)&region->modules.all[1] - (top - MOST - FIRST)));
+    *made = workspace;
+    int32_t status = call_on_own_stack(workspace, make_context, workspace);
+    *made = was;
     if (status != CFI_Ok)
         return false;
     workspace->first_rows = FIRST_ROWS;
@@ -183,13 +202,22 @@ static struct region *map_region(void) {
     return at == MAP_FAILED ? NULL : at;
 }
 
+/* Has the region be of zeros again. */
+static void clear(struct region *region) {
+    if (madvise(region, sizeof *region, MADV_DONTNEED) != 0)
+        memset(region, 0, sizeof *region);
+}
+
 /* The first is given to another thread as it was at the start. */
 static void unmap(struct region *region) {
+    int was = errno;
     if (region != &first) {
         munmap(region, sizeof *region);
-    } else if (madvise(&first, sizeof first, MADV_DONTNEED) == 0) {
+    } else {
+        clear(&first);
         give(&first_thread);
     }
+    errno = was;
 }
 
 static struct workspace *make_workspace(void) {
@@ -222,7 +250,7 @@ static void leave(struct workspace *workspace) {
     workspace->view = (struct view){0};
     memset(workspace->personalities, 0, sizeof workspace->personalities);
     forget_calls(workspace->modules);
-    for (int i = 0; i < LEFT && !workspace->is_busy; i++) {
+    for (int i = 0; i < LEFT && !workspace->holder; i++) {
         struct workspace *none = NULL;
         if (atomic_compare_exchange_strong(&left[i], &none, workspace))
             return;
@@ -230,28 +258,33 @@ static void leave(struct workspace *workspace) {
     unmap(region_of(workspace));
 }
 
-/* At the end of a thread. What it throws after that takes others, and this is called again. */
-static void give_back(void *all) {
-    struct workspace **each = all;
+void leave_workspaces(struct thread *thread) {
     for (int i = 0; i < NESTED; i++) {
-        struct workspace *workspace = each[i];
-        each[i] = NULL;
+        struct workspace *workspace = thread->workspaces[i];
+        thread->workspaces[i] = NULL;
+        atomic_store(&thread->reading[i], NULL);
         if (workspace)
             leave(workspace);
     }
 }
 
-/* In a forked child no other thread has the reserve. */
-static void give_in_child(void) {
+void wait_for_reserve(const struct section *section) {
+    while (atomic_load(&read_in_reserve) == section && atomic_load(&reserve_thread) != thread_pointer())
+        sched_yield();
+}
+
+/* In a forked child no other thread has the reserve. What one has in hand is made anew. */
+void mend_workspaces(void) {
+    uint64_t holder = atomic_load(&reserve_thread);
+    if (!holder || holder == thread_pointer())
+        return;
+    clear(&reserve);
+    made_in_reserve = NULL;
+    atomic_store(&read_in_reserve, NULL);
     give(&reserve_thread);
 }
 
-__attribute__((constructor)) static void begin(void) {
-    has_key = pthread_key_create(&key, give_back) == 0;
-    pthread_atfork(NULL, NULL, give_in_child);
-}
-
-/* The reserve, once no other thread has it. A signal handler in the thread that has it gets none. */
+/* The reserve, once no other thread has it. */
 static struct workspace *take_reserve(void) {
     struct workspace *workspace = &reserve.workspace;
     if (!wait_for(&reserve_thread))
@@ -259,6 +292,7 @@ static struct workspace *take_reserve(void) {
     if (workspace->context.live || make(&reserve)) {
         workspace->windows = (struct windows){0}; /* the other thread's stacks */
         workspace->view = (struct view){0};
+        workspace->reading = &read_in_reserve;
         forget_modules(workspace->modules); /* its calls have numbers of their own */
         return workspace;
     }
@@ -266,39 +300,61 @@ static struct workspace *take_reserve(void) {
     return NULL;
 }
 
-/* A workspace that this thread keeps; a signal handler may have made it meanwhile. */
-static struct workspace *keep_new(int i) {
-    struct workspace *workspace = take_left();
+/* Whether the call that has the workspace is gone, though it didn't give it back: its stack has other contents. */
+static bool was_left(const struct workspace *workspace) {
+    const struct call *holder = workspace->holder;
+    return !is_readable((uint64_t)&holder->number) || holder->number != workspace->holder_number;
+}
+
+/* Makes the thread's workspace anew, and so free; false where it can't be made. */
+static bool renew(struct thread *thread, int i) {
+    struct region *region = region_of(thread->workspaces[i]);
+    clear(region);
+    if (make(region))
+        return true;
+    unmap(region);
+    thread->workspaces[i] = NULL;
+    return false;
+}
+
+/* One of the thread that is free; NULL where there is none. */
+static struct workspace *free_workspace(struct thread *thread, int i) {
+    struct workspace *workspace = thread->workspaces[i];
+    if (workspace && workspace->holder && (!was_left(workspace) || !renew(thread, i)))
+        return NULL;
+    if (!workspace)
+        workspace = take_left();
     if (!workspace)
         workspace = make_workspace();
     if (!workspace)
         return NULL;
-    if (own_workspaces[i]) {
-        leave(workspace);
-        return own_workspaces[i];
-    }
-    own_workspaces[i] = workspace;
-    if (has_key && !pthread_getspecific(key))
-        pthread_setspecific(key, own_workspaces);
+    thread->workspaces[i] = workspace;
+    workspace->reading = &thread->reading[i];
+    atomic_store(workspace->reading, NULL);
+    workspace->is_closed = i > 0;
     return workspace;
 }
 
-struct workspace *take_other_workspace(void) {
-    for (int i = 0; i < NESTED; i++) {
-        struct workspace *workspace = own_workspaces[i];
-        if (workspace && workspace->is_busy)
-            continue;
-        if (!workspace)
-            workspace = keep_new(i);
-        if (!workspace)
-            break;
-        hold_workspace(workspace);
-        return workspace;
+/* All is done with blocked signals. They stay so where it isn't the thread's first. */
+struct workspace *take_other_workspace(const struct call *call) {
+    Mask mask = block_signals();
+    struct workspace *workspace = NULL;
+    for (int i = 0; i < NESTED && call->thread && !workspace; i++)
+        workspace = free_workspace(call->thread, i);
+    if (!workspace && (workspace = take_reserve()))
+        workspace->is_closed = true;
+    if (workspace) {
+        hold_workspace(workspace, call);
+        workspace->mask = mask;
     }
-    return take_reserve();
+    if (!workspace || !workspace->is_closed)
+        set_signals(mask);
+    return workspace;
 }
 
-void give_other_back(const struct workspace *workspace) {
+void give_other_back(struct workspace *workspace) {
+    Mask mask = workspace->mask;
     if (workspace == &reserve.workspace)
         give(&reserve_thread);
+    set_signals(mask);
 }
