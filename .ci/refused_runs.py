@@ -76,7 +76,7 @@ class Test:
             environment |= {f"CFI_{name.upper()}": str(number) for name, number in numbers.items()}
             ran = subprocess.run(
                 [self.program, *stored.words], input=stored.given, capture_output=True, cwd=folder or self.folder, env=environment,
-                pass_fds=(counted.fileno(),), timeout=60, check=False)
+                pass_fds=(counted.fileno(),), timeout=120, check=False)
             counted.seek(0)
             events = counted.read()
             return (ran.stdout, ran.returncode), ran.stderr, events.count(b"a"), events.count(b"w")
