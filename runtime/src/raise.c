@@ -19,6 +19,13 @@ static uint64_t identity(const struct walk *walk) {
     return walk->frame.cfa - walk->frame.is_interrupted;
 }
 
+/* Debuggers stop here, and then where the second argument says, for their commands that go over a throw. */
+HIDDEN void _Unwind_DebugHook(void *cfa, void *handler);
+
+__attribute__((noinline, noclone)) void _Unwind_DebugHook(void *cfa, void *handler) {
+    __asm__ volatile("" : : "r"(cfa), "r"(handler));
+}
+
 /* Enters the landing pad that a personality chose, so many calls above the entry. */
 _Noreturn static void install(const struct walk *walk, const struct entry *entry, uint64_t calls) {
     static const uint8_t loaded[LOADED] = LOADED_REGISTERS;
@@ -28,6 +35,7 @@ _Noreturn static void install(const struct walk *walk, const struct entry *entry
         abort();
     for (int i = 0; i < LOADED; i++)
         landing.registers[i] = frame->value[loaded[i]] + (loaded[i] == STACK_POINTER ? frame->args_size : 0);
+    _Unwind_DebugHook((void *)frame->cfa, (void *)frame->pc);
     land(&landing);
 }
 

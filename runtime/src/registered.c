@@ -139,6 +139,7 @@ static void *take_out(const void *begin) {
         each->changer = thread_pointer();
         visit_others(wait_for_reader, each);
         wait_for_reserve(each);
+        say_after(each);
         object = each->object;
         atomic_store(&each->state, EMPTY);
     }
@@ -158,7 +159,8 @@ static uint64_t start_reading(struct workspace *workspace, struct section *secti
     return is_number(state) && atomic_load(&section->state) == state ? state : 0;
 }
 
-static void stop_reading(struct workspace *workspace) {
+static void stop_reading(struct workspace *workspace, const struct section *section) {
+    say_before(section);
     atomic_store_explicit(workspace->reading, NULL, memory_order_release);
 }
 
@@ -170,7 +172,7 @@ static bool function_in(struct workspace *workspace, struct section *section, ui
         *module = section->module;
         is_found = function_with(workspace, module, file, address, function);
     }
-    stop_reading(workspace);
+    stop_reading(workspace, section);
     return is_found;
 }
 
@@ -194,7 +196,7 @@ static enum found step_in(struct workspace *workspace, struct walk *walk, struct
         found = step_by_kept(workspace, walk) ? FOUND : AT_END;
     else if (walk->file)
         found = step_with(workspace, walk, &section->module, walk->file);
-    stop_reading(workspace);
+    stop_reading(workspace, section);
     return found;
 }
 

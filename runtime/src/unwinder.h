@@ -60,6 +60,13 @@ HIDDEN void set_signals(Mask mask);
 /* Whether eight bytes at the address can be read. It asks the kernel, but under valgrind. */
 HIDDEN bool is_readable(uint64_t address);
 
+/* Whether valgrind runs the program. */
+HIDDEN bool is_on_valgrind(void);
+
+/* Tells valgrind that what was done before the first, of a place, is done before what comes after the second. */
+HIDDEN void say_before(const void *place);
+HIDDEN void say_after(const void *place);
+
 /* The size of the kernel's pages. */
 HIDDEN uint64_t page_size(void);
 
@@ -305,7 +312,7 @@ struct workspace {
 /* Makes the view of a frame with this stack pointer, and its stack known. */
 HIDDEN void look_anew(struct workspace *workspace, uint64_t stack_pointer);
 
-/* Calls on the workspace's stack, with signals blocked: no handler runs there. */
+/* Calls on the workspace's stack, with signals blocked: no handler runs there. Under valgrind, on the stack that it is on. */
 HIDDEN int32_t call_on_own_stack(struct workspace *workspace, int32_t (*call)(void *), void *argument);
 
 /* Makes the cache as large as it gets, without a row. */

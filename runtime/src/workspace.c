@@ -133,21 +133,14 @@ static struct room room_of(char *start, size_t size) {
     return (struct room){start, start + size};
 }
 
+/* Valgrind's tools take a switch of stacks for other things, so it is not done there. */
 int32_t call_on_own_stack(struct workspace *workspace, int32_t (*call)(void *), void *argument) {
-    enum { STACK_REGISTER = 0x1501, STACK_DEREGISTER = 0x1502 };
-    uint64_t start = (uint64_t)workspace->stack.free, end = (uint64_t)workspace->stack.end;
+    if (is_on_valgrind())
+        return call(argument);
     Mask mask = block_signals();
-    uint64_t stack = ask_valgrind(STACK_REGISTER, start, end);
     int32_t result = call_on_stack(call, argument, workspace->stack.end);
-    ask_valgrind(STACK_DEREGISTER, stack, 0);
     set_signals(mask);
     return result;
-}
-
-/* Valgrind takes what lay on a stack for lost. */
-static void make_undefined(char *start, size_t size) {
-    enum { MAKE_MEM_UNDEFINED = 0x4d430001 };
-    ask_valgrind(MAKE_MEM_UNDEFINED, (uint64_t)start, size);
 }
 
 /* Without memory for the cache there is none: then each row is found anew. */
@@ -165,7 +158,6 @@ void enlarge_cache(struct workspace *workspace) {
     Mask mask = block_signals();
     cfi_cache_free(&workspace->cache);
     touch(region->rows, ROWS - FIRST - MOST);
-    make_undefined(region->rows, ROWS);
     workspace->stack = room_of(region->stack, STACK);
     make_cache(workspace, SETS, ROWS);
     set_signals(mask);
@@ -237,8 +229,10 @@ static _Atomic(struct workspace *) left[LEFT];
 static struct workspace *take_left(void) {
     for (int i = 0; i < LEFT; i++) {
         struct workspace *workspace = atomic_exchange(&left[i], NULL);
-        if (workspace)
+        if (workspace) {
+            say_after(workspace);
             return workspace;
+        }
     }
     return NULL;
 }
@@ -250,6 +244,7 @@ static void leave(struct workspace *workspace) {
     workspace->view = (struct view){0};
     memset(workspace->personalities, 0, sizeof workspace->personalities);
     forget_calls(workspace->modules);
+    say_before(workspace);
     for (int i = 0; i < LEFT && !workspace->holder; i++) {
         struct workspace *none = NULL;
         if (atomic_compare_exchange_strong(&left[i], &none, workspace))

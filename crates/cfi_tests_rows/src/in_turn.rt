@@ -21,7 +21,9 @@ impl<T: ReaderOffset> UnwindContextStorage<T> for StoreOne {
 
     type Stack = ArrayVec<UnwindTableRow<T, Self::Rules>, 1>;
 
-    ghost has_room = { tt };
+    ghost use Rattle.std.proofs.Common.{lit≤};
+
+    ghost has_room = { lit≤ tt };
 }
 
 /// A register that has a rule.

@@ -25,6 +25,36 @@ fn both<R: Reader<Offset = usize>, S: UnwindContextStorage<usize>>(
     Ok([by_lookup, by_row])
 }
 
+/// The same by a header.
+fn both_by_header<R: Reader<Offset = usize>, S: UnwindContextStorage<usize>>(
+    header: R,
+    frame: &EhFrame<R>,
+    counts: &Counts<'_>,
+    context: &mut UnwindContext<usize, S>,
+    address: u64,
+) -> Both {
+    let parsed = read_header(header)?;
+    let of = Listing {
+        table: table_of(&parsed)?,
+        frame,
+        counts,
+    };
+    both(&of, context, address)
+}
+
+/// The same from readers that are counted.
+fn both_of<R: Reader<Offset = usize>, S: UnwindContextStorage<usize>>(
+    section: R,
+    header: R,
+    counts: &Counts<'_>,
+    context: &mut UnwindContext<usize, S>,
+    address: u64,
+) -> Both {
+    let header = counting(header, counts.of_header);
+    let frame = EhFrame::from(counting(section, counts.of_section));
+    both_by_header(header, &frame, counts, context, address)
+}
+
 /// The same with fresh counts.
 fn both_counted<R: Reader<Offset = usize>, S: UnwindContextStorage<usize>>(
     section: R,
@@ -32,19 +62,13 @@ fn both_counted<R: Reader<Offset = usize>, S: UnwindContextStorage<usize>>(
     context: &mut UnwindContext<usize, S>,
     address: u64,
 ) -> Both {
-    let (of_header, of_section) = (Cell::new(0u32), Cell::new(0u32));
-    let frame = EhFrame::from(counting(section, &of_section));
-    let parsed = read_header(counting(header, &of_header))?;
+    let of_header = Cell::new(0u32);
+    let of_section = Cell::new(0u32);
     let counts = Counts {
         of_header: &of_header,
         of_section: &of_section,
     };
-    let of = Listing {
-        table: table_of(&parsed)?,
-        frame: &frame,
-        counts: &counts,
-    };
-    both(&of, context, address)
+    both_of(section, header, &counts, context, address)
 }
 
 /// How many rows a table has, and the step from one to the next, in 16 bytes; the most numbers that
@@ -115,7 +139,7 @@ fn header_of(alloc: Global, table: &Table) -> Result<Vec<u8>, Fail> {
         push(&mut bytes, 0x118)?;
         place = place.wrapping_add(table.step);
         if place >= table.rows {
-            place -= table.rows;
+            place = place.wrapping_sub(table.rows);
         }
     }
     Ok(bytes)
@@ -124,7 +148,7 @@ fn header_of(alloc: Global, table: &Table) -> Result<Vec<u8>, Fail> {
 /// Whether both calls read as many numbers for an address, and no more than the most.
 fn is_within(both: Both, most: u32) -> bool {
     match both {
-        Ok([by_lookup, by_row]) => by_lookup <= most && by_row == by_lookup,
+        Ok(reads) => reads[0] <= most && reads[1] == reads[0],
         Err(_) => false,
     }
 }
@@ -141,7 +165,12 @@ fn check<R: Reader<Offset = usize>, S: UnwindContextStorage<usize>>(
         expect(rt, table.rows, &found, &Ok([*reads; 2]));
     }
     for number in 0u64..48 {
-        let found = both_counted(section, header, context, 0x1e00 + number * 363);
+        let found = both_counted(
+            section,
+            header,
+            context,
+            number.wrapping_mul(363).wrapping_add(0x1e00),
+        );
         expect(rt, number, &is_within(found, table.most), &true);
     }
 }
