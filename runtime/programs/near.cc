@@ -104,15 +104,24 @@ static void go_on(void *at) {
     call(go_on, (void *)(next + 1), stacks[next[1]] + SIZE);
 }
 
+// The same without a cleanup on the way.
+static void go_plainly(void *at) {
+    const int *next = (const int *)at;
+    if (next[1] < 0)
+        throw *next;
+    call(go_plainly, (void *)(next + 1), stacks[next[1]] + SIZE);
+    __asm__ volatile("");
+}
+
 static void in_order(const char *name, void (*by)(void (*)(void *), void *, void *), const int *stacks_in_order) {
     call = by;
     int count = 0;
     do
         order[count] = stacks_in_order[count];
     while (stacks_in_order[count++] >= 0);
-    for (int i = 0; i < 2; i++)
+    for (auto first : {go_on, go_on, go_plainly, go_plainly})
         try {
-            by(go_on, order, stacks[order[0]] + SIZE);
+            by(first, order, stacks[order[0]] + SIZE);
         } catch (int n) {
             printf("%s: caught %d\n", name, n);
         }
