@@ -1,5 +1,6 @@
 // Stacks that lie side by side: functions that call on another one, fibers, rules for the stack pointer.
 #include <initializer_list>
+#include <pthread.h>
 #include <stdint.h>
 #include <ucontext.h>
 #include <unwind.h>
@@ -13,15 +14,6 @@ struct Says {
     int n;
     ~Says() { printf("~%d ", n); }
 };
-
-// The first throws of a thread take more than 16 kB has, by a library that was built without proofs.
-static void throw_first() {
-    for (int i = 0; i < 3; i++)
-        try {
-            throw_below(2, 1);
-        } catch (int) {
-        }
-}
 
 #if defined(__x86_64__)
 extern "C" void call_on(void (*callee)(void *), void *argument, void *top);
@@ -170,6 +162,30 @@ static void switches() {
 static void switches() {}
 #endif
 
+// Threads with as little of a stack as there may be: their first throws.
+static void *throw_in_little(void *caught) {
+    for (int i = 0; i < 3; i++)
+        try {
+            throw_below(i, i);
+        } catch (int n) {
+            *(int *)caught += n == i;
+        }
+    return nullptr;
+}
+
+static void in_little() {
+    for (size_t size : {16384, 20480, 32768}) {
+        int caught = 0;
+        pthread_t thread;
+        pthread_attr_t attributes;
+        pthread_attr_init(&attributes);
+        pthread_attr_setstacksize(&attributes, size);
+        if (pthread_create(&thread, &attributes, throw_in_little, &caught) == 0)
+            pthread_join(thread, nullptr);
+        printf("a thread with %d bytes: caught %d\n", (int)size, caught);
+    }
+}
+
 static ucontext_t main_context, fibers[COUNT];
 static int caught;
 
@@ -186,7 +202,7 @@ static void fiber(int n) {
 
 int main() {
     setvbuf(stdout, nullptr, _IOLBF, 0);
-    throw_first();
+    in_little();
     switches();
     for (int n = 0; n < COUNT; n++) {
         getcontext(&fibers[n]);
