@@ -10,7 +10,8 @@
 
 #include "cfi_c.h"
 
-enum { REGISTERS = 40, MANY = 3, GUARD = 0x5a };
+/* The rules of registers 0 to 4096: the worked rows have none above. */
+enum { REGISTERS = 4097, MANY = 3, GUARD = 0x5a };
 
 static int failures, calls_for_memory, memory_fails;
 

@@ -1,7 +1,7 @@
 // Times of throws and backtraces: usage: bench CHAIN DEPTHS THREADS LIBRARIES
 //
-// CHAIN says what the frames are of: functions (each frame another function), libraries (the frames go round all LIBRARIES) or
-// backtrace (_Unwind_Backtrace over frames of functions). LIBRARIES m0.so, m1.so .. of the working folder are loaded. DEPTHS are
+// CHAIN says what the frames are of: functions (each frame another function), cleanups (one function, with a destructor in each
+// frame), libraries (the frames go round all LIBRARIES) or backtrace (_Unwind_Backtrace over frames of functions). LIBRARIES m0.so, m1.so .. of the working folder are loaded. DEPTHS are
 // numbers of frames, with commas between them. Prints for each the least mean of some rounds, in nanoseconds: of the thread's own
 // time if there is one thread, else of the clock.
 //
@@ -68,6 +68,20 @@ static std::vector<Step *> steps;
 
 static int through_libraries(int frames) {
     return frames <= 0 ? bottom(frames) : steps[0](frames - 1, steps.data(), 1, (int)steps.size());
+}
+
+static volatile int cleaned;
+struct Cleans {
+    ~Cleans() { cleaned = cleaned + 1; }
+};
+
+static NOINLINE int over_cleanups(int frames) {
+    Cleans cleans;
+    if (frames <= 0)
+        return bottom(frames);
+    int result = over_cleanups(frames - 1);
+    __asm__ volatile("" : "+r"(result));
+    return result + 1;
 }
 
 static int (*chain)(int) = Chain<0>::go;
@@ -158,6 +172,8 @@ int main(int count, char **arguments) {
     }
     if (!strcmp(arguments[1], "libraries"))
         chain = through_libraries;
+    if (!strcmp(arguments[1], "cleanups"))
+        chain = over_cleanups;
     traces = !strcmp(arguments[1], "backtrace");
     for (char *depth = strtok(arguments[2], ","); depth; depth = strtok(nullptr, ",")) {
         int frames = atoi(depth), rounds = 5 + 20000 / (frames + 20);

@@ -1,5 +1,6 @@
 // Stacks that lie side by side: functions that call on another one, fibers, rules for the stack pointer.
 #include <initializer_list>
+#include <pthread.h>
 #include <stdint.h>
 #include <ucontext.h>
 #include <unwind.h>
@@ -13,15 +14,6 @@ struct Says {
     int n;
     ~Says() { printf("~%d ", n); }
 };
-
-// The first throws of a thread take more than 16 kB has, by a library that was built without proofs.
-static void throw_first() {
-    for (int i = 0; i < 3; i++)
-        try {
-            throw_below(2, 1);
-        } catch (int) {
-        }
-}
 
 #if defined(__x86_64__)
 extern "C" void call_on(void (*callee)(void *), void *argument, void *top);
@@ -104,15 +96,24 @@ static void go_on(void *at) {
     call(go_on, (void *)(next + 1), stacks[next[1]] + SIZE);
 }
 
+// The same without a cleanup on the way.
+static void go_plainly(void *at) {
+    const int *next = (const int *)at;
+    if (next[1] < 0)
+        throw *next;
+    call(go_plainly, (void *)(next + 1), stacks[next[1]] + SIZE);
+    __asm__ volatile("");
+}
+
 static void in_order(const char *name, void (*by)(void (*)(void *), void *, void *), const int *stacks_in_order) {
     call = by;
     int count = 0;
     do
         order[count] = stacks_in_order[count];
     while (stacks_in_order[count++] >= 0);
-    for (int i = 0; i < 2; i++)
+    for (auto first : {go_on, go_on, go_plainly, go_plainly})
         try {
-            by(go_on, order, stacks[order[0]] + SIZE);
+            by(first, order, stacks[order[0]] + SIZE);
         } catch (int n) {
             printf("%s: caught %d\n", name, n);
         }
@@ -161,6 +162,30 @@ static void switches() {
 static void switches() {}
 #endif
 
+// Threads with as little of a stack as there may be: their first throws.
+static void *throw_in_little(void *caught) {
+    for (int i = 0; i < 3; i++)
+        try {
+            throw_below(i, i);
+        } catch (int n) {
+            *(int *)caught += n == i;
+        }
+    return nullptr;
+}
+
+static void in_little() {
+    for (size_t size : {16384, 20480, 32768}) {
+        int caught = 0;
+        pthread_t thread;
+        pthread_attr_t attributes;
+        pthread_attr_init(&attributes);
+        pthread_attr_setstacksize(&attributes, size);
+        if (pthread_create(&thread, &attributes, throw_in_little, &caught) == 0)
+            pthread_join(thread, nullptr);
+        printf("a thread with %d bytes: caught %d\n", (int)size, caught);
+    }
+}
+
 static ucontext_t main_context, fibers[COUNT];
 static int caught;
 
@@ -177,7 +202,7 @@ static void fiber(int n) {
 
 int main() {
     setvbuf(stdout, nullptr, _IOLBF, 0);
-    throw_first();
+    in_little();
     switches();
     for (int n = 0; n < COUNT; n++) {
         getcontext(&fibers[n]);

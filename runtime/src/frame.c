@@ -54,7 +54,6 @@ void begin_walk(struct walk *walk, const struct entry *entry) {
     walk->is_loaded = false;
     walk->module = (CfiRange){0};
     walk->own = NULL;
-    walk->steps_back = 0;
     first_frame(walk, entry);
 }
 
@@ -65,6 +64,7 @@ void first_frame(struct walk *walk, const struct entry *entry) {
         walk->registers[saved[i]] = (CfiValue){entry->registers[i], true};
     walk->caller = (CfiCaller){.pc = entry->pc, .cfa = walk->registers[STACK_POINTER].value};
     walk->is_caller_plain = true;
+    walk->steps_back = 0;
     go_up(walk);
 }
 

@@ -301,15 +301,12 @@ static bool was_left(const struct workspace *workspace) {
     return !is_readable((uint64_t)&holder->number) || holder->number != workspace->holder_number;
 }
 
-/* Makes the thread's workspace anew, and so free; false where it can't be made. */
+/* Makes the thread's workspace anew, and so free; false where it can't be made. It stays where it is: a call that was interrupted
+ * between two steps may know it. */
 static bool renew(struct thread *thread, int i) {
     struct region *region = region_of(thread->workspaces[i]);
     clear(region);
-    if (make(region))
-        return true;
-    unmap(region);
-    thread->workspaces[i] = NULL;
-    return false;
+    return make(region);
 }
 
 /* One of the thread that is free; NULL where there is none. */
