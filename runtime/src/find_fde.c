@@ -12,7 +12,9 @@ const void *_Unwind_Find_FDE(void *pc, struct dwarf_eh_bases *bases) {
     CfiModule module;
     CfiFunction function;
     begin_call(&call);
-    if (!find_function(&call, (uint64_t)pc, &module, &function))
+    bool is_found = find_function(&call, (uint64_t)pc, &module, &function);
+    end_call(&call);
+    if (!is_found)
         return NULL;
     bases->text = (void *)module.bases.text;
     bases->data = (void *)module.bases.data_base;

@@ -35,6 +35,7 @@ _Noreturn static void install(const struct walk *walk, const struct entry *entry
         abort();
     for (int i = 0; i < LOADED; i++)
         landing.registers[i] = frame->value[loaded[i]] + (loaded[i] == STACK_POINTER ? frame->args_size : 0);
+    end_call(&walk->call);
     _Unwind_DebugHook((void *)frame->cfa, (void *)frame->pc);
     land(&landing);
 }
@@ -123,15 +124,16 @@ _Unwind_Reason_Code raise_exception(struct _Unwind_Exception *exception, struct 
     struct start start = {.frame = entry, .calls = 0, .is_decided = false};
     begin_walk(&walk, entry);
     _Unwind_Reason_Code code = search(exception, &walk, &start);
-    if (code != _URC_HANDLER_FOUND)
-        return code;
-    exception->private_1 = 0;
-    exception->private_2 = identity(&walk);
-    first_frame(&walk, entry);
-    code = clean_up(exception, &walk, &start.calls);
-    if (code != _URC_INSTALL_CONTEXT)
-        return code;
-    install(&walk, entry, start.calls);
+    if (code == _URC_HANDLER_FOUND) {
+        exception->private_1 = 0;
+        exception->private_2 = identity(&walk);
+        first_frame(&walk, entry);
+        code = clean_up(exception, &walk, &start.calls);
+        if (code == _URC_INSTALL_CONTEXT)
+            install(&walk, entry, start.calls);
+    }
+    end_call(&walk.call);
+    return code;
 }
 
 /* After a cleanup: there is no way back. */
@@ -161,15 +163,18 @@ _Unwind_Reason_Code forced_unwind(struct _Unwind_Exception *exception, _Unwind_S
     exception->private_1 = (uint64_t)stop;
     exception->private_2 = (uint64_t)argument;
     _Unwind_Reason_Code code = clean_up_forced(exception, &walk, &calls);
-    if (code != _URC_INSTALL_CONTEXT)
-        return code;
-    install(&walk, entry, calls);
+    if (code == _URC_INSTALL_CONTEXT)
+        install(&walk, entry, calls);
+    end_call(&walk.call);
+    return code;
 }
 
 _Unwind_Reason_Code backtrace(_Unwind_Trace_Fn trace, void *argument, const struct entry *entry) {
     struct walk walk;
     begin_walk(&walk, entry);
-    return trace_frames(&walk, trace, argument);
+    _Unwind_Reason_Code code = trace_frames(&walk, trace, argument);
+    end_call(&walk.call);
+    return code;
 }
 
 void _Unwind_DeleteException(struct _Unwind_Exception *exception) {

@@ -179,8 +179,9 @@ static void free_some(void) {
     }
 }
 
-/* Takes a free place of the key's set. One of a thread of the process that this one was forked of is free, too. */
-static struct thread *take_place(const struct table *table, uint64_t key) {
+/* Takes a free entry of the key's set. One of a thread of the process that this one was forked of is free, too. */
+static struct thread *take_entry(const struct table *table, uint64_t key) {
+    static _Atomic(uint64_t) users = 1;
     struct thread *set = set_of(table, key);
     for (int way = 0; way < WAYS; way++) {
         uint64_t before = atomic_load(&set[way].key);
@@ -189,6 +190,7 @@ static struct thread *take_place(const struct table *table, uint64_t key) {
         if (before)
             leave_workspaces(&set[way]);
         set[way].calls = 0;
+        set[way].user = atomic_fetch_add(&users, 1);
         set[way].made = NULL;
         atomic_store(&set[way].number, 0);
         return &set[way];
@@ -217,7 +219,7 @@ static struct thread *add_thread(void) {
     if (!has_key)
         free_some();
     for (struct table *table = &first_table; table && !thread;) {
-        thread = take_place(table, own);
+        thread = take_entry(table, own);
         struct table *next = next_of(table);
         table = next || thread ? next : make_table(table);
     }
@@ -240,6 +242,8 @@ void begin_call(struct call *call) {
         errno = was;
     }
     *call = (struct call){thread ? ++thread->calls : atomic_fetch_add(&others, 1), thread};
+    if (thread)
+        take_turn(call);
 }
 
 void visit_others(void (*visit)(struct thread *thread, void *argument), void *argument) {
@@ -280,7 +284,7 @@ static void begin_child(void) {
     }
     if (atomic_load(&has_numbers))
         forget_numbers();
-    mend_workspaces();
+    mend_workspaces(own);
     mend_sections();
 }
 

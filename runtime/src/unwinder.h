@@ -24,12 +24,19 @@ enum { NESTED = 2 /* a throw, and a handler of a signal that interrupts it */ };
 
 struct workspace;
 struct section;
+struct call;
+struct place;
 
 /* A thread that threw. It is found by its pointer: a library that is loaded late may not get memory of each thread. */
 struct thread {
     _Alignas(64) _Atomic(uint64_t) key; /* of the thread and of the process; 0: free */
     uint64_t calls;        /* how often it called an entry */
     struct workspace *workspaces[NESTED];
+    struct place *place;   /* of its first workspace, which is its own during a call; NULL: there was none */
+    uint64_t user;         /* its number there, which no other thread has, */
+    uint64_t idle;         /* and what it wrote there last */
+    const struct call *outermost; /* the call that took the place and is to give it back, and its number; or NULL */
+    uint64_t outermost_number;
     struct workspace *made;                   /* while its context or its cache is made: whose memory the library takes */
     _Atomic(struct section *) reading[NESTED]; /* what each workspace reads of what was registered */
     _Atomic(int) number;                       /* the kernel's, where nothing is called at the thread's end; else 0 */
@@ -41,8 +48,10 @@ struct call {
     struct thread *thread; /* NULL where there is no memory for one */
 };
 
-/* Begins a call. */
+/* Begins a call, and ends it: then other threads may have the workspace that it used. A call that isn't ended, since it is left,
+ * leaves it to its thread. */
 HIDDEN void begin_call(struct call *call);
+HIDDEN void end_call(const struct call *call);
 
 /* This thread, if it threw before; else NULL. */
 HIDDEN struct thread *find_thread(void);
@@ -322,14 +331,17 @@ HIDDEN void enlarge_cache(struct workspace *workspace);
 HIDDEN struct workspace *take_other_workspace(const struct call *call);
 HIDDEN void give_other_back(struct workspace *workspace);
 
-/* In a forked child: what other threads had. */
-HIDDEN void mend_workspaces(void);
+/* In a forked child: what other threads had. own is the thread that is there; or NULL. */
+HIDDEN void mend_workspaces(const struct thread *own);
 
 /* Waits until nobody reads the section by the reserve. */
 HIDDEN void wait_for_reserve(const struct section *section);
 
 /* What a thread that ended had, for others to come. */
 HIDDEN void leave_workspaces(struct thread *thread);
+
+/* Finds a workspace for a call. */
+HIDDEN void take_turn(const struct call *call);
 
 /* For the first of a thread, while it is free. */
 static inline void hold_workspace(struct workspace *workspace, const struct call *call) {

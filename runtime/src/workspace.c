@@ -1,6 +1,7 @@
-/* What a thread needs to step: a context of the library, a cache of rows, and the modules that it knows. The first thread that
- * throws has it in the library; for others it is mapped at their first throws. It is given back at the thread's end. If there is
- * no memory, all threads share one that is held in reserve.
+/* What a thread needs to step: a context of the library, a cache of rows, and the modules that it knows. A thread has it during a
+ * call: then it is idle, and another thread may take it, which has rows from the start. So there are few of them, though many
+ * threads throw now and then. A thread that throws often finds its own again, as long as there are not too many such threads.
+ * The first is in the library, others are mapped. If there is no memory, all threads share one that is held in reserve.
  *
  * A signal handler that interrupts a step takes another one, and all signals are blocked while that is used, as while the
  * reserve is: so no more are needed, and no handler leaves these. Where a handler doesn't return, but leaves by siglongjmp, the
@@ -24,8 +25,14 @@ enum {
     SELDOM = 128 * 1024,  /* but for the rows that it remembers, which few have; more is taken here too */
     MOST = 44 * 1024,     /* as much of a stack as is taken to make a context now */
     STACK = 64 * 1024,    /* as much as it has once the rows have its first place */
-    LEFT = 4              /* so many of ended threads are kept */
+    LEFT = 4,             /* so many of those without a place are kept */
+    SHARED = 64,          /* so many have a place */
+    KEPT = 8,             /* and so many of these stay as they are when their thread ends */
+    FEW = 16              /* a thread that called more often is to find its own again */
 };
+
+/* What stands at a place: the number of its user, and whether that is in a call. 0: nothing was made there. */
+enum { IS_IDLE = 1, IS_KEPT = 2 /* for its user, if there are other places */, USER = 4 };
 
 /* Pages are touched only when they are needed. What a first throw touches lies together: the place of later rows, on which the
  * context is made, as on a stack; the first rows; the context; and the first modules. */
@@ -38,14 +45,22 @@ struct region {
     struct known_modules modules;
 };
 
-/* That of the first thread that throws, and the one that all share where there is no memory. */
+/* A workspace that threads take in turn. It never moves. */
+struct place {
+    _Alignas(LINE) _Atomic(uint64_t) state;
+    struct workspace *workspace; /* NULL: no memory has been mapped for it */
+};
+
+static struct place places[SHARED];
+
+/* That of the first place, and the one that all share where there is no memory. */
 static struct region first, reserve;
 static struct workspace *made_in_reserve;
 static _Atomic(struct section *) read_in_reserve;
 
 /* What one thread has at a time: its pointer, or 0. */
 typedef _Atomic(uint64_t) Taken;
-static Taken first_thread, reserve_thread;
+static Taken reserve_thread;
 
 static bool take(Taken *thread) {
     uint64_t none = 0;
@@ -200,20 +215,14 @@ static void clear(struct region *region) {
         memset(region, 0, sizeof *region);
 }
 
-/* The first is given to another thread as it was at the start. */
 static void unmap(struct region *region) {
     int was = errno;
-    if (region != &first) {
-        munmap(region, sizeof *region);
-    } else {
-        clear(&first);
-        give(&first_thread);
-    }
+    munmap(region, sizeof *region);
     errno = was;
 }
 
 static struct workspace *make_workspace(void) {
-    struct region *region = take(&first_thread) ? &first : map_region();
+    struct region *region = map_region();
     if (!region)
         return NULL;
     if (make(region))
@@ -222,7 +231,7 @@ static struct workspace *make_workspace(void) {
     return NULL;
 }
 
-/* Those of threads that ended, for others to come. Their rows stay: each has the number of its file. */
+/* Those without a place, for other threads. Their rows stay: each has the number of its file. */
 static _Atomic(struct workspace *) left[LEFT];
 
 /* One that was left; NULL where there is none. */
@@ -237,13 +246,18 @@ static struct workspace *take_left(void) {
     return NULL;
 }
 
-/* Leaves one, without what is of its thread alone. Unmaps it where there are enough, or if it is not whole: a handler that did
- * not return interrupted its last use. */
-static void leave(struct workspace *workspace) {
+/* Forgets what is of its thread alone. */
+static void forget_thread(struct workspace *workspace) {
     workspace->windows = (struct windows){0};
     workspace->view = (struct view){0};
     memset(workspace->personalities, 0, sizeof workspace->personalities);
     forget_calls(workspace->modules);
+}
+
+/* Leaves one. Unmaps it where there are enough, or if it is not whole: a handler that did not return interrupted its last
+ * use. */
+static void leave(struct workspace *workspace) {
+    forget_thread(workspace);
     say_before(workspace);
     for (int i = 0; i < LEFT && !workspace->holder; i++) {
         struct workspace *none = NULL;
@@ -253,7 +267,176 @@ static void leave(struct workspace *workspace) {
     unmap(region_of(workspace));
 }
 
+/* ---- places: workspaces that threads take in turn */
+
+static bool is_idle(uint64_t state) {
+    return !state || state & IS_IDLE;
+}
+
+static uint64_t user_of(uint64_t state) {
+    return state / USER;
+}
+
+/* Takes the place, if that stands there. */
+static bool take_place(struct place *place, uint64_t state, const struct thread *thread) {
+    return atomic_compare_exchange_strong(&place->state, &state, thread->user * USER);
+}
+
+/* Makes the workspace of a place that the thread took, if there is none. */
+static bool make_place(struct place *place) {
+    struct region *region = place == places ? &first : NULL;
+    if (place->workspace)
+        return place->workspace->context.live || make(region_of(place->workspace));
+    if (!region && !(region = map_region()))
+        return false;
+    place->workspace = &region->workspace;
+    return make(region);
+}
+
+/* Takes an idle place: the thread's last one, else one that isn't kept for its user, else one where nothing was made, else
+ * any. */
+static struct place *find_place(const struct thread *thread, bool *is_own) {
+    enum { OPEN, EMPTY, ANY, PASSES };
+    struct place *last = thread->place;
+    uint64_t state = last ? atomic_load(&last->state) : 0;
+    *is_own = last && is_idle(state) && user_of(state) == thread->user && take_place(last, state, thread);
+    if (*is_own)
+        return last;
+    for (int pass = OPEN; pass < PASSES; pass++)
+        for (unsigned i = 0; i < SHARED; i++) {
+            struct place *place = &places[pass == ANY ? (thread->user + i) % SHARED : i];
+            state = atomic_load(&place->state);
+            bool fits = pass == OPEN ? state && is_idle(state) && !(state & IS_KEPT) : pass == EMPTY ? !state : is_idle(state);
+            if (fits && take_place(place, state, thread))
+                return place;
+        }
+    return NULL;
+}
+
+/* The call is the one that is to give the workspace back. */
+static void begin_outermost(struct thread *thread, const struct call *call) {
+    thread->outermost_number = call->number;
+    atomic_signal_fence(memory_order_seq_cst);
+    thread->outermost = call;
+}
+
+/* Takes a place for the call. Where there is none that is idle, or no memory for it, a workspace is made when one is needed, and
+ * left at the call's end. Signals are blocked. */
+static void find_turn(struct thread *thread, const struct call *call) {
+    bool is_own = false;
+    struct place *place = find_place(thread, &is_own);
+    if (place && !make_place(place)) {
+        atomic_store(&place->state, 0);
+        place = NULL;
+    }
+    thread->place = place;
+    thread->workspaces[0] = place ? place->workspace : NULL;
+    begin_outermost(thread, call);
+    atomic_store(&thread->reading[0], NULL);
+    if (!place)
+        return;
+    say_after(place);
+    if (!is_own)
+        forget_thread(place->workspace);
+    place->workspace->reading = &thread->reading[0];
+    place->workspace->is_closed = false;
+}
+
+/* Whether a call is gone, though it wasn't ended: its stack has other contents. */
+static bool is_gone(const struct call *call, uint64_t number) {
+    return !is_readable((uint64_t)&call->number) || call->number != number;
+}
+
+/* Whether a call of the thread has its place, or has no place. */
+static bool has_turn(const struct thread *thread) {
+    return thread->outermost || (thread->place && atomic_load(&thread->place->state) == thread->user * USER);
+}
+
+/* As take_turn, where the thread's last place isn't taken. A call that interrupted another one, or that one's personality, uses
+ * its workspace. If that one was left it takes its part. */
+static __attribute__((noinline)) void take_turn_anew(struct thread *thread, const struct call *call) {
+    Mask mask = block_signals();
+    if (!has_turn(thread))
+        find_turn(thread, call);
+    else if (thread->outermost && is_gone(thread->outermost, thread->outermost_number))
+        begin_outermost(thread, call);
+    set_signals(mask);
+}
+
+/* A handler may run between any two of these. */
+void take_turn(const struct call *call) {
+    struct thread *thread = call->thread;
+    struct place *place = thread->place;
+    if (!place || thread->outermost || !take_place(place, thread->idle, thread)) {
+        take_turn_anew(thread, call);
+    } else if (place == thread->place) {
+        begin_outermost(thread, call);
+    } else { /* a handler took another one */
+        atomic_store(&place->state, thread->user * USER + IS_IDLE);
+        take_turn_anew(thread, call);
+    }
+}
+
+/* Leaves the workspace that has no place. */
+static __attribute__((noinline)) void end_without_place(struct thread *thread) {
+    Mask mask = block_signals();
+    struct workspace *workspace = thread->workspaces[0];
+    thread->workspaces[0] = NULL;
+    thread->outermost = NULL;
+    if (workspace)
+        leave(workspace);
+    set_signals(mask);
+}
+
+void end_call(const struct call *call) {
+    struct thread *thread = call->thread;
+    if (!thread || thread->outermost != call)
+        return;
+    struct place *place = thread->place;
+    if (!place) {
+        end_without_place(thread);
+        return;
+    }
+    thread->outermost = NULL;
+    atomic_signal_fence(memory_order_seq_cst);
+    thread->idle = thread->user * USER + IS_IDLE + (thread->calls > FEW ? IS_KEPT : 0);
+    say_before(place);
+    atomic_store_explicit(&place->state, thread->idle, memory_order_release);
+}
+
+/* The place of a thread that ended. What isn't whole, since a handler that did not return interrupted its last use, is made
+ * anew. */
+static void leave_place(struct thread *thread) {
+    struct place *place = thread->place;
+    thread->place = NULL;
+    thread->outermost = NULL;
+    if (!place)
+        return;
+    thread->workspaces[0] = NULL;
+    uint64_t state = atomic_load(&place->state);
+    if (user_of(state) != thread->user || (is_idle(state) && !take_place(place, state, thread)))
+        return;
+    bool stays = place < places + KEPT && !place->workspace->holder;
+    if (!stays)
+        clear(region_of(place->workspace));
+    say_before(place);
+    atomic_store(&place->state, stays ? IS_IDLE : 0);
+}
+
+/* In a forked child: what other threads had in hand isn't whole. */
+static void mend_places(const struct thread *own) {
+    for (struct place *place = places; place < places + SHARED; place++) {
+        uint64_t state = atomic_load(&place->state);
+        if (!state || (own && user_of(state) == own->user))
+            continue;
+        if (!is_idle(state) && place->workspace)
+            clear(region_of(place->workspace));
+        atomic_store(&place->state, is_idle(state) ? IS_IDLE : 0);
+    }
+}
+
 void leave_workspaces(struct thread *thread) {
+    leave_place(thread);
     for (int i = 0; i < NESTED; i++) {
         struct workspace *workspace = thread->workspaces[i];
         thread->workspaces[i] = NULL;
@@ -269,7 +452,8 @@ void wait_for_reserve(const struct section *section) {
 }
 
 /* In a forked child no other thread has the reserve. What one has in hand is made anew. */
-void mend_workspaces(void) {
+void mend_workspaces(const struct thread *own) {
+    mend_places(own);
     uint64_t holder = atomic_load(&reserve_thread);
     if (!holder || holder == thread_pointer())
         return;
@@ -297,8 +481,7 @@ static struct workspace *take_reserve(void) {
 
 /* Whether the call that has the workspace is gone, though it didn't give it back: its stack has other contents. */
 static bool was_left(const struct workspace *workspace) {
-    const struct call *holder = workspace->holder;
-    return !is_readable((uint64_t)&holder->number) || holder->number != workspace->holder_number;
+    return is_gone(workspace->holder, workspace->holder_number);
 }
 
 /* Makes the thread's workspace anew, and so free; false where it can't be made. It stays where it is: a call that was interrupted
