@@ -14,6 +14,20 @@ static const uint8_t saved[SAVED] = SAVED_REGISTERS, others[OTHERS] = OTHER_REGI
 
 /* ---- registers */
 
+/* Zeros whole words. By memset they would be an instruction that is slow to start. */
+static inline __attribute__((always_inline)) void clear_words(void *start, size_t size) {
+    typedef uint64_t Pair __attribute__((vector_size(16), may_alias, aligned(8)));
+    typedef uint64_t Word __attribute__((may_alias));
+    size_t pairs = size / sizeof(Pair);
+#pragma GCC unroll 32
+    for (size_t i = 0; i < pairs; i++) {
+        ((Pair *)start)[i] = (Pair){0};
+        __asm__ volatile("");
+    }
+    if (size % sizeof(Pair))
+        ((Word *)start)[2 * pairs] = 0;
+}
+
 /* Whether all registers are known that calls preserve. */
 static inline bool has_saved(const CfiValue *registers) {
     bool has_all = true;
@@ -48,17 +62,18 @@ void show_all(struct walk *walk) {
 
 void begin_walk(struct walk *walk, const struct entry *entry) {
     struct _Unwind_Context *frame = &walk->frame;
-    memset(frame, 0, sizeof *frame);
+    clear_words(frame, sizeof *frame);
     memset(frame->by_value, true, REGISTERS);
     begin_call(&walk->call);
     walk->is_loaded = false;
     walk->module = (CfiRange){0};
+    memset(walk->parts, 0, sizeof walk->parts);
     walk->own = NULL;
     first_frame(walk, entry);
 }
 
 void first_frame(struct walk *walk, const struct entry *entry) {
-    memset(walk->registers, 0, sizeof walk->registers);
+    clear_words(walk->registers, sizeof walk->registers);
 #pragma GCC unroll 32
     for (int i = 0; i < SAVED; i++)
         walk->registers[saved[i]] = (CfiValue){entry->registers[i], true};
@@ -250,7 +265,7 @@ static const struct known_module *find_module_of(struct workspace *workspace, st
         known = find_known(workspace->modules, walk->call.number, address_of(&walk->frame));
     walk->is_loaded = known;
     walk->module = known ? (CfiRange){known->loaded.module.start, known->loaded.module.end} : (CfiRange){0};
-    walk->part = (CfiRange){0};
+    memset(walk->parts, 0, sizeof walk->parts);
     walk->file = known ? known->file : 0;
     return known;
 }

@@ -17,6 +17,8 @@ static unsigned place_of(uint64_t number) {
 
 void forget_modules(struct known_modules *known) {
     known->count = 0;
+    known->last = 0;
+    known->all[0].file = 0;
     memset(known->by_page, 0, sizeof known->by_page);
     memset(known->by_start, 0, sizeof known->by_start);
 }
@@ -92,11 +94,17 @@ static void put_by_page(struct known_modules *known, unsigned place, uint16_t in
 }
 
 const struct known_module *find_known(struct known_modules *known, uint64_t call, uint64_t address) {
+    struct known_module *last = &known->all[known->last];
+    if (last->file && (last->call == call || last->stays) && is_in(range_of(&last->loaded.module), address)) {
+        last->call = call;
+        return last;
+    }
     unsigned place = place_of(address) & -(unsigned)WAYS;
     uint16_t index = by_page(known, place, address);
     struct known_module *module = index ? &known->all[index - 1] : NULL;
     if (module && (module->call == call || module->stays || is_still(&module->loaded, address))) {
         module->call = call;
+        known->last = index - 1;
         return module;
     }
     module = look_for(known, call, address);

@@ -4,24 +4,38 @@
 
 #include "unwinder.h"
 
-/* Finds the part of the frame's module that has the address. */
-static bool find_part(struct walk *walk, uint64_t address) {
+/* Finds the part of the frame's module that has the address, by a workspace. The number of the frame's file is that of the
+ * thread's first workspace, if the module was found there. */
+static bool find_part_with(struct workspace *workspace, struct walk *walk, enum asked_part asked, uint64_t address) {
+    struct file_part *last = &workspace->parts[asked];
+    CfiRange *part = &walk->parts[asked];
+    if (workspace == walk->own && last->file == walk->file && is_in(last->part, address)) {
+        *part = last->part;
+        return true;
+    }
+    const struct known_module *known = find_known(workspace->modules, walk->call.number, walk->module.start);
+    if (!known || !is_in_parts(&known->loaded, address, part))
+        return false;
+    *last = (struct file_part){known->file, *part};
+    return true;
+}
+
+static bool find_part(struct walk *walk, enum asked_part asked, uint64_t address) {
     struct workspace *workspace = take_workspace(&walk->call);
-    const struct known_module *known =
-        workspace ? find_known(workspace->modules, walk->call.number, walk->module.start) : NULL;
-    bool is_found = known && is_in_parts(&known->loaded, address, &walk->part);
+    bool is_found = workspace && find_part_with(workspace, walk, asked, address);
     if (workspace)
         give_workspace(workspace);
     return is_found;
 }
 
 /* Whether a word, or a byte, is there: in a segment of the module, if the frame's code is loaded. */
-static bool has_bytes(struct walk *walk, uint64_t address, uint64_t length) {
+static inline bool has_bytes(struct walk *walk, enum asked_part asked, uint64_t address, uint64_t length) {
+    const CfiRange *part = &walk->parts[asked];
     if (!walk->is_loaded)
         return is_readable(address);
-    if (!is_in(walk->part, address) && !find_part(walk, address))
+    if (!is_in(*part, address) && !find_part(walk, asked, address))
         return false;
-    return walk->part.end - address >= length;
+    return part->end - address >= length;
 }
 
 /* Whether a personality may be there: code of a loaded module. It need not be the first address of a function that has unwind
@@ -61,12 +75,12 @@ static bool find_lsda(struct walk *walk) {
     const CfiFunction *facts = &walk->facts;
     uint64_t lsda = facts->has_lsda ? facts->lsda : 0;
     if (lsda && facts->lsda_is_indirect) {
-        if (!has_bytes(walk, lsda, sizeof lsda))
+        if (!has_bytes(walk, POINTER_PART, lsda, sizeof lsda))
             return false;
         lsda = *(const uint64_t *)lsda;
     }
     walk->frame.lsda = lsda;
-    return !lsda || has_bytes(walk, lsda, 1);
+    return !lsda || has_bytes(walk, LSDA_PART, lsda, 1);
 }
 
 _Unwind_Reason_Code call_personality_of(struct walk *walk, _Unwind_Action actions, struct _Unwind_Exception *exception) {
@@ -75,7 +89,7 @@ _Unwind_Reason_Code call_personality_of(struct walk *walk, _Unwind_Action action
     if (!address)
         return _URC_CONTINUE_UNWIND;
     if (facts->personality_is_indirect) {
-        if (!has_bytes(walk, address, sizeof address))
+        if (!has_bytes(walk, POINTER_PART, address, sizeof address))
             return _URC_FATAL_PHASE1_ERROR;
         address = *(const uint64_t *)address;
     }

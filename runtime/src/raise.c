@@ -33,6 +33,7 @@ _Noreturn static void install(const struct walk *walk, const struct entry *entry
     struct landing landing = {.pc = frame->pc, .shadow_stack = entry->shadow_stack + 8 * (calls + 1)};
     if (!may_land(walk))
         abort();
+#pragma GCC unroll 32
     for (int i = 0; i < LOADED; i++)
         landing.registers[i] = frame->value[loaded[i]] + (loaded[i] == STACK_POINTER ? frame->args_size : 0);
     end_call(&walk->call);
@@ -55,6 +56,7 @@ static void begin_at(struct start *start, const struct walk *walk, uint64_t call
     start->is_decided = true;
     if (!walk->is_plain || frame->is_interrupted)
         return;
+#pragma GCC unroll 32
     for (int i = 0; i < SAVED; i++)
         start->frame->registers[i] = frame->value[saved[i]];
     start->frame->pc = frame->pc;

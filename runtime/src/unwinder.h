@@ -102,6 +102,9 @@ struct _Unwind_Context {
 #define INTERRUPTED ((uint64_t)1 << 63)
 #define EXTENDED ((uint64_t)1 << 62)
 
+/* What is looked for in a module's parts. */
+enum asked_part { POINTER_PART, LSDA_PART, ASKED_PARTS };
+
 /* The way from an entry up the stack: a frame, and its caller once that is found. A plain frame has the registers that an entry
  * saves and no others, beside the return address, so that the values in its context are all of it. */
 struct walk {
@@ -110,7 +113,7 @@ struct walk {
     bool is_plain, is_caller_plain;
     bool is_loaded;    /* the last module that had a pc is a loaded one, that was found in this call */
     CfiRange module;   /* where it is; else empty */
-    CfiRange part;     /* a part of it that can be read, or empty */
+    CfiRange parts[ASKED_PARTS]; /* of it that can be read and had what was asked last, or empty */
     uint64_t file;     /* the number of its file */
     struct call call;
     struct workspace *own; /* the thread's first, once it was taken in this call, else NULL */
@@ -246,6 +249,7 @@ struct known_module {
 struct known_modules {
     uint64_t files; /* the last number that was taken: they are even */
     unsigned count;
+    uint16_t last;             /* the index of one that was found, */
     uint16_t by_page[PLACES];  /* by a page of their code: its index and 1, or 0 */
     uint16_t by_start[PLACES]; /* by their first address, as far on as there is room */
     struct known_module all[KNOWN_MODULES];
@@ -301,6 +305,12 @@ struct room {
 
 enum { ROOMS = 2, PERSONALITIES = 3 };
 
+/* A part that can be read of the module with this file's number; empty where there is none. */
+struct file_part {
+    uint64_t file;
+    CfiRange part;
+};
+
 struct workspace {
     CfiContext context;
     CfiCache cache; /* of rows; none where there was no memory for it */
@@ -312,6 +322,7 @@ struct workspace {
     Mask mask;       /* and before these were */
     _Atomic(struct section *) *reading;                   /* what it reads of what was registered */
     _Unwind_Personality_Fn personalities[PERSONALITIES]; /* the last that were found to be code, or NULL */
+    struct file_part parts[ASKED_PARTS];                 /* the last that were asked for */
     struct room rooms[ROOMS];           /* memory for the library: the first that has enough of it */
     struct room stack;                  /* for calls that may take more of a stack than the thread has */
     unsigned first_rows;                /* once so many rows were looked for the cache is made larger; never if 0 */
