@@ -403,6 +403,44 @@ enum found find_caller(struct walk *walk) {
     return look_for_caller(walk);
 }
 
+/* ---- facts of frames that phase 1 met: phase 2 needs no more of one that it lands in */
+
+/* The place of the frame's pc in the thread's first workspace; NULL where it is in use, or of another module. */
+static inline struct remembered *place_of(const struct walk *walk) {
+    const struct _Unwind_Context *frame = &walk->frame;
+    struct workspace *workspace = walk->own;
+    if (!workspace || workspace->holder || frame->is_interrupted || !is_in(walk->module, address_of(frame)))
+        return NULL;
+    return &workspace->remembered[(frame->pc * 0x9e3779b97f4a7c15 >> 32) % REMEMBERED];
+}
+
+bool recall_function(struct walk *walk) {
+    struct _Unwind_Context *frame = &walk->frame;
+    const struct remembered *place = place_of(walk);
+    if (!place)
+        return false;
+    hold_workspace(walk->own, &walk->call);
+    bool is_same = place->pc == frame->pc && place->file == walk->file;
+    if (is_same) {
+        walk->facts = place->facts;
+        frame->function = place->facts.start;
+        frame->lsda = place->facts.lsda_is_indirect ? 0 : place->facts.lsda;
+        frame->args_size = place->args_size;
+    }
+    let_workspace_go(walk->own);
+    return is_same;
+}
+
+void remember_function(struct walk *walk) {
+    struct remembered *place = place_of(walk);
+    if (!place)
+        return;
+    hold_workspace(walk->own, &walk->call);
+    if (place->pc != walk->frame.pc || place->file != walk->file)
+        *place = (struct remembered){walk->file, walk->frame.pc, walk->caller.args_size, walk->facts};
+    let_workspace_go(walk->own);
+}
+
 /* ---- backtraces: so little is done with a frame that a call for each would take a good part of it */
 
 /* The last call of trace is for the frame that has no caller. */

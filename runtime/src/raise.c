@@ -71,6 +71,8 @@ static _Unwind_Reason_Code search(struct _Unwind_Exception *exception, struct wa
             return found == AT_END ? _URC_END_OF_STACK : _URC_FATAL_PHASE1_ERROR;
         if (!start->is_decided && walk->facts.has_personality)
             begin_at(start, walk, calls);
+        if (walk->facts.has_personality)
+            remember_function(walk);
         _Unwind_Reason_Code code = call_personality(walk, _UA_SEARCH_PHASE, exception);
         if (code == _URC_HANDLER_FOUND)
             return code;
@@ -84,14 +86,15 @@ static _Unwind_Reason_Code search(struct _Unwind_Exception *exception, struct wa
  * one is to be entered, or on an error. */
 static _Unwind_Reason_Code clean_up(struct _Unwind_Exception *exception, struct walk *walk, uint64_t *calls) {
     for (;; ++*calls) {
-        if (find_caller(walk) != FOUND)
+        bool is_recalled = recall_function(walk);
+        if (!is_recalled && find_caller(walk) != FOUND)
             return _URC_FATAL_PHASE2_ERROR;
         _Unwind_Action handler = identity(walk) == exception->private_2 ? _UA_HANDLER_FRAME : 0;
         _Unwind_Reason_Code code = call_personality(walk, _UA_CLEANUP_PHASE | handler, exception);
         if (code == _URC_INSTALL_CONTEXT)
             return code;
         /* a handler's frame that has no handler now: the personality contradicts itself */
-        if (code != _URC_CONTINUE_UNWIND || handler)
+        if (code != _URC_CONTINUE_UNWIND || handler || (is_recalled && find_caller(walk) != FOUND))
             return _URC_FATAL_PHASE2_ERROR;
         go_up(walk);
     }

@@ -138,6 +138,12 @@ HIDDEN enum found find_caller(struct walk *walk);
 /* Calls trace for the frame and those above it, up to the one that has no caller, unless trace stops before. */
 HIDDEN _Unwind_Reason_Code trace_frames(struct walk *walk, _Unwind_Trace_Fn trace, void *argument);
 
+/* The same, of the facts alone, if they are those of a frame at this pc that was remembered; else false. */
+HIDDEN bool recall_function(struct walk *walk);
+
+/* Remembers the facts that find_caller found. */
+HIDDEN void remember_function(struct walk *walk);
+
 /* Has the context of a frame that isn't plain show all registers. */
 HIDDEN void show_all(struct walk *walk);
 
@@ -298,12 +304,19 @@ HIDDEN bool add_window(struct windows *known, uint64_t address);
 
 /* ---- what a thread needs for a step (workspace.c) */
 
+/* What the row and the FDE of a pc say that isn't of an interrupted frame. */
+struct remembered {
+    uint64_t file, pc; /* 0: nothing */
+    uint64_t args_size;
+    CfiFunction facts;
+};
+
 /* Memory, from the first byte that is free to its end. */
 struct room {
     char *free, *end;
 };
 
-enum { ROOMS = 2, PERSONALITIES = 3 };
+enum { ROOMS = 2, PERSONALITIES = 3, REMEMBERED = 64 };
 
 /* A part that can be read of the module with this file's number; empty where there is none. */
 struct file_part {
@@ -327,6 +340,7 @@ struct workspace {
     struct room stack;                  /* for calls that may take more of a stack than the thread has */
     unsigned first_rows;                /* once so many rows were looked for the cache is made larger; never if 0 */
     struct known_modules *modules;
+    struct remembered *remembered;      /* by their pcs */
 };
 
 /* Makes the view of a frame with this stack pointer, and its stack known. */

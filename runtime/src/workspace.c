@@ -43,6 +43,7 @@ struct region {
     _Alignas(LINE) char context[CONTEXT];
     struct workspace workspace;
     struct known_modules modules;
+    struct remembered remembered[REMEMBERED];
 };
 
 /* A workspace that threads take in turn. It never moves. */
@@ -188,6 +189,7 @@ static bool make(struct region *region) {
     struct workspace *workspace = &region->workspace, **made = made_here(), *was = *made;
     char *top = region->rows + ROWS;
     workspace->modules = &region->modules;
+    workspace->remembered = region->remembered;
     workspace->rooms[0] = room_of(region->context, CONTEXT);
     workspace->rooms[1] = room_of(region->seldom, SELDOM);
     workspace->stack = room_of(region->stack, (size_t)(top - FIRST - region->stack));
