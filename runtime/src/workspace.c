@@ -41,9 +41,9 @@ struct region {
     char stack[STACK];
     _Alignas(LINE) char rows[ROWS]; /* the first ones at its end */
     _Alignas(LINE) char context[CONTEXT];
+    struct remembered remembered[REMEMBERED];
     struct workspace workspace;
     struct known_modules modules;
-    struct remembered remembered[REMEMBERED];
 };
 
 /* A workspace that threads take in turn. It never moves. */
@@ -304,6 +304,8 @@ static struct place *find_place(const struct thread *thread, bool *is_own) {
     *is_own = last && is_idle(state) && user_of(state) == thread->user && take_place(last, state, thread);
     if (*is_own)
         return last;
+    if (take_place(&places[0], 0, thread)) /* a page that is read first is touched twice */
+        return &places[0];
     for (int pass = OPEN; pass < PASSES; pass++)
         for (unsigned i = 0; i < SHARED; i++) {
             struct place *place = &places[pass == ANY ? (thread->user + i) % SHARED : i];
