@@ -5,8 +5,9 @@
 // numbers of frames, with commas between them. Prints for each the least mean of some rounds, in nanoseconds: of the thread's own
 // time if there is one thread, else of the clock.
 //
-// Two more chains take a throw over the first of DEPTHS alone. first: the nanoseconds and the page faults of the process's first.
-// stack: how many bytes of the stack the first takes, and how many another.
+// Three more chains take throws over the first of DEPTHS alone. first: the nanoseconds and the page faults of the process's first.
+// stack: how many bytes of the stack the first takes, and how many another. memory: how many kilobytes THREADS take that are there
+// and have thrown once.
 #include <algorithm>
 #include <atomic>
 #include <dlfcn.h>
@@ -17,6 +18,7 @@
 #include <sys/resource.h>
 #include <thread>
 #include <time.h>
+#include <unistd.h>
 #include <unwind.h>
 #include <vector>
 
@@ -152,6 +154,43 @@ static int print_stack(int frames) {
     return 0;
 }
 
+static long resident_kilobytes() {
+    long all = 0, pages = 0;
+    FILE *file = fopen("/proc/self/statm", "r");
+    if (!file || fscanf(file, "%ld %ld", &all, &pages) != 2)
+        pages = 0;
+    if (file)
+        fclose(file);
+    return pages * (sysconf(_SC_PAGESIZE) / 1024);
+}
+
+static std::atomic<int> thrown, are_over;
+
+static void *throw_and_stay(void *frames) {
+    mean_of((int)(long)frames, 1);
+    thrown++;
+    while (!are_over)
+        usleep(10000);
+    return nullptr;
+}
+
+static int print_memory(int frames, int count) {
+    std::vector<pthread_t> threads(count);
+    pthread_attr_t small;
+    pthread_attr_init(&small);
+    pthread_attr_setstacksize(&small, 1 << 16);
+    for (pthread_t &thread : threads)
+        if (pthread_create(&thread, &small, throw_and_stay, (void *)(long)frames) != 0)
+            return 1;
+    while (thrown < count)
+        usleep(1000);
+    printf("resident: %ld\n", resident_kilobytes());
+    are_over = 1;
+    for (pthread_t thread : threads)
+        pthread_join(thread, nullptr);
+    return 0;
+}
+
 int main(int count, char **arguments) {
     if (count < 5)
         return 2;
@@ -159,6 +198,8 @@ int main(int count, char **arguments) {
         return print_first(atoi(arguments[2]));
     if (!strcmp(arguments[1], "stack"))
         return print_stack(atoi(arguments[2]));
+    if (!strcmp(arguments[1], "memory"))
+        return print_memory(atoi(arguments[2]), atoi(arguments[3]));
     int threads = atoi(arguments[3]);
     if (threads > 1)
         used_clock = CLOCK_MONOTONIC;
