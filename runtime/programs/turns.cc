@@ -1,7 +1,10 @@
 // Threads that throw in turn: what they take of memory, and calls of many at once, of each amid another, and of some that are left.
+// With an argument: threads that throw, and are interrupted by handlers that take backtraces, or leave those of their threads.
 #include <atomic>
 #include <pthread.h>
 #include <setjmp.h>
+#include <signal.h>
+#include <time.h>
 #include <unwind.h>
 #include <vector>
 
@@ -148,7 +151,59 @@ static void fork_amid() {
     join(threads);
 }
 
-int main() {
+static thread_local sigjmp_buf way_out;
+static thread_local volatile sig_atomic_t may_leave, interruptions;
+
+static _Unwind_Reason_Code count_frame(_Unwind_Context *, void *frames) {
+    ++*(int *)frames;
+    return _URC_NO_REASON;
+}
+
+static void interrupt(int) {
+    int frames = 0;
+    interruptions = interruptions + 1;
+    _Unwind_Backtrace(count_frame, &frames);
+    if (may_leave && interruptions % 4 == 0)
+        siglongjmp(way_out, 1);
+}
+
+static void *throw_and_trace(void *) {
+    for (int i = 0; !is_over; i++) {
+        volatile int number = i;
+        if (number % 2 == 0 && throw_some(3) != 3)
+            wrong++;
+        if (number % 2 == 1 && sigsetjmp(way_out, 1) == 0) {
+            may_leave = 1;
+            for (int k = 0; k < 3; k++) {
+                int frames = 0;
+                _Unwind_Backtrace(count_frame, &frames);
+            }
+        }
+        may_leave = 0;
+        i = number;
+    }
+    return nullptr;
+}
+
+static int interrupt_threads(int count) {
+    struct sigaction action = {};
+    action.sa_handler = interrupt;
+    sigaction(SIGUSR1, &action, nullptr);
+    std::vector<pthread_t> threads = start(count, throw_and_trace, nullptr);
+    int sent = 0;
+    for (time_t end = time(nullptr) + 3; time(nullptr) < end; sent++) {
+        pthread_kill(threads[sent * 7 % count], SIGUSR1);
+        if (sent % 8 == 0)
+            usleep(20);
+    }
+    join(threads);
+    printf("%d threads were interrupted: %d wrong\n", count, wrong.load());
+    return wrong != 0 || sent == 0;
+}
+
+int main(int count, char **arguments) {
+    if (count > 1)
+        return interrupt_threads(atoi(arguments[1]));
     printf("first %d\n", throw_some(1));
     print_memory(1);
     print_memory(40);
