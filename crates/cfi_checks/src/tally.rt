@@ -7,9 +7,9 @@ ghost use Rattle.cfi_checks.specs.Findings.{tally_in, tally_object, tally_text};
 
 use cfi_files::Finding;
 use cfi_text::json::push_number;
+use cfi_text::line_buffer::{LineBuffer, push};
 use cfi_text::lines::{write_part, write_text};
 use cfi_text::style::Format;
-use cfi_text::text::{Text, push};
 use std::io::Write;
 use std::{fmt, io};
 
@@ -70,14 +70,14 @@ fn write_tally_object<W: Write>(tally: Tally, output: &mut W) -> io::Result<()>
     ensures { Writes (W.contents output.old) (W.contents output.new) result
         (tally_object tally.files tally.tables tally.faithful ++ 10 ∷ []) }
 {
-    let mut text = Text::new();
+    let mut text = LineBuffer::new();
     push_tally(&mut text, tally)?;
     push(&mut text, b"\n")?;
     write_text(output, text.as_slice())
 }
 
 /// Appends what was counted, as an object.
-fn push_tally(text: &mut Text, tally: Tally) -> fmt::Result
+fn push_tally(text: &mut LineBuffer, tally: Tally) -> fmt::Result
     ensures { OnOk result (text.new.items
         ≡ text.old.items ++ tally_object tally.files tally.tables tally.faithful) }
 {

@@ -3,7 +3,7 @@ use Rattle.std.proofs.Common.{ℕ, List, [], Option, Some, None, Result, Ok, Err
 use Rattle.std.specs.Prelude.{MatchResult}
 use Rattle.cfi_text.specs.Readings.{AreLeft}
 use Rattle.cfi_text.specs.declared.reading.InputError.{InputError}
-use Rattle.cfi_inputs.specs.Refusals.{input_refusal}
+use Rattle.cfi_text.specs.InputRefusals.{input_refusal}
 use Rattle.cfi_text.specs.Lines.{Line}
 use Rattle.cfi_text.specs.WriterOutput.{Prints, PrintsSome}
 use Rattle.cfi_text.specs.declared.style.Format.{Format}

@@ -9,8 +9,8 @@ ghost use Rattle.cfi_commands.specs.FunctionObjects.{not_folded_object, samples_
 
 use cfi_flame::functions::Function;
 use cfi_text::json::{push_number, write_escaped};
+use cfi_text::line_buffer::{LineBuffer, push};
 use cfi_text::lines::write_text;
-use cfi_text::text::{Text, push};
 use std::io::Write;
 use std::{fmt, io};
 
@@ -44,7 +44,7 @@ fn write_ended<W: Write>(output: &mut W, before: &[u8], number: u64) -> io::Resu
     ensures { Writes (W.contents output.old) (W.contents output.new) result
         (before.now ++ (json_number number ++ (codes "}" ++ 10 ∷ []))) }
 {
-    let mut text = Text::new();
+    let mut text = LineBuffer::new();
     push_ended(&mut text, before, number)?;
     write_text(output, text.as_slice())
 }
@@ -75,13 +75,13 @@ fn write_counts<W: Write>(output: &mut W, row: &Function<'_>) -> io::Result<()>
     ensures { Writes (W.contents output.old) (W.contents output.new) result
         (counts_members (row_view row.now)) }
 {
-    let mut text = Text::new();
+    let mut text = LineBuffer::new();
     push_counts(&mut text, row)?;
     write_text(output, text.as_slice())
 }
 
 /// Appends the samples of a function. Fails where there is no room.
-fn push_counts(text: &mut Text, row: &Function<'_>) -> fmt::Result
+fn push_counts(text: &mut LineBuffer, row: &Function<'_>) -> fmt::Result
     ensures { OnOk result (text.new.items ≡ text.old.items ++ counts_members (row_view row.now)) }
 {
     push_member(text, b"\",\"self\":", row.own)?;
@@ -90,7 +90,7 @@ fn push_counts(text: &mut Text, row: &Function<'_>) -> fmt::Result
 
 /// Appends the last member of an object, with this beginning and a number. Fails where there is no
 /// room.
-fn push_ended(text: &mut Text, before: &[u8], number: u64) -> fmt::Result
+fn push_ended(text: &mut LineBuffer, before: &[u8], number: u64) -> fmt::Result
     ensures { OnOk result (text.new.items
         ≡ text.old.items ++ (before.now ++ (json_number number ++ (codes "}" ++ 10 ∷ [])))) }
 {
@@ -99,7 +99,7 @@ fn push_ended(text: &mut Text, before: &[u8], number: u64) -> fmt::Result
 }
 
 /// Appends a member with this beginning and a number. Fails where there is no room.
-fn push_member(text: &mut Text, before: &[u8], number: u64) -> fmt::Result
+fn push_member(text: &mut LineBuffer, before: &[u8], number: u64) -> fmt::Result
     ensures { OnOk result (text.new.items ≡ text.old.items ++ (before.now ++ json_number number)) }
 {
     push(text, before)?;

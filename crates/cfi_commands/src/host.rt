@@ -6,7 +6,7 @@ use crate::host_file::HostFile;
 use crate::spelled::is_check;
 use crate::system::{Kind, System};
 use crate::words::Mistake;
-use cfi_names::shown_name;
+use cfi_text::name_parts::shown_name;
 use clap::Error;
 use std::alloc::{AllocError, AllocGlobal, Global};
 use std::fmt::Display;

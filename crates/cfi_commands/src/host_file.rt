@@ -2,9 +2,9 @@
 ghost use Rattle.std.specs.Prelude.{◌≡◌, None, IfErr, IfOk, length};
 ghost use Rattle.cfi_text.specs.Readings.{IsReadRefused};
 
-use cfi_inputs::read_elf_or_profile;
 use cfi_object::FileInput;
 use cfi_object::input::copy_part;
+use cfi_text::beginnings::read_elf_or_profile;
 use cfi_text::reading::InputError;
 use std::alloc::Global;
 use std::io;

@@ -45,7 +45,7 @@ use Rattle.cfi_cores.specs.Vdso.{vdso_name}
 use Rattle.cfi_elf.specs.Images.{Image, IsImageOf}
 use Rattle.cfi_text.specs.declared.reading.InputError.{InputError}
 use Rattle.cfi_object.specs.FileParts.{AreOfInput}
-use Rattle.cfi_inputs.specs.Refusals.{input_refusal}
+use Rattle.cfi_text.specs.InputRefusals.{input_refusal}
 use Rattle.cfi_text.specs.Lines.{Line}
 use Rattle.cfi_text.specs.WriterOutput.{Prints, PrintsSome}
 use Rattle.cfi_mapped.specs.declared.opened_file.OpenedFile.{OpenedFile}

@@ -8,7 +8,7 @@ use Rattle.std.specs.Prelude.{Result, Ok, Err, codes, not, take}
 use Rattle.cfi_text.specs.declared.style.Format.{Format}
 use Rattle.cfi_text.specs.Readings.{AreLeft}
 use Rattle.cfi_text.specs.declared.reading.InputError.{InputError}
-use Rattle.cfi_inputs.specs.Refusals.{input_refusal}
+use Rattle.cfi_text.specs.InputRefusals.{input_refusal}
 use Rattle.cfi_text.specs.Lines.{Line}
 use Rattle.cfi_text.specs.Refusals.{reason_line as why_line, refusal_saying}
 use Rattle.cfi_text.specs.WriterOutput.{PrintsSome}

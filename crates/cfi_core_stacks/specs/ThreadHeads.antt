@@ -4,7 +4,7 @@
 use Rattle.std.specs.Prelude.{ℕ, ◌==◌, List, [], ◌∷◌, ◌++◌, Option, Some, None, codes}
 use Rattle.std.specs.Prelude.{if◌then◌else◌}
 use Rattle.std.specs.Fmt.{decimal}
-use Rattle.cfi_names.specs.Names.{shown}
+use Rattle.cfi_text.specs.Names.{shown}
 use Rattle.cfi_text.specs.Lines.{address_text}
 use Rattle.cfi_cores.specs.declared.fault.Fault.{Fault}
 use Rattle.cfi_core_stacks.specs.Signals.{signal_name}

@@ -10,9 +10,9 @@ use crate::signals::signal_name;
 use cfi_cores::{CoreThread, Fault};
 use cfi_frames::names::write_known_name;
 use cfi_mapped::Name;
+use cfi_text::line_buffer::{LineBuffer, push};
 use cfi_text::lines::write_text;
 use cfi_text::numbers::{push_address, push_decimal};
-use cfi_text::text::{Text, push};
 use std::io::Write;
 use std::{fmt, io};
 
@@ -42,13 +42,13 @@ fn write_start<W: Write>(
     ensures { Writes (W.contents output.old) (W.contents output.new) result
         (thread_start tid signal fault) }
 {
-    let mut text = Text::new();
+    let mut text = LineBuffer::new();
     push_start(&mut text, tid, signal, fault)?;
     write_text(output, text.as_slice())
 }
 
 /// Appends what `write_start` writes. Fails where there is no room.
-fn push_start(text: &mut Text, tid: u32, signal: u16, fault: Option<Fault>) -> fmt::Result
+fn push_start(text: &mut LineBuffer, tid: u32, signal: u16, fault: Option<Fault>) -> fmt::Result
     ensures { OnOk result (text.new.items ≡ text.old.items ++ thread_start tid signal fault) }
 {
     push(text, b"thread ")?;
@@ -58,7 +58,7 @@ fn push_start(text: &mut Text, tid: u32, signal: u16, fault: Option<Fault>) -> f
 
 /// Appends the signal that a thread got, if it got one: its number, its name if it has one, and the
 /// fault. Fails where there is no room.
-fn push_signal(text: &mut Text, signal: u16, fault: Option<Fault>) -> fmt::Result
+fn push_signal(text: &mut LineBuffer, signal: u16, fault: Option<Fault>) -> fmt::Result
     ensures { OnOk result (text.new.items ≡ text.old.items ++ thread_signal signal fault) }
 {
     if signal == 0 {
@@ -72,7 +72,7 @@ fn push_signal(text: &mut Text, signal: u16, fault: Option<Fault>) -> fmt::Resul
 
 /// Appends the fault for which a thread got a signal, if it is known: its code and its address.
 /// Fails where there is no room.
-fn push_fault(text: &mut Text, fault: Option<Fault>) -> fmt::Result
+fn push_fault(text: &mut LineBuffer, fault: Option<Fault>) -> fmt::Result
     ensures { OnOk result (text.new.items ≡ text.old.items ++ fault_text fault) }
 {
     match fault {
@@ -87,7 +87,7 @@ fn push_fault(text: &mut Text, fault: Option<Fault>) -> fmt::Result
 }
 
 /// Appends the name of a signal after a space, if it has one. Fails where there is no room.
-fn push_signal_name(text: &mut Text, name: Option<&str>) -> fmt::Result
+fn push_signal_name(text: &mut LineBuffer, name: Option<&str>) -> fmt::Result
     ensures { OnOk result (text.new.items
         ≡ text.old.items ++ signal_name_text (option_map (λ name. name.now) name.entry)) }
 {

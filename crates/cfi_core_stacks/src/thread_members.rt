@@ -12,10 +12,10 @@ use crate::signals::signal_name;
 use cfi_cores::{CoreThread, Fault};
 use cfi_mapped::Name;
 use cfi_text::json::push_number;
+use cfi_text::line_buffer::{LineBuffer, push};
 use cfi_text::lines::write_text;
 use cfi_text::names::write_name_member;
 use cfi_text::numbers::push_address;
-use cfi_text::text::{Text, push};
 use std::io::Write;
 use std::{fmt, io};
 
@@ -44,13 +44,18 @@ fn write_tid_and_signal<W: Write>(
     ensures { Writes (W.contents output.old) (W.contents output.new) result
         (tid_and_signal tid signal fault) }
 {
-    let mut text = Text::new();
+    let mut text = LineBuffer::new();
     push_tid_and_signal(&mut text, tid, signal, fault)?;
     write_text(output, text.as_slice())
 }
 
 /// Appends what `write_tid_and_signal` writes. Fails where there is no room.
-fn push_tid_and_signal(text: &mut Text, tid: u32, signal: u16, fault: Option<Fault>) -> fmt::Result
+fn push_tid_and_signal(
+    text: &mut LineBuffer,
+    tid: u32,
+    signal: u16,
+    fault: Option<Fault>,
+) -> fmt::Result
     ensures { OnOk result (text.new.items ≡ text.old.items ++ tid_and_signal tid signal fault) }
 {
     push(text, b"{\"tid\":")?;
@@ -60,7 +65,7 @@ fn push_tid_and_signal(text: &mut Text, tid: u32, signal: u16, fault: Option<Fau
 
 /// Appends the signal that a thread got, if it got one: its number, its name if it has one, and the
 /// fault. Fails where there is no room.
-fn push_signal_members(text: &mut Text, signal: u16, fault: Option<Fault>) -> fmt::Result
+fn push_signal_members(text: &mut LineBuffer, signal: u16, fault: Option<Fault>) -> fmt::Result
     ensures { OnOk result (text.new.items ≡ text.old.items ++ signal_members signal fault) }
 {
     if signal == 0 {
@@ -74,7 +79,7 @@ fn push_signal_members(text: &mut Text, signal: u16, fault: Option<Fault>) -> fm
 
 /// Appends the fault for which a thread got a signal, if it is known: its code and its address.
 /// Fails where there is no room.
-fn push_fault(text: &mut Text, fault: Option<Fault>) -> fmt::Result
+fn push_fault(text: &mut LineBuffer, fault: Option<Fault>) -> fmt::Result
     ensures { OnOk result (text.new.items ≡ text.old.items ++ fault_members fault) }
 {
     match fault {
@@ -90,7 +95,7 @@ fn push_fault(text: &mut Text, fault: Option<Fault>) -> fmt::Result
 }
 
 /// Appends the name of a signal, if it has one. Fails where there is no room.
-fn push_signal_name(text: &mut Text, name: Option<&str>) -> fmt::Result
+fn push_signal_name(text: &mut LineBuffer, name: Option<&str>) -> fmt::Result
     ensures { OnOk result (text.new.items
         ≡ text.old.items ++ signal_name_member (option_map (λ name. name.now) name.entry)) }
 {

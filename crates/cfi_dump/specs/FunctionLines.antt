@@ -1,6 +1,6 @@
 -- What is printed of the name of a function.
 use Rattle.std.specs.Prelude.{ℕ, List, [], ◌∷◌, Option, Some, None}
-use Rattle.cfi_names.specs.Names.{shown}
+use Rattle.cfi_text.specs.Names.{shown}
 
 -- after a space
 abbrev pub function_text : Option (List ℕ) → List ℕ

@@ -26,11 +26,11 @@ use crate::walk::Walk;
 use cfi_elf::FunctionNames;
 use cfi_entry::in_section::InSection;
 use cfi_row_text::style::Style;
+use cfi_text::line_buffer::{LineBuffer, push};
 use cfi_text::lines::write_text;
 use cfi_text::numbers::push_address;
 use cfi_text::refusals::write_refused;
 use cfi_text::style::Format;
-use cfi_text::text::{Text, push};
 use gimli_cfi::{
     _UnwindSectionPrivate, CieCache, CieOrFde, FrameDescriptionEntry, PartialFrameDescriptionEntry,
     Reader, Result, UnwindSection,
@@ -176,7 +176,7 @@ fn write_addressed_rows<R: Reader<Offset = usize>, S: UnwindSection<R>, W: Write
 /// function that begins at the first.
 fn write_addresses<R: Reader<Offset = usize>, W: Write>(
     output: &mut W,
-    text: &mut Text,
+    text: &mut LineBuffer,
     format: Format,
     functions: &FunctionNames<'_>,
     fde: &FrameDescriptionEntry<R>,
@@ -192,7 +192,7 @@ fn write_addresses<R: Reader<Offset = usize>, W: Write>(
 /// Writes the addresses, from the first up to the end, and the name: at once if the name is short.
 fn write_line<W: Write>(
     output: &mut W,
-    text: &mut Text,
+    text: &mut LineBuffer,
     format: Format,
     start: u64,
     end: u64,
@@ -213,7 +213,7 @@ fn write_line<W: Write>(
 }
 
 /// Appends the addresses.
-fn push_addresses(text: &mut Text, format: Format, start: u64, end: u64) -> fmt::Result
+fn push_addresses(text: &mut LineBuffer, format: Format, start: u64, end: u64) -> fmt::Result
     ensures { OnOk result (text.new.items ≡ text.old.items ++ fde_addresses_in format start end) }
 {
     match format {
@@ -223,7 +223,7 @@ fn push_addresses(text: &mut Text, format: Format, start: u64, end: u64) -> fmt:
 }
 
 /// Appends the addresses to a line of text.
-fn push_range(text: &mut Text, start: u64, end: u64) -> fmt::Result
+fn push_range(text: &mut LineBuffer, start: u64, end: u64) -> fmt::Result
     ensures { OnOk result (text.new.items ≡ text.old.items ++ fde_addresses_text start end) }
 {
     push(text, b"fde ")?;
@@ -233,7 +233,7 @@ fn push_range(text: &mut Text, start: u64, end: u64) -> fmt::Result
 }
 
 /// Appends the addresses as members of an object.
-fn push_json_range(text: &mut Text, start: u64, end: u64) -> fmt::Result
+fn push_json_range(text: &mut LineBuffer, start: u64, end: u64) -> fmt::Result
     ensures { OnOk result (text.new.items ≡ text.old.items ++ json_addresses start end) }
 {
     push(text, b"{\"fde\":{\"start\":\"")?;

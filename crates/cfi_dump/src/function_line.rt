@@ -1,17 +1,17 @@
 //! The end of the line of an FDE's addresses: the name of the function that begins there.
 ghost use Rattle.std.specs.Prelude.{◌≡◌, ◌++◌, [], ◌∷◌, Some, option_map, true, false};
 ghost use Rattle.std.specs.Prelude.{IfOk, OnOk};
-ghost use Rattle.cfi_names.specs.Names.{shown};
+ghost use Rattle.cfi_text.specs.Names.{shown};
 ghost use Rattle.cfi_text.specs.WriterOutput.{Writes};
 ghost use Rattle.cfi_dump.specs.FunctionLines.{function_text};
 ghost use Rattle.cfi_dump.specs.JsonLines.{json_function};
 ghost use Rattle.cfi_dump.specs.DumpRowTexts.{function_end};
 
-use cfi_names::is_plain;
+use cfi_text::line_buffer::{LineBuffer, push};
 use cfi_text::lines::write_text;
+use cfi_text::name_parts::is_plain;
 use cfi_text::names::{write_json_name, write_name};
 use cfi_text::style::Format;
-use cfi_text::text::{Text, push};
 use std::io::Write;
 use std::{fmt, io};
 
@@ -22,7 +22,7 @@ const LONGEST: usize = 512;
 /// not long and each of its bytes is printable ASCII. Returns whether it does; not in JSON. Fails
 /// where there is no room for it.
 pub(crate) fn push_end(
-    text: &mut Text,
+    text: &mut LineBuffer,
     format: Format,
     name: Option<&[u8]>,
 ) -> Result<bool, fmt::Error>
@@ -38,7 +38,7 @@ pub(crate) fn push_end(
 }
 
 /// Appends the end of a line. Returns that it does. Fails where there is no room for it.
-fn push_line_feed(text: &mut Text) -> Result<bool, fmt::Error>
+fn push_line_feed(text: &mut LineBuffer) -> Result<bool, fmt::Error>
     ensures pushed { OnOk result (text.new.items ≡ text.old.items ++ 10 ∷ []) }
     ensures always { IfOk result (λ pushed. pushed ≡ true) }
 {
@@ -47,7 +47,7 @@ fn push_line_feed(text: &mut Text) -> Result<bool, fmt::Error>
 }
 
 /// Appends the end of a line of text, after a space and the name, as `push_end` does.
-fn push_named_end(text: &mut Text, name: &[u8]) -> Result<bool, fmt::Error>
+fn push_named_end(text: &mut LineBuffer, name: &[u8]) -> Result<bool, fmt::Error>
     ensures pushed { IfOk result (λ pushed. pushed ≡ true → text.new.items ≡ text.old.items
         ++ ((32 ∷ shown name.now) ++ 10 ∷ [])) }
     ensures left { IfOk result (λ pushed. pushed ≡ false → text.new.items ≡ text.old.items) }

@@ -34,11 +34,11 @@ use cfi_entry::in_section::InSection;
 use cfi_row_text::plain_rows::{FULL_OF_LINES, KeptRows, LineRoom};
 use cfi_row_text::row_words::{write_answer, write_apart};
 use cfi_row_text::style::Style;
+use cfi_text::line_buffer::{LineBuffer, write_out};
 use cfi_text::lines::write_text;
 use cfi_text::refusals::write_refused;
 use cfi_text::register_names::RegisterNames;
 use cfi_text::style::Format;
-use cfi_text::text::{Text, write_out};
 use gimli_cfi::{
     _UnwindSectionPrivate, BaseAddresses, CieCache, CieOrFde, CommonInformationEntry, Error,
     FrameDescriptionEntry, PartialFrameDescriptionEntry, Reader, Result, UnwindContext,
@@ -330,7 +330,7 @@ fn write_table<R: Reader<Offset = usize>, S: UnwindSection<R>, W: Write>(
 /// written, and rules that are those of an earlier row mostly take their text from it.
 fn write_text_table<R: Reader<Offset = usize>, S: UnwindSection<R>, W: Write>(
     output: &mut W,
-    text: &mut Text,
+    text: &mut LineBuffer,
     kept: &mut KeptRows,
     names: RegisterNames,
     section: &S,

@@ -7,10 +7,10 @@ ghost use Rattle.cfi_dump.specs.CheckLines.{verdict_object, verdict_status, verd
 
 use cfi_text::error_words::ErrorWords;
 use cfi_text::json::push_number;
+use cfi_text::line_buffer::{LineBuffer, push};
 use cfi_text::lines::{write_between, write_part, write_text};
 use cfi_text::numbers::Address;
 use cfi_text::style::Format;
-use cfi_text::text::{Text, push};
 use gimli_cfi::{Error, Unfaithful, Verdict};
 use std::io::Write;
 use std::{fmt, io};
@@ -87,13 +87,13 @@ fn write_faithful_object<W: Write>(output: &mut W, rows: u64) -> io::Result<()>
     ensures { Writes (W.contents output.old) (W.contents output.new) result
         (faithful_object rows) }
 {
-    let mut text = Text::new();
+    let mut text = LineBuffer::new();
     push_faithful(&mut text, rows)?;
     write_text(output, text.as_slice())
 }
 
 /// Appends what `write_faithful_object` writes.
-fn push_faithful(text: &mut Text, rows: u64) -> fmt::Result
+fn push_faithful(text: &mut LineBuffer, rows: u64) -> fmt::Result
     ensures { OnOk result (text.new.items ≡ text.old.items ++ faithful_object rows) }
 {
     push(text, b"\"result\":\"faithful\",\"rows\":")?;

@@ -5,7 +5,7 @@ use Rattle.std.specs.Prelude.{ℕ, Bool, true, false, List, [], ◌++◌, Option
 use Rattle.std.specs.Prelude.{Result, Ok, Err, length, nat_lt}
 use Rattle.cfi_elf.specs.declared.error.ElfError.{ElfError}
 use Rattle.cfi_object.specs.Numbers.{number}
-use Rattle.cfi_names.specs.Names.{shown}
+use Rattle.cfi_text.specs.Names.{shown}
 use Rattle.cfi_text.specs.Lines.{address_text}
 use Rattle.cfi_text.specs.JsonTexts.{json_name}
 use Rattle.cfi_text.specs.declared.style.Format.{Format}

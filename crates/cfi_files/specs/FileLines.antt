@@ -8,7 +8,7 @@ use Rattle.cfi_read_core.specs.declared.error.Error.TheVariants.{OutOfMemory}
 use Rattle.cfi_text.specs.ErrorWords.{parting}
 use Rattle.cfi_text.specs.Lines.{Line}
 use Rattle.cfi_text.specs.Refusals.{reason_line, refusal_in, refusal_saying}
-use Rattle.cfi_names.specs.Names.{shown}
+use Rattle.cfi_text.specs.Names.{shown}
 use Rattle.cfi_dump.specs.JsonLines.{json_section}
 use Rattle.cfi_text.specs.JsonTexts.{json_name}
 use Rattle.cfi_text.specs.declared.style.Format.{Format}

@@ -3,8 +3,8 @@
 --     plain text      a text whose semicolons are separators
 use Rattle.std.specs.Prelude.{ℕ, ◌==◌, ◌||◌, List, [], ◌∷◌, if◌then◌else◌}
 use Rattle.std.specs.List.{flat_map}
-use Rattle.cfi_names.specs.Names.{NamePart, byte_escape, parts, shown_part}
-use Rattle.cfi_names.specs.Utf8.{scalar}
+use Rattle.cfi_text.specs.Names.{NamePart, byte_escape, parts, shown_part}
+use Rattle.cfi_text.specs.Utf8.{scalar}
 
 -- as names are shown, but an XML document has no U+FFFE and no U+FFFF (section 2.2) either
 abbrev pub drawn_part : NamePart → List ℕ

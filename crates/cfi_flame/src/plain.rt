@@ -1,9 +1,9 @@
 //! A text as it is drawn, with separators between the names of functions.
 ghost use Rattle.std.specs.Prelude.{◌≡◌, ◌++◌, IfOk, OnOk};
-ghost use Rattle.cfi_names.specs.Names.{name_part_view};
+ghost use Rattle.cfi_text.specs.Names.{name_part_view};
 ghost use Rattle.cfi_flame.specs.PlainTexts.{drawn_name, drawn_part, plain, plain_part};
 
-use cfi_names::{Part, first_part, push_escapes, push_part, scalar};
+use cfi_text::name_parts::{Part, first_part, push_escapes, push_part, scalar};
 use std::alloc::{AllocError, Global};
 
 /// What stands between the names of functions once a text is plain: the unit separator of ASCII,

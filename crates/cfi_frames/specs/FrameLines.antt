@@ -5,7 +5,7 @@ use Rattle.std.specs.Prelude.{ℕ, ◌-◌, Bool, List, [], ◌∷◌, ◌++◌,
 use Rattle.std.specs.Prelude.{length, take, if◌then◌else◌}
 use Rattle.std.specs.Fmt.{digits}
 use Rattle.cfi_elf.specs.FunctionPlaces.{Place}
-use Rattle.cfi_names.specs.Names.{shown}
+use Rattle.cfi_text.specs.Names.{shown}
 use Rattle.cfi_text.specs.Lines.{address_text}
 use Rattle.cfi_processes.specs.Sites.{Site}
 

@@ -11,10 +11,10 @@ use crate::names::{push_known_name, push_name, write_known_name};
 use cfi_elf::FunctionPlace;
 use cfi_mapped::Name;
 use cfi_processes::Site;
+use cfi_text::line_buffer::{LineBuffer, push};
 use cfi_text::lines::write_text;
 use cfi_text::names::write_name;
 use cfi_text::numbers::push_address;
-use cfi_text::text::{Text, push};
 use std::io::Write;
 use std::{fmt, io};
 
@@ -24,16 +24,16 @@ const PREFIX: usize = 2;
 /// Room for the line of a frame while it is put together, and for its number.
 #[derive(Drop)]
 pub struct LineRoom {
-    line: Text,
-    number: Text,
+    line: LineBuffer,
+    number: LineBuffer,
 }
 
 impl LineRoom {
     /// Room for a line. Does not allocate.
     pub fn new() -> LineRoom {
         LineRoom {
-            line: Text::new(),
-            number: Text::new(),
+            line: LineBuffer::new(),
+            number: LineBuffer::new(),
         }
     }
 }
@@ -70,7 +70,12 @@ fn write_in_pieces<W: Write>(output: &mut W, raw: bool, site: Site<'_>) -> io::R
 
 /// Appends the line of a frame. Fails where there is no room, and where a name has a byte that
 /// isn't printable ASCII.
-fn push_site_line(text: &mut Text, number: &mut Text, raw: bool, site: Site<'_>) -> fmt::Result
+fn push_site_line(
+    text: &mut LineBuffer,
+    number: &mut LineBuffer,
+    raw: bool,
+    site: Site<'_>,
+) -> fmt::Result
     ensures { OnOk result
         (text.new.items ≡ text.old.items ++ site_line raw (site_view site.entry)) }
 {
@@ -83,7 +88,7 @@ fn push_site_line(text: &mut Text, number: &mut Text, raw: bool, site: Site<'_>)
 
 /// Appends what `write_place_line` writes. Fails as `push_site_line`.
 #[inline]
-fn push_place_line(text: &mut Text, number: &mut Text, site: Site<'_>) -> fmt::Result
+fn push_place_line(text: &mut LineBuffer, number: &mut LineBuffer, site: Site<'_>) -> fmt::Result
     ensures { OnOk result (text.new.items ≡ text.old.items ++ place_line (site_view site.entry)) }
 {
     push_column(text, number, site.place)?;
@@ -94,7 +99,7 @@ fn push_place_line(text: &mut Text, number: &mut Text, site: Site<'_>) -> fmt::R
 
 /// Appends what `write_frame_line` writes. Fails as `push_site_line`.
 #[inline]
-fn push_frame_line(text: &mut Text, number: &mut Text, site: Site<'_>) -> fmt::Result
+fn push_frame_line(text: &mut LineBuffer, number: &mut LineBuffer, site: Site<'_>) -> fmt::Result
     ensures { OnOk result (text.new.items ≡ text.old.items ++ frame_line (site_view site.entry)) }
 {
     push_column(text, number, site.place)?;
@@ -106,7 +111,7 @@ fn push_frame_line(text: &mut Text, number: &mut Text, site: Site<'_>) -> fmt::R
 
 /// Appends what `write_function` writes. Fails as `push_site_line`.
 #[inline]
-fn push_function(text: &mut Text, place: Option<FunctionPlace<'_>>) -> fmt::Result
+fn push_function(text: &mut LineBuffer, place: Option<FunctionPlace<'_>>) -> fmt::Result
     ensures { OnOk result (text.new.items
         ≡ text.old.items ++ frame_function (option_map place_view place.entry)) }
 {
@@ -118,7 +123,7 @@ fn push_function(text: &mut Text, place: Option<FunctionPlace<'_>>) -> fmt::Resu
 
 /// Appends what `write_place` writes.
 #[inline]
-fn push_place(text: &mut Text, place: FunctionPlace<'_>) -> fmt::Result
+fn push_place(text: &mut LineBuffer, place: FunctionPlace<'_>) -> fmt::Result
     ensures { OnOk result (text.new.items
         ≡ text.old.items ++ frame_function (Some (place_view place.entry))) }
 {
@@ -129,7 +134,7 @@ fn push_place(text: &mut Text, place: FunctionPlace<'_>) -> fmt::Result
 
 /// Appends what `write_file` writes. Fails as `push_site_line`.
 #[inline(always)]
-fn push_file(text: &mut Text, name: Option<Name<'_>>) -> fmt::Result
+fn push_file(text: &mut LineBuffer, name: Option<Name<'_>>) -> fmt::Result
     ensures { OnOk result (text.new.items
         ≡ text.old.items ++ file_text (option_map (λ name. name.bytes.now) name.entry)) }
 {
@@ -167,7 +172,7 @@ fn write_place_line<W: Write>(output: &mut W, site: Site<'_>) -> io::Result<()>
 
 /// Appends a text after as much of the fill as makes it as long. Fails where there is no room.
 #[inline(always)]
-pub fn push_filled(text: &mut Text, fill: &[u8], shown: &[u8]) -> fmt::Result
+pub fn push_filled(text: &mut LineBuffer, fill: &[u8], shown: &[u8]) -> fmt::Result
     ensures { OnOk result (text.new.items ≡ text.old.items ++ filled fill.now shown.now) }
 {
     push(text, &fill[..fill.len().saturating_sub(shown.len())])?;
@@ -179,15 +184,15 @@ fn write_column<W: Write>(output: &mut W, place: u64) -> io::Result<()>
     ensures { Writes (W.contents output.old) (W.contents output.new) result
         (column_text place) }
 {
-    let mut text = Text::new();
-    push_column(&mut text, &mut Text::new(), place)?;
+    let mut text = LineBuffer::new();
+    push_column(&mut text, &mut LineBuffer::new(), place)?;
     write_text(output, text.as_slice())
 }
 
 /// Appends what `write_column` writes; `number` is room for its digits. Fails where there is no
 /// room.
 #[inline]
-fn push_column(text: &mut Text, number: &mut Text, place: u64) -> fmt::Result
+fn push_column(text: &mut LineBuffer, number: &mut LineBuffer, place: u64) -> fmt::Result
     ensures { OnOk result (text.new.items ≡ text.old.items ++ column_text place) }
 {
     push_number(text, number, place)?;
@@ -199,15 +204,15 @@ pub fn write_address<W: Write>(output: &mut W, address: u64) -> io::Result<()>
     ensures { Writes (W.contents output.old) (W.contents output.new) result
         (number_column address) }
 {
-    let mut text = Text::new();
-    push_number(&mut text, &mut Text::new(), address)?;
+    let mut text = LineBuffer::new();
+    push_number(&mut text, &mut LineBuffer::new(), address)?;
     write_text(output, text.as_slice())
 }
 
 /// Appends a hexadecimal number after a tab, in sixteen columns; `digits` is room for them. Fails
 /// where there is no room.
 #[inline(always)]
-fn push_number(text: &mut Text, digits: &mut Text, number: u64) -> fmt::Result
+fn push_number(text: &mut LineBuffer, digits: &mut LineBuffer, number: u64) -> fmt::Result
     ensures { OnOk result (text.new.items ≡ text.old.items ++ number_column number) }
 {
     digits.clear();
@@ -241,7 +246,7 @@ fn write_offset<W: Write>(output: &mut W, offset: u64) -> io::Result<()>
     ensures { Writes (W.contents output.old) (W.contents output.new) result
         (codes "+" ++ address_text offset) }
 {
-    let mut text = Text::new();
+    let mut text = LineBuffer::new();
     push(&mut text, b"+")?;
     push_address(&mut text, offset)?;
     write_text(output, text.as_slice())

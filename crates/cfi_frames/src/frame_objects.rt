@@ -17,10 +17,10 @@ use cfi_mapped::Name;
 use cfi_processes::Site;
 use cfi_processes::process_code::ProcessCode;
 use cfi_text::json::push_number;
+use cfi_text::line_buffer::{LineBuffer, push};
 use cfi_text::lines::{write_between, write_text};
 use cfi_text::names::{write_json_name, write_name_member};
 use cfi_text::numbers::push_address;
-use cfi_text::text::{Text, push};
 use std::io::Write;
 use std::{fmt, io};
 
@@ -69,13 +69,13 @@ pub(crate) fn write_code_object<W: Write>(
 fn write_place_member<W: Write>(output: &mut W, place: u64) -> io::Result<()>
     ensures { Writes (W.contents output.old) (W.contents output.new) result (place_member place) }
 {
-    let mut text = Text::new();
+    let mut text = LineBuffer::new();
     push_place_member(&mut text, place)?;
     write_text(output, text.as_slice())
 }
 
 /// Appends what `write_place_member` writes. Fails where there is no room.
-fn push_place_member(text: &mut Text, place: u64) -> fmt::Result
+fn push_place_member(text: &mut LineBuffer, place: u64) -> fmt::Result
     ensures { OnOk result (text.new.items ≡ text.old.items ++ place_member place) }
 {
     push(text, b"\"place\":\"")?;
@@ -116,7 +116,7 @@ fn write_function<W: Write>(output: &mut W, place: FunctionPlace<'_>) -> io::Res
 fn write_offset_member<W: Write>(output: &mut W, offset: u64) -> io::Result<()>
     ensures { Writes (W.contents output.old) (W.contents output.new) result (offset_member offset) }
 {
-    let mut text = Text::new();
+    let mut text = LineBuffer::new();
     push(&mut text, b"\",\"offset\":")?;
     push_number(&mut text, offset)?;
     write_text(output, text.as_slice())

@@ -14,8 +14,8 @@ use crate::frame_style::FrameStyle;
 use cfi_processes::process_code::ProcessCode;
 use cfi_processes::sample_stack::NoFrames;
 use cfi_step::{StackFrame, Walk, row_address};
+use cfi_text::line_buffer::{LineBuffer, push};
 use cfi_text::numbers::push_address;
-use cfi_text::text::{Text, push};
 use std::io::Write;
 use std::{fmt, io};
 
@@ -77,14 +77,19 @@ fn write_frame<W: Write>(
         (comma_before is_first ++ walk_frame style address
         (site_of (map known_view code.now.files.now) code.now.mappings.now address)) }
 {
-    let mut before = Text::new();
+    let mut before = LineBuffer::new();
     push_opening(&mut before, is_first, style.with_address, address)?;
     write_code_object(output, style.raw, before.as_slice(), code, address, b"}")
 }
 
 /// Appends the beginning of the object of a frame, after a comma unless it is the first of all.
 /// Fails where there is no room.
-fn push_opening(text: &mut Text, is_first: bool, with_address: bool, address: u64) -> fmt::Result
+fn push_opening(
+    text: &mut LineBuffer,
+    is_first: bool,
+    with_address: bool,
+    address: u64,
+) -> fmt::Result
     ensures { OnOk result (text.new.items
         ≡ text.old.items ++ (comma_before is_first ++ frame_opening with_address address)) }
 {
@@ -93,14 +98,14 @@ fn push_opening(text: &mut Text, is_first: bool, with_address: bool, address: u6
 }
 
 /// Appends a comma, unless what comes is the first of all. Fails where there is no room.
-fn push_comma(text: &mut Text, is_first: bool) -> fmt::Result
+fn push_comma(text: &mut LineBuffer, is_first: bool) -> fmt::Result
     ensures { OnOk result (text.new.items ≡ text.old.items ++ comma_before is_first) }
 {
     if is_first { Ok(()) } else { push(text, b",") }
 }
 
 /// Appends the beginning of the object of a frame. Fails where there is no room.
-fn push_frame_opening(text: &mut Text, with_address: bool, address: u64) -> fmt::Result
+fn push_frame_opening(text: &mut LineBuffer, with_address: bool, address: u64) -> fmt::Result
     ensures { OnOk result (text.new.items ≡ text.old.items ++ frame_opening with_address address) }
 {
     if with_address {
@@ -111,7 +116,7 @@ fn push_frame_opening(text: &mut Text, with_address: bool, address: u64) -> fmt:
 }
 
 /// Appends the beginning of the object of a frame, with its address. Fails where there is no room.
-fn push_address_member(text: &mut Text, address: u64) -> fmt::Result
+fn push_address_member(text: &mut LineBuffer, address: u64) -> fmt::Result
     ensures { OnOk result (text.new.items ≡ text.old.items ++ frame_address address) }
 {
     push(text, b"{\"address\":\"")?;

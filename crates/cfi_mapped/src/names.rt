@@ -1,9 +1,9 @@
 //! Names of files and functions.
 ghost use Rattle.std.specs.Prelude.{◌≡◌};
 ghost use Rattle.std.specs.List.{list_all};
-ghost use Rattle.cfi_names.specs.Names.{is_printable_ascii};
+ghost use Rattle.cfi_text.specs.Names.{is_printable_ascii};
 
-use cfi_names::is_plain;
+use cfi_text::name_parts::is_plain;
 
 /// A name, and whether each of its bytes is printable ASCII, which is looked at once.
 #[derive(Clone, Copy, Debug)]

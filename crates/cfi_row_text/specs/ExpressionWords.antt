@@ -11,7 +11,7 @@ use Rattle.cfi_read_core.specs.declared.instruction.UnwindExpression.{UnwindExpr
 use Rattle.cfi_read_core.specs.ReadFunctions.{Source, Position, Extent, rest}
 use Rattle.cfi_read_core.specs.ReaderCalls.{bytes_left, read_at, remaining}
 use Rattle.cfi_read_core.specs.ExpressionPlaces.{expression_bytes}
-use Rattle.cfi_names.specs.Names.{byte_digits}
+use Rattle.cfi_text.specs.Names.{byte_digits}
 use Rattle.cfi_text.specs.RegisterNames.{register_text}
 use Rattle.cfi_text.specs.declared.register_names.RegisterNames.{RegisterNames}
 use Rattle.cfi_text.specs.Lines.{address_text}

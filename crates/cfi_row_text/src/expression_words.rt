@@ -3,7 +3,7 @@ ghost use Rattle.std.specs.Prelude.{◌≡◌, ◌++◌, Some, codes};
 ghost use Rattle.cfi_read_core.specs.ExpressionPlaces.{expression_bytes};
 ghost use Rattle.cfi_read_core.specs.ReaderCalls.{bytes_left, read_at};
 ghost use Rattle.cfi_text.specs.WriterOutput.{Writes};
-ghost use Rattle.cfi_names.specs.Names.{byte_digits};
+ghost use Rattle.cfi_text.specs.Names.{byte_digits};
 ghost use Rattle.cfi_row_text.specs.ExpressionWords.{bytes_text, operation_comma};
 ghost use Rattle.cfi_row_text.specs.ExpressionWords.{hexadecimal_bytes, hexadecimal_in, in_words};
 ghost use Rattle.cfi_row_text.specs.ExpressionWords.{known_operation, operand_text, operation_text};
@@ -14,8 +14,8 @@ ghost use Rattle.cfi_text.specs.RegisterNames.{register_text};
 
 use crate::operation_reader::{Operand, Operation, read_operation};
 use crate::operations::entry_of;
-use cfi_names::digit;
 use cfi_text::lines::{write_part, write_text};
+use cfi_text::name_parts::digit;
 use cfi_text::register_names::RegisterNames;
 use gimli_cfi::{Error, Reader, Register, UnwindExpression, UnwindSection};
 use std::fmt::{Display, Formatter};

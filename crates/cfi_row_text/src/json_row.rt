@@ -17,10 +17,10 @@ use crate::register_rules::{HasRules, expression_at};
 use crate::row_words::{write_cfa, write_rule};
 use crate::style::Style;
 use cfi_text::json::push_number;
+use cfi_text::line_buffer::{LineBuffer, push};
 use cfi_text::lines::{write_part, write_text};
 use cfi_text::numbers::Address;
 use cfi_text::register_names::RegisterNames;
-use cfi_text::text::{Text, push};
 use gimli_cfi::{
     _UnwindSectionPrivate, ArrayLike, CfaRule, Reader, Register, RegisterRule, UnwindExpression,
     UnwindSection, UnwindTableRow,
@@ -147,7 +147,7 @@ fn write_args_size<W: Write>(output: &mut W, args_size: u64) -> io::Result<()>
     ensures { Writes (W.contents output.old) (W.contents output.new) result
         (codes ",\"args\":" ++ json_number args_size ++ codes ",\"rules\":{") }
 {
-    let mut text = Text::new();
+    let mut text = LineBuffer::new();
     push(&mut text, b",\"args\":")?;
     push_number(&mut text, args_size)?;
     push(&mut text, b",\"rules\":{")?;

@@ -11,8 +11,8 @@ ghost use Rattle.cfi_row_text.specs.RowLines.{ruled, rules_by};
 use crate::register_rules::is_rising;
 use crate::row_text::push_ruled;
 use arrayvec::ArrayVec;
+use cfi_text::line_buffer::Text;
 use cfi_text::register_names::RegisterNames;
-use cfi_text::text::Text;
 use gimli_cfi::{Register, RegisterRule, RegisterRuleIter};
 use std::fmt;
 
@@ -27,7 +27,7 @@ const LONGEST: usize = 300;
 #[derive(Drop)]
 pub(crate) struct KeptRules {
     rules: ArrayVec<(Register, RegisterRule<usize>), MOST>,
-    text: Text,
+    text: LineBuffer,
 }
 
 impl KeptRules {
@@ -37,7 +37,7 @@ impl KeptRules {
     {
         KeptRules {
             rules: ArrayVec::new(),
-            text: Text::new(),
+            text: LineBuffer::new(),
         }
     }
 

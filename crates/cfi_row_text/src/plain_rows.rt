@@ -12,8 +12,8 @@ ghost use Rattle.cfi_row_text.specs.RowLines.{row_text};
 use crate::kept_rules::KeptRules;
 use crate::register_rules::expression_in;
 use crate::row_text::push_head;
+use cfi_text::line_buffer::{LineBuffer, push};
 use cfi_text::register_names::RegisterNames;
-use cfi_text::text::{Text, push};
 use gimli_cfi::{
     ArrayLike, CfaRule, Error, Register, RegisterRule, RegisterRuleIter, UnwindTableRow,
 };
@@ -76,7 +76,7 @@ impl KeptRows {
     #[inline]
     pub fn push_next<A: ArrayLike<Item = (Register, RegisterRule<usize>)>>(
         &mut self,
-        text: &mut Text,
+        text: &mut LineBuffer,
         names: RegisterNames,
         answer: Result<&UnwindTableRow<usize, A>, Error>,
     ) -> Result<bool, fmt::Error>
@@ -116,7 +116,7 @@ fn place_of<A: ArrayLike<Item = (Register, RegisterRule<usize>)>>(
 #[derive(Drop)]
 pub struct LineRoom {
     /// The text that is not written yet.
-    pub text: Text,
+    pub text: LineBuffer,
     /// The rules of the last rows.
     pub kept: KeptRows,
 }
@@ -125,7 +125,7 @@ impl LineRoom {
     /// Has no text and keeps no rules, for rows with these names of registers.
     pub fn new(names: RegisterNames) -> LineRoom {
         LineRoom {
-            text: Text::new(),
+            text: LineBuffer::new(),
             kept: KeptRows::new(names),
         }
     }
@@ -136,7 +136,7 @@ impl LineRoom {
 /// there is no room for the line.
 #[inline]
 fn push_next<A: ArrayLike<Item = (Register, RegisterRule<usize>)>>(
-    text: &mut Text,
+    text: &mut LineBuffer,
     names: RegisterNames,
     kept: &mut KeptRules,
     answer: Result<&UnwindTableRow<usize, A>, Error>,
@@ -199,7 +199,7 @@ fn have_no_expression(rules: RegisterRuleIter<'_, usize>) -> bool
 /// Appends the line of text of a row whose rules are kept. Fails where there is no room for it.
 #[inline]
 fn push_row<A: ArrayLike<Item = (Register, RegisterRule<usize>)>>(
-    text: &mut Text,
+    text: &mut LineBuffer,
     names: RegisterNames,
     kept: &KeptRules,
     row: &UnwindTableRow<usize, A>,

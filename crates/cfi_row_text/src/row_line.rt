@@ -10,10 +10,10 @@ ghost use Rattle.cfi_row_text.specs.RowLines.{parts_rules, row_text, ruled, rule
 
 use crate::register_rules::{HasRules, is_rising};
 use crate::row_text::{push_head, push_ruled};
+use cfi_text::line_buffer::{LineBuffer, push};
 use cfi_text::lines::write_text;
 use cfi_text::refusals::write_refusal;
 use cfi_text::register_names::RegisterNames;
-use cfi_text::text::{Text, push};
 use gimli_cfi::{ArrayLike, Error, Register, RegisterRule, RegisterRuleIter, UnwindTableRow};
 use std::io;
 use std::io::Write;
@@ -49,7 +49,7 @@ fn write_row<W: Write, A: ArrayLike<Item = (Register, RegisterRule<usize>)>>(
     ensures { Writes (W.contents output.old) (W.contents output.new) result
         (row_text names row.now ++ 10 ∷ []) }
 {
-    let mut text = Text::new();
+    let mut text = LineBuffer::new();
     push_head(&mut text, names, row)?;
     write_rules(output, &mut text, names, row)?;
     push(&mut text, b"\n")?;
@@ -59,7 +59,7 @@ fn write_row<W: Write, A: ArrayLike<Item = (Register, RegisterRule<usize>)>>(
 /// Appends the rules, in ascending order of the registers. Writes the text where it is long.
 fn write_rules<W: Write, A: ArrayLike<Item = (Register, RegisterRule<usize>)>>(
     output: &mut W,
-    text: &mut Text,
+    text: &mut LineBuffer,
     names: RegisterNames,
     row: &UnwindTableRow<usize, A>,
 ) -> io::Result<()>
@@ -77,7 +77,7 @@ fn write_rules<W: Write, A: ArrayLike<Item = (Register, RegisterRule<usize>)>>(
 /// Appends the rules in the order in which they are.
 fn write_rising<W: Write>(
     output: &mut W,
-    text: &mut Text,
+    text: &mut LineBuffer,
     names: RegisterNames,
     rules: RegisterRuleIter<'_, usize>,
 ) -> io::Result<()>
@@ -97,7 +97,7 @@ fn write_rising<W: Write>(
 /// Appends the rules, each looked up by its number. Writes the text where it is long.
 fn write_by_number<W: Write, H: HasRules>(
     output: &mut W,
-    text: &mut Text,
+    text: &mut LineBuffer,
     names: RegisterNames,
     row: &H,
 ) -> io::Result<()>
@@ -117,7 +117,7 @@ fn write_by_number<W: Write, H: HasRules>(
 }
 
 /// Writes the text where it is too long for another rule.
-fn make_room<W: Write>(output: &mut W, text: &mut Text) -> io::Result<()>
+fn make_room<W: Write>(output: &mut W, text: &mut LineBuffer) -> io::Result<()>
     ensures { WritesAfter text.old.items text.new.items
         (W.contents output.old) (W.contents output.new) result [] }
 {

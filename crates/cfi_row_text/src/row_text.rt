@@ -6,14 +6,14 @@ ghost use Rattle.cfi_text.specs.declared.register_names.RegisterNames.TheVariant
 ghost use Rattle.cfi_row_text.specs.RowLines.{cfa_text, expression_text, offset_text, row_head};
 ghost use Rattle.cfi_row_text.specs.RowLines.{rule_text, ruled};
 
+use cfi_text::line_buffer::{LineBuffer, push};
 use cfi_text::numbers::{push_address, push_decimal, push_signed};
 use cfi_text::register_names::RegisterNames;
-use cfi_text::text::{Text, push};
 use gimli_cfi::{ArrayLike, CfaRule, Register, RegisterRule, UnwindExpression, UnwindTableRow};
 use std::fmt;
 
 /// Appends the name of the register.
-fn push_register(text: &mut Text, names: RegisterNames, register: Register) -> fmt::Result
+fn push_register(text: &mut LineBuffer, names: RegisterNames, register: Register) -> fmt::Result
     ensures { OnOk result (text.new.items ≡ text.old.items ++ register_text names register.0) }
 {
     let name = names.name(register.0);
@@ -26,7 +26,7 @@ fn push_register(text: &mut Text, names: RegisterNames, register: Register) -> f
 
 /// Appends an offset from a register, with its sign.
 #[inline]
-fn push_offset(text: &mut Text, offset: i64) -> fmt::Result
+fn push_offset(text: &mut LineBuffer, offset: i64) -> fmt::Result
     ensures { OnOk result (text.new.items ≡ text.old.items ++ offset_text offset) }
 {
     if offset >= 0 {
@@ -36,7 +36,7 @@ fn push_offset(text: &mut Text, offset: i64) -> fmt::Result
 }
 
 /// Appends where an expression is, and its length.
-fn push_expression(text: &mut Text, expression: UnwindExpression<usize>) -> fmt::Result
+fn push_expression(text: &mut LineBuffer, expression: UnwindExpression<usize>) -> fmt::Result
     ensures { OnOk result (text.new.items ≡ text.old.items ++ expression_text expression) }
 {
     push(text, b"expr@")?;
@@ -48,7 +48,7 @@ fn push_expression(text: &mut Text, expression: UnwindExpression<usize>) -> fmt:
 /// Appends the rule of the canonical frame address and the argument size, each after its name.
 /// Fails where there is no room for them.
 pub fn push_frame(
-    text: &mut Text,
+    text: &mut LineBuffer,
     names: RegisterNames,
     cfa: CfaRule<usize>,
     args_size: u64,
@@ -87,7 +87,7 @@ fn stack_offset(names: RegisterNames, cfa: CfaRule<usize>, args_size: u64) -> Op
 /// Appends an offset of the CFA from the stack pointer, and that there are no arguments. Fails
 /// where there is no room for them.
 #[inline(always)]
-fn push_stack_frame(text: &mut Text, offset: u8) -> fmt::Result
+fn push_stack_frame(text: &mut LineBuffer, offset: u8) -> fmt::Result
     requires { offset < 100 }
     ensures { OnOk result (text.new.items
         ≡ text.old.items ++ (codes " cfa=rsp+" ++ decimal offset ++ codes " args=0")) }
@@ -103,7 +103,7 @@ fn push_stack_frame(text: &mut Text, offset: u8) -> fmt::Result
 
 /// Appends the same with one digit.
 #[inline(always)]
-fn push_with_digit(text: &mut Text, ones: u8) -> fmt::Result
+fn push_with_digit(text: &mut LineBuffer, ones: u8) -> fmt::Result
     ensures { OnOk result (text.new.items
         ≡ text.old.items ++ (codes " cfa=rsp+" ++ ones ∷ codes " args=0")) }
 {
@@ -114,7 +114,7 @@ fn push_with_digit(text: &mut Text, ones: u8) -> fmt::Result
 
 /// Appends the same with two digits.
 #[inline(always)]
-fn push_with_digits(text: &mut Text, tens: u8, ones: u8) -> fmt::Result
+fn push_with_digits(text: &mut LineBuffer, tens: u8, ones: u8) -> fmt::Result
     ensures { OnOk result (text.new.items
         ≡ text.old.items ++ (codes " cfa=rsp+" ++ tens ∷ ones ∷ codes " args=0")) }
 {
@@ -126,7 +126,7 @@ fn push_with_digits(text: &mut Text, tens: u8, ones: u8) -> fmt::Result
 
 /// Appends the rule of the canonical frame address after its name.
 #[inline]
-fn push_named_cfa(text: &mut Text, names: RegisterNames, cfa: CfaRule<usize>) -> fmt::Result
+fn push_named_cfa(text: &mut LineBuffer, names: RegisterNames, cfa: CfaRule<usize>) -> fmt::Result
     ensures { OnOk result (text.new.items
         ≡ text.old.items ++ (codes " cfa=" ++ cfa_text names cfa)) }
 {
@@ -144,7 +144,7 @@ fn push_named_cfa(text: &mut Text, names: RegisterNames, cfa: CfaRule<usize>) ->
 
 /// Appends the register of the canonical frame address. Those of x86-64 mostly are two.
 #[inline]
-fn push_cfa_register(text: &mut Text, names: RegisterNames, register: Register) -> fmt::Result
+fn push_cfa_register(text: &mut LineBuffer, names: RegisterNames, register: Register) -> fmt::Result
     ensures { OnOk result (text.new.items
         ≡ text.old.items ++ (codes " cfa=" ++ register_text names register.0)) }
 {
@@ -160,7 +160,7 @@ fn push_cfa_register(text: &mut Text, names: RegisterNames, register: Register) 
 
 /// Appends the argument size after its name. It mostly is 0.
 #[inline]
-fn push_args_size(text: &mut Text, args_size: u64) -> fmt::Result
+fn push_args_size(text: &mut LineBuffer, args_size: u64) -> fmt::Result
     ensures { OnOk result (text.new.items
         ≡ text.old.items ++ (codes " args=" ++ decimal args_size)) }
 {
@@ -172,7 +172,7 @@ fn push_args_size(text: &mut Text, args_size: u64) -> fmt::Result
 }
 
 /// Appends the rule of a register.
-fn push_rule(text: &mut Text, names: RegisterNames, rule: RegisterRule<usize>) -> fmt::Result
+fn push_rule(text: &mut LineBuffer, names: RegisterNames, rule: RegisterRule<usize>) -> fmt::Result
     ensures { OnOk result (text.new.items ≡ text.old.items ++ rule_text names rule) }
 {
     match rule {
@@ -199,7 +199,7 @@ fn push_rule(text: &mut Text, names: RegisterNames, rule: RegisterRule<usize>) -
 }
 
 /// Appends an offset from the CFA.
-fn push_cfa_offset(text: &mut Text, offset: i64) -> fmt::Result
+fn push_cfa_offset(text: &mut LineBuffer, offset: i64) -> fmt::Result
     ensures { OnOk result (text.new.items ≡ text.old.items
         ++ (codes "offset(" ++ signed_decimal offset ++ codes ")")) }
 {
@@ -214,7 +214,7 @@ fn push_cfa_offset(text: &mut Text, offset: i64) -> fmt::Result
 
 /// Appends a register and its rule, after a space. Fails where there is no room for them.
 pub fn push_ruled(
-    text: &mut Text,
+    text: &mut LineBuffer,
     names: RegisterNames,
     register: Register,
     rule: RegisterRule<usize>,
@@ -229,7 +229,11 @@ pub fn push_ruled(
 
 /// Appends the register of a rule, after a space, and an equals sign.
 #[inline]
-fn push_rule_register(text: &mut Text, names: RegisterNames, register: Register) -> fmt::Result
+fn push_rule_register(
+    text: &mut LineBuffer,
+    names: RegisterNames,
+    register: Register,
+) -> fmt::Result
     ensures text { OnOk result (text.new.items ≡ text.old.items
         ++ (codes " " ++ register_text names register.0 ++ codes "=")) }
     ensures within { register.0 ≤ 65535 }
@@ -241,7 +245,7 @@ fn push_rule_register(text: &mut Text, names: RegisterNames, register: Register)
 }
 
 /// The same for x86-64, where mostly a function's own registers and the return address are saved.
-fn push_saved_register(text: &mut Text, register: Register) -> fmt::Result
+fn push_saved_register(text: &mut LineBuffer, register: Register) -> fmt::Result
     ensures { OnOk result (text.new.items ≡ text.old.items
         ++ (codes " " ++ register_text X86_64 register.0 ++ codes "=")) }
 {
@@ -258,7 +262,7 @@ fn push_saved_register(text: &mut Text, register: Register) -> fmt::Result
 }
 
 /// The same for any register.
-fn push_any_register(text: &mut Text, names: RegisterNames, register: Register) -> fmt::Result
+fn push_any_register(text: &mut LineBuffer, names: RegisterNames, register: Register) -> fmt::Result
     ensures { OnOk result (text.new.items ≡ text.old.items
         ++ (codes " " ++ register_text names register.0 ++ codes "=")) }
 {
@@ -269,7 +273,7 @@ fn push_any_register(text: &mut Text, names: RegisterNames, register: Register) 
 
 /// Appends what comes before the rules: the addresses, the CFA and the argument size.
 pub(crate) fn push_head<A: ArrayLike<Item = (Register, RegisterRule<usize>)>>(
-    text: &mut Text,
+    text: &mut LineBuffer,
     names: RegisterNames,
     row: &UnwindTableRow<usize, A>,
 ) -> fmt::Result

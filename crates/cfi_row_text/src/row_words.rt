@@ -17,12 +17,12 @@ use crate::expression_words::{RegisterOffset, write_in_words};
 use crate::json_row::{write_json_members, write_json_row};
 use crate::register_rules::HasRules;
 use crate::style::Style;
+use cfi_text::line_buffer::{LineBuffer, write_out};
 use cfi_text::lines::{write_part, write_text};
 use cfi_text::numbers::Address;
 use cfi_text::refusals::{write_refusal_end, write_refusal_told};
 use cfi_text::register_names::RegisterNames;
 use cfi_text::style::Format;
-use cfi_text::text::{Text, write_out};
 use gimli_cfi::{
     _UnwindSectionPrivate, ArrayLike, CallFrameSection, CfaRule, Error, Reader, Register,
     RegisterRule, SectionSource, UnwindExpression, UnwindSection, UnwindTableRow,
@@ -38,7 +38,7 @@ pub fn write_apart<
     A: ArrayLike<Item = (Register, RegisterRule<usize>)>,
 >(
     output: &mut W,
-    text: &mut Text,
+    text: &mut LineBuffer,
     names: RegisterNames,
     section: &S,
     answer: Result<&UnwindTableRow<usize, A>, Error>,

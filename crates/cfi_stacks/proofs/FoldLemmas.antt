@@ -4,8 +4,8 @@ use Rattle.std.specs.Option.{option_eq}
 use Rattle.std.proofs.Math.Seq.{drop-cons}
 use Rattle.std.proofs.lemmas.List.{map-append, take-append-drop}
 use Rattle.std.specs.List.{flat_map}
-use Rattle.cfi_names.specs.Names.{NamePart, first_part, parts, shown, shown_part}
-use Rattle.cfi_names.proofs.NameLemmas.{one_made}
+use Rattle.cfi_text.specs.Names.{NamePart, first_part, parts, shown, shown_part}
+use Rattle.cfi_text.proofs.NameLemmas.{one_made}
 use Rattle.cfi_flame.specs.declared.folded.FoldedError.{FoldedError}
 use Rattle.cfi_flame.specs.declared.folded.FoldedError.TheVariants.{OutOfMemory, NotFolded, NoSamples, TooManySamples}
 use Rattle.cfi_flame.specs.FoldedCounts.{AreCounted, CountsMore, IsNotAdded, counted, line_text}

@@ -1,6 +1,6 @@
 -- The parts of a sample's first line, each from its place on.
 use Rattle.std.proofs.Common.{ℕ, List, [], ◌∷◌, ◌++◌, codes}
-use Rattle.cfi_names.specs.Names.{shown}
+use Rattle.cfi_text.specs.Names.{shown}
 use Rattle.cfi_perf.specs.Samples.{Sample}
 use Rattle.cfi_stacks.specs.SampleHeads.{numbers_text}
 

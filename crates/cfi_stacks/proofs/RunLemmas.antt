@@ -8,7 +8,7 @@ use Rattle.cfi_perf.specs.declared.error.PerfError.{PerfError}
 use Rattle.cfi_perf.specs.Events.{Record, SampleEvent}
 use Rattle.cfi_perf.specs.Samples.{Sample}
 use Rattle.cfi_text.specs.declared.style.Format.{Format}
-use Rattle.cfi_inputs.specs.Refusals.{input_refusal}
+use Rattle.cfi_text.specs.InputRefusals.{input_refusal}
 use Rattle.cfi_text.specs.declared.reading.InputError.{InputError}
 use Rattle.cfi_text.specs.declared.reading.InputError.TheVariants.{OutOfMemory}
 use Rattle.cfi_text.specs.Lines.{Line}

@@ -6,7 +6,7 @@
 --         of its call chain, and the frames of the kernel
 use Rattle.std.specs.Prelude.{ℕ, ◌==◌, List, [], ◌∷◌, ◌++◌, Option, Some, None, Result, Ok, Err}
 use Rattle.std.specs.Prelude.{codes, drop, map, take, if◌then◌else◌}
-use Rattle.cfi_names.specs.Names.{shown}
+use Rattle.cfi_text.specs.Names.{shown}
 use Rattle.cfi_flame.specs.FoldedStacks.{last_part}
 use Rattle.cfi_elf.specs.FunctionPlaces.{Place}
 use Rattle.cfi_perf.specs.Samples.{Sample, kernel_frames, user_frames}

@@ -15,7 +15,7 @@ use Rattle.cfi_perf.specs.Events.{Record}
 use Rattle.cfi_perf.specs.Indexes.{IsInTimeOrder}
 use Rattle.cfi_perf.specs.Profiles.{Profile, architecture, profile, profile_records}
 use Rattle.cfi_perf.specs.Records.{Records}
-use Rattle.cfi_inputs.specs.Refusals.{input_refusal}
+use Rattle.cfi_text.specs.InputRefusals.{input_refusal}
 use Rattle.cfi_text.specs.declared.reading.InputError.{InputError}
 use Rattle.cfi_text.specs.declared.style.Format.{Format}
 use Rattle.cfi_text.specs.declared.style.Format.TheVariants as formats

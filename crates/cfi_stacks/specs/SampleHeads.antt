@@ -4,7 +4,7 @@
 use Rattle.std.specs.Prelude.{ℕ, ◌-◌, ◌/◌, ◌%◌, ◌==◌, List, [], ◌∷◌, ◌++◌, Option, Some, None}
 use Rattle.std.specs.Prelude.{codes, length, take, if◌then◌else◌}
 use Rattle.std.specs.Fmt.{decimal}
-use Rattle.cfi_names.specs.Names.{shown}
+use Rattle.cfi_text.specs.Names.{shown}
 use Rattle.cfi_perf.specs.Samples.{Sample}
 use Rattle.cfi_frames.specs.FrameLines.{filled}
 

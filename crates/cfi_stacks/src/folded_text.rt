@@ -1,7 +1,7 @@
 //! The folded stack of a sample.
 ghost use Rattle.std.specs.Prelude.{◌≡◌, ◌≤◌, ◌++◌, IfOk, None, OnOk, codes, length, map};
 ghost use Rattle.std.specs.Prelude.{flat_map, option_map};
-ghost use Rattle.cfi_names.specs.Names.{byte_escape, name_part_view, shown_part};
+ghost use Rattle.cfi_text.specs.Names.{byte_escape, name_part_view, shown_part};
 ghost use Rattle.cfi_perf.specs.CallChains.{addresses_left};
 ghost use Rattle.cfi_perf.specs.Samples.{sample_view};
 ghost use Rattle.cfi_processes.specs.KnownFiles.{known_view};
@@ -17,12 +17,12 @@ ghost use Rattle.cfi_stacks.specs.TakenSamples.{taken_view};
 use crate::taken_sample::TakenSample;
 use cfi_flame::folded::last_part;
 use cfi_mapped::Name;
-use cfi_names::{Kind, Part, byte_escape, first_part, is_plain};
 use cfi_perf::{Addresses, Sample};
 use cfi_processes::Site;
 use cfi_processes::process_code::ProcessCode;
 use cfi_processes::sample_stack::NoFrames;
 use cfi_step::{StackFrame, Walk, row_address};
+use cfi_text::name_parts::{Kind, Part, byte_escape, first_part, is_plain};
 use itoa::Buffer;
 use std::alloc::AllocError;
 

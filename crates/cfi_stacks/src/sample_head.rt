@@ -11,10 +11,10 @@ use cfi_frames::frame_lines::push_filled;
 use cfi_frames::names::write_known_name;
 use cfi_mapped::Name;
 use cfi_perf::Sample;
+use cfi_text::line_buffer::{LineBuffer, push};
 use cfi_text::lines::write_text;
 use cfi_text::names::write_name;
 use cfi_text::numbers::push_decimal;
-use cfi_text::text::{Text, push};
 use std::io::Write;
 use std::{fmt, io};
 
@@ -56,7 +56,7 @@ pub(crate) fn write_without_name<W: Write>(output: &mut W, tid: u32) -> io::Resu
     if tid == 0 {
         return write_text(output, b"swapper");
     }
-    let mut text = Text::new();
+    let mut text = LineBuffer::new();
     push(&mut text, b":")?;
     push_decimal(&mut text, u64::from(tid))?;
     write_text(output, text.as_slice())
@@ -67,13 +67,13 @@ fn write_numbers<W: Write>(output: &mut W, time: u64, sample: &Sample<'_>) -> io
     ensures { Writes (W.contents output.old) (W.contents output.new) result
         (numbers_text time (sample_view sample.now)) }
 {
-    let mut text = Text::new();
+    let mut text = LineBuffer::new();
     push_numbers(&mut text, time, sample)?;
     write_text(output, text.as_slice())
 }
 
 /// Appends what `write_numbers` writes. Fails where there is no room.
-fn push_numbers(text: &mut Text, time: u64, sample: &Sample<'_>) -> fmt::Result
+fn push_numbers(text: &mut LineBuffer, time: u64, sample: &Sample<'_>) -> fmt::Result
     ensures { OnOk result (text.new.items
         ≡ text.old.items ++ numbers_text time (sample_view sample.now)) }
 {
@@ -88,7 +88,7 @@ fn push_numbers(text: &mut Text, time: u64, sample: &Sample<'_>) -> fmt::Result
 }
 
 /// Appends the process in five columns and the thread in as many. Fails where there is no room.
-fn push_thread(text: &mut Text, pid: u32, tid: u32) -> fmt::Result
+fn push_thread(text: &mut LineBuffer, pid: u32, tid: u32) -> fmt::Result
     ensures { OnOk result (text.new.items ≡ text.old.items ++ pid_and_tid pid tid) }
 {
     push_right(text, b"     ", u64::from(pid))?;
@@ -97,7 +97,7 @@ fn push_thread(text: &mut Text, pid: u32, tid: u32) -> fmt::Result
 }
 
 /// Appends the processor in brackets, and a space. Fails where there is no room.
-fn push_cpu(text: &mut Text, cpu: Option<u32>) -> fmt::Result
+fn push_cpu(text: &mut LineBuffer, cpu: Option<u32>) -> fmt::Result
     ensures { OnOk result (text.new.items ≡ text.old.items ++ cpu_text cpu) }
 {
     match cpu {
@@ -111,40 +111,40 @@ fn push_cpu(text: &mut Text, cpu: Option<u32>) -> fmt::Result
 }
 
 /// Appends a time in nanoseconds as seconds, in twelve columns. Fails where there is no room.
-fn push_time(text: &mut Text, time: u64) -> fmt::Result
+fn push_time(text: &mut LineBuffer, time: u64) -> fmt::Result
     ensures { OnOk result (text.new.items ≡ text.old.items ++ time_text time) }
 {
-    let mut seconds = Text::new();
+    let mut seconds = LineBuffer::new();
     push_seconds(&mut seconds, time)?;
     push_filled(text, b"            ", seconds.as_slice())
 }
 
 /// Appends a number after as much of the fill as makes it as long. Fails where there is no room.
-fn push_right(text: &mut Text, fill: &[u8], number: u64) -> fmt::Result
+fn push_right(text: &mut LineBuffer, fill: &[u8], number: u64) -> fmt::Result
     ensures { OnOk result (text.new.items ≡ text.old.items ++ right_aligned fill.now number) }
 {
-    let mut digits = Text::new();
+    let mut digits = LineBuffer::new();
     push_decimal(&mut digits, number)?;
     push_filled(text, fill, digits.as_slice())
 }
 
 /// Appends a number before as much of the fill as makes it as long. Fails where there is no room.
-fn push_left(text: &mut Text, fill: &[u8], number: u64) -> fmt::Result
+fn push_left(text: &mut LineBuffer, fill: &[u8], number: u64) -> fmt::Result
     ensures { OnOk result (text.new.items ≡ text.old.items ++ left_aligned fill.now number) }
 {
-    let mut digits = Text::new();
+    let mut digits = LineBuffer::new();
     push_decimal(&mut digits, number)?;
     push(text, digits.as_slice())?;
     push(text, &fill[..fill.len().saturating_sub(digits.len())])
 }
 
 /// Appends a time in nanoseconds as seconds. Fails where there is no room.
-fn push_seconds(text: &mut Text, time: u64) -> fmt::Result
+fn push_seconds(text: &mut LineBuffer, time: u64) -> fmt::Result
     ensures { OnOk result (text.new.items ≡ text.old.items ++ seconds_text time) }
 {
     push_decimal(text, time / 1_000_000_000)?;
     push(text, b".")?;
-    let mut micros = Text::new();
+    let mut micros = LineBuffer::new();
     push_decimal(&mut micros, time / 1000 % 1_000_000)?;
     push_filled(text, b"000000", micros.as_slice())
 }

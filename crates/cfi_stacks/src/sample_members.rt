@@ -11,10 +11,10 @@ use cfi_frames::frame_lines::push_filled;
 use cfi_mapped::Name;
 use cfi_perf::Sample;
 use cfi_text::json::push_number;
+use cfi_text::line_buffer::{LineBuffer, push};
 use cfi_text::lines::write_text;
 use cfi_text::names::write_json_name;
 use cfi_text::numbers::push_decimal;
-use cfi_text::text::{Text, push};
 use std::io::Write;
 use std::{fmt, io};
 
@@ -51,13 +51,13 @@ fn write_number_members<W: Write>(output: &mut W, time: u64, sample: &Sample<'_>
     ensures { Writes (W.contents output.old) (W.contents output.new) result
         (number_members time (sample_view sample.now)) }
 {
-    let mut text = Text::new();
+    let mut text = LineBuffer::new();
     push_number_members(&mut text, time, sample)?;
     write_text(output, text.as_slice())
 }
 
 /// Appends what `write_number_members` writes. Fails where there is no room.
-fn push_number_members(text: &mut Text, time: u64, sample: &Sample<'_>) -> fmt::Result
+fn push_number_members(text: &mut LineBuffer, time: u64, sample: &Sample<'_>) -> fmt::Result
     ensures { OnOk result (text.new.items
         ≡ text.old.items ++ number_members time (sample_view sample.now)) }
 {
@@ -74,7 +74,7 @@ fn push_number_members(text: &mut Text, time: u64, sample: &Sample<'_>) -> fmt::
 }
 
 /// Appends the processor, if it is known. Fails where there is no room.
-fn push_cpu_member(text: &mut Text, cpu: Option<u32>) -> fmt::Result
+fn push_cpu_member(text: &mut LineBuffer, cpu: Option<u32>) -> fmt::Result
     ensures { OnOk result (text.new.items ≡ text.old.items ++ cpu_member cpu) }
 {
     match cpu {
@@ -88,12 +88,12 @@ fn push_cpu_member(text: &mut Text, cpu: Option<u32>) -> fmt::Result
 
 /// Appends a time in nanoseconds as seconds, with nine digits after the point. Fails where there is
 /// no room.
-fn push_nanoseconds(text: &mut Text, time: u64) -> fmt::Result
+fn push_nanoseconds(text: &mut LineBuffer, time: u64) -> fmt::Result
     ensures { OnOk result (text.new.items ≡ text.old.items ++ nanoseconds_text time) }
 {
     push_decimal(text, time / 1_000_000_000)?;
     push(text, b".")?;
-    let mut nanos = Text::new();
+    let mut nanos = LineBuffer::new();
     push_decimal(&mut nanos, time % 1_000_000_000)?;
     push_filled(text, b"000000000", nanos.as_slice())
 }

@@ -1,3 +1,5 @@
+pub mod NameLemmas
+mod WorkedNames
 pub mod DigitLemmas
 mod Printed
 pub mod WrittenLemmas

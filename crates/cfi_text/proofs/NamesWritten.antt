@@ -3,8 +3,8 @@ use Rattle.std.proofs.Common.{◌≡◌, ◌∙◌, ℕ, ◌+◌, ◌<◌, ◌�
 use Rattle.std.specs.List.{flat_map, list_all}
 use Rattle.std.proofs.Math.Seq.{drop-cons}
 use Rattle.std.proofs.lemmas.List.{drop_all}
-use Rattle.cfi_names.specs.Names.{NamePart, byte_escape, first_part, is_printable_ascii, parts}
-use Rattle.cfi_names.proofs.NameLemmas.{made_first, parts_plain}
+use Rattle.cfi_text.specs.Names.{NamePart, byte_escape, first_part, is_printable_ascii, parts}
+use Rattle.cfi_text.proofs.NameLemmas.{made_first, parts_plain}
 use Rattle.cfi_text.specs.JsonTexts.{json_escape, json_escaped, json_name, json_part}
 use Rattle.cfi_text.proofs.WrittenLemmas.{IsGiven}
 

@@ -7,10 +7,10 @@
 use Rattle.std.specs.Prelude.{ℕ, ◌/◌, ◌%◌, ◌^◌, Bool, true, false, ◌==◌, List, [], ◌∷◌, ◌++◌}
 use Rattle.std.specs.Prelude.{flat_map, nat_lt, codes, if◌then◌else◌}
 use Rattle.std.specs.Fmt.{decimal, digit_glyph}
-use Rattle.cfi_names.specs.Names.{NamePart, byte_digits, parts}
-use Rattle.cfi_names.specs.Utf8.{scalar}
-use Rattle.cfi_names.specs.declared.Kind.{Kind}
-use Rattle.cfi_names.specs.declared.Kind.TheVariants.{Shown, Control, Stray}
+use Rattle.cfi_text.specs.Names.{NamePart, byte_digits, parts}
+use Rattle.cfi_text.specs.Utf8.{scalar}
+use Rattle.cfi_text.specs.declared.name_parts.Kind.{Kind}
+use Rattle.cfi_text.specs.declared.name_parts.Kind.TheVariants.{Shown, Control, Stray}
 
 -- ---- numbers and strings
 

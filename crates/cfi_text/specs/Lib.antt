@@ -1,3 +1,5 @@
+pub mod Utf8
+pub mod Names
 pub mod Addresses
 pub mod ErrorWords
 pub mod WordTexts
@@ -7,3 +9,5 @@ pub mod JsonTexts
 pub mod WriterOutput
 pub mod RegisterNames
 pub mod Readings
+pub mod Beginnings
+pub mod InputRefusals

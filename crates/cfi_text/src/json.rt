@@ -4,10 +4,10 @@ ghost use Rattle.std.specs.Fmt.{decimal};
 ghost use Rattle.cfi_text.specs.JsonTexts.{json_escape, json_escaped, json_number};
 ghost use Rattle.cfi_text.specs.WriterOutput.{Writes};
 
+use crate::line_buffer::{LineBuffer, push};
 use crate::lines::write_text;
+use crate::name_parts::digit;
 use crate::numbers::push_decimal;
-use crate::text::{Text, push};
-use cfi_names::digit;
 use std::io::Write;
 use std::{fmt, io};
 
@@ -15,7 +15,7 @@ use std::{fmt, io};
 const EXACT: u64 = 1 << 53;
 
 /// Appends the number; the digits of one from 2^53 on are a string (section 6).
-pub fn push_number(text: &mut Text, number: u64) -> fmt::Result
+pub fn push_number(text: &mut LineBuffer, number: u64) -> fmt::Result
     ensures { OnOk result (text.new.items ≡ text.old.items ++ json_number number) }
 {
     if number < EXACT {
@@ -26,7 +26,7 @@ pub fn push_number(text: &mut Text, number: u64) -> fmt::Result
 }
 
 /// Appends the digits of the number as a string.
-fn push_quoted(text: &mut Text, number: u64) -> fmt::Result
+fn push_quoted(text: &mut LineBuffer, number: u64) -> fmt::Result
     ensures { OnOk result (text.new.items
         ≡ text.old.items ++ (codes "\"" ++ decimal number ++ codes "\"")) }
 {

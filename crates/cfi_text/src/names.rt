@@ -1,13 +1,13 @@
 //! Names of functions, files and threads, as they are written.
 ghost use Rattle.std.specs.Prelude.{◌++◌, codes, flat_map};
-ghost use Rattle.cfi_names.specs.Names.{byte_escape, name_part_view, shown, shown_part};
-ghost use Rattle.cfi_names.specs.Utf8.{scalar};
+ghost use Rattle.cfi_text.specs.Names.{byte_escape, name_part_view, shown, shown_part};
+ghost use Rattle.cfi_text.specs.Utf8.{scalar};
 ghost use Rattle.cfi_text.specs.JsonTexts.{json_name, json_part, number_escape};
 ghost use Rattle.cfi_text.specs.WriterOutput.{Writes};
 
 use crate::json::write_escaped;
 use crate::lines::write_text;
-use cfi_names::{Kind, Part, byte_escape, digit, first_part, is_plain, scalar};
+use crate::name_parts::{Kind, Part, byte_escape, digit, first_part, is_plain, scalar};
 use std::io;
 use std::io::Write;
 

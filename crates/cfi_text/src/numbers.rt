@@ -3,14 +3,14 @@ ghost use Rattle.std.specs.Prelude.{◌≡◌, ◌+◌, ◌/◌, ◌%◌, ◌<�
 ghost use Rattle.std.specs.Fmt.{decimal, digit_glyph, digits, signed_decimal};
 ghost use Rattle.cfi_text.specs.Lines.{address_text};
 
-use crate::text::{Text, push, push_byte, push_two};
-use cfi_names::digit;
+use crate::line_buffer::{LineBuffer, push, push_byte, push_two};
+use crate::name_parts::digit;
 use std::fmt;
 use std::fmt::{Display, Formatter};
 
 /// Appends the number in decimal digits. Fails where there is no room for them.
 #[inline(always)]
-pub fn push_decimal(text: &mut Text, number: u64) -> fmt::Result
+pub fn push_decimal(text: &mut LineBuffer, number: u64) -> fmt::Result
     ensures { OnOk result (text.new.items ≡ text.old.items ++ decimal number) }
 {
     if number < 10 {
@@ -24,7 +24,7 @@ pub fn push_decimal(text: &mut Text, number: u64) -> fmt::Result
 
 /// Appends the number, which has three decimal digits or more. Fails where there is no room for
 /// them.
-fn push_digits(text: &mut Text, number: u64) -> fmt::Result
+fn push_digits(text: &mut LineBuffer, number: u64) -> fmt::Result
     requires { 100 ≤ number }
     ensures { OnOk result (text.new.items ≡ text.old.items ++ decimal number) }
 {
@@ -42,7 +42,7 @@ fn push_digits(text: &mut Text, number: u64) -> fmt::Result
 
 /// Appends the number in two decimal digits. Fails where there is no room for them.
 #[inline(always)]
-fn push_decimal_pair(text: &mut Text, number: u8) -> fmt::Result
+fn push_decimal_pair(text: &mut LineBuffer, number: u8) -> fmt::Result
     requires { number < 100 }
     ensures { OnOk result (text.new.items
         ≡ text.old.items ++ (48 + number / 10) ∷ (48 + number % 10) ∷ []) }
@@ -53,7 +53,7 @@ fn push_decimal_pair(text: &mut Text, number: u8) -> fmt::Result
 /// Appends the number in decimal digits, after a minus sign where it is negative. Fails where there
 /// is no room for them.
 #[inline(always)]
-pub fn push_signed(text: &mut Text, number: i64) -> fmt::Result
+pub fn push_signed(text: &mut LineBuffer, number: i64) -> fmt::Result
     ensures { OnOk result (text.new.items ≡ text.old.items ++ signed_decimal number) }
 {
     if number < 0 {
@@ -64,7 +64,7 @@ pub fn push_signed(text: &mut Text, number: i64) -> fmt::Result
 
 /// Appends the address, as `0x` and lower-case digits. Fails where there is no room for them.
 #[inline(always)]
-pub fn push_address(text: &mut Text, address: u64) -> fmt::Result
+pub fn push_address(text: &mut LineBuffer, address: u64) -> fmt::Result
     ensures { OnOk result (text.new.items ≡ text.old.items ++ address_text address) }
 {
     // Addresses of code mostly have five to seven digits, which are appended in one copy.
@@ -77,7 +77,7 @@ pub fn push_address(text: &mut Text, address: u64) -> fmt::Result
 
 /// Appends an address of five to seven digits. Fails where there is no room for them.
 #[inline(always)]
-fn push_short_address(text: &mut Text, address: u32) -> fmt::Result
+fn push_short_address(text: &mut LineBuffer, address: u32) -> fmt::Result
     requires least { 65536 ≤ address }
     requires most { address < 268435456 }
     ensures { OnOk result (text.new.items ≡ text.old.items ++ address_text address) }
@@ -93,7 +93,7 @@ fn push_short_address(text: &mut Text, address: u32) -> fmt::Result
 
 /// Appends `0x` and the number in five digits. Fails where there is no room for them.
 #[inline(always)]
-fn push_five(text: &mut Text, number: u32) -> fmt::Result
+fn push_five(text: &mut LineBuffer, number: u32) -> fmt::Result
     requires { number < 1048576 }
     ensures { OnOk result (text.new.items ≡ text.old.items ++ (48 ∷ 120
         ∷ digit_glyph false (number / 65536) ∷ digit_glyph false (number / 4096 % 16)
@@ -110,7 +110,7 @@ fn push_five(text: &mut Text, number: u32) -> fmt::Result
 
 /// Appends `0x` and the number in six digits. Fails where there is no room for them.
 #[inline(always)]
-fn push_six(text: &mut Text, number: u32) -> fmt::Result
+fn push_six(text: &mut LineBuffer, number: u32) -> fmt::Result
     requires { number < 16777216 }
     ensures { OnOk result (text.new.items ≡ text.old.items ++ (48 ∷ 120
         ∷ digit_glyph false (number / 1048576) ∷ digit_glyph false (number / 65536 % 16)
@@ -131,7 +131,7 @@ fn push_six(text: &mut Text, number: u32) -> fmt::Result
 
 /// Appends `0x` and the number in seven digits. Fails where there is no room for them.
 #[inline(always)]
-fn push_seven(text: &mut Text, number: u32) -> fmt::Result
+fn push_seven(text: &mut LineBuffer, number: u32) -> fmt::Result
     requires { number < 268435456 }
     ensures { OnOk result (text.new.items ≡ text.old.items ++ (48 ∷ 120
         ∷ digit_glyph false (number / 16777216) ∷ digit_glyph false (number / 1048576 % 16)
@@ -155,7 +155,7 @@ fn push_seven(text: &mut Text, number: u32) -> fmt::Result
 }
 
 /// Appends the number in lower-case hexadecimal digits. Fails where there is no room for them.
-fn push_hexadecimal(text: &mut Text, number: u64) -> fmt::Result
+fn push_hexadecimal(text: &mut LineBuffer, number: u64) -> fmt::Result
     ensures { OnOk result (text.new.items ≡ text.old.items ++ digits 16 false number) }
 {
     if number < 0x1_0000 {
@@ -170,7 +170,7 @@ fn push_hexadecimal(text: &mut Text, number: u64) -> fmt::Result
 
 /// Appends the number in five to eight hexadecimal digits. Fails where there is no room for them.
 #[inline(always)]
-fn push_eight(text: &mut Text, number: u32) -> fmt::Result
+fn push_eight(text: &mut LineBuffer, number: u32) -> fmt::Result
     requires { 65536 ≤ number }
     ensures { OnOk result (text.new.items ≡ text.old.items ++ digits 16 false number) }
 {
@@ -180,7 +180,7 @@ fn push_eight(text: &mut Text, number: u32) -> fmt::Result
 
 /// Appends the number in one to four hexadecimal digits. Fails where there is no room for them.
 #[inline(always)]
-fn push_few(text: &mut Text, number: u16) -> fmt::Result
+fn push_few(text: &mut LineBuffer, number: u16) -> fmt::Result
     ensures { OnOk result (text.new.items ≡ text.old.items ++ digits 16 false number) }
 {
     if number >= 0x1000 {
@@ -196,7 +196,7 @@ fn push_few(text: &mut Text, number: u16) -> fmt::Result
 
 /// Appends the number in four hexadecimal digits. Fails where there is no room for them.
 #[inline(always)]
-fn push_four(text: &mut Text, number: u16) -> fmt::Result
+fn push_four(text: &mut LineBuffer, number: u16) -> fmt::Result
     ensures { OnOk result (text.new.items ≡ text.old.items
         ++ digit_glyph false (number / 4096) ∷ digit_glyph false (number / 256 % 16)
         ∷ digit_glyph false (number / 16 % 16) ∷ digit_glyph false (number % 16) ∷ []) }
@@ -209,7 +209,7 @@ fn push_four(text: &mut Text, number: u16) -> fmt::Result
 
 /// Appends the number in three hexadecimal digits. Fails where there is no room for them.
 #[inline(always)]
-fn push_three(text: &mut Text, number: u16) -> fmt::Result
+fn push_three(text: &mut LineBuffer, number: u16) -> fmt::Result
     requires { number < 4096 }
     ensures { OnOk result (text.new.items ≡ text.old.items
         ++ digit_glyph false (number / 256) ∷ digit_glyph false (number / 16 % 16)
@@ -222,7 +222,7 @@ fn push_three(text: &mut Text, number: u16) -> fmt::Result
 
 /// Appends the number in two hexadecimal digits. Fails where there is no room for them.
 #[inline(always)]
-fn push_pair(text: &mut Text, number: u8) -> fmt::Result
+fn push_pair(text: &mut LineBuffer, number: u8) -> fmt::Result
     ensures { OnOk result (text.new.items ≡ text.old.items
         ++ digit_glyph false (number / 16) ∷ digit_glyph false (number % 16) ∷ []) }
 {

@@ -2,7 +2,7 @@ use Rattle.std.proofs.Common.{ℕ, List, inl, inr, refl}
 use Rattle.cfi_flame.specs.declared.folded.FoldedError.TheVariants as folded
 use Rattle.cfi_text.specs.declared.reading.InputError.{InputError}
 use Rattle.cfi_text.specs.declared.reading.InputError.TheVariants.{Unreadable, NotHexadecimal, OutOfMemory}
-use Rattle.cfi_inputs.specs.Refusals.{input_refusal}
+use Rattle.cfi_text.specs.InputRefusals.{input_refusal}
 use Rattle.cfi_commands.proofs.FlameLemmas.{owed_of_read}
 use Rattle.cfi_commands.specs.FlameOutputs.{IsSummaryOutput, IsSummaryOwed, IsSummaryRefused, OfStacks, summary_format, graph, summary_view, table}
 use Rattle.cfi_commands.proofs.flames.print_folded.Goals as goal

@@ -1,5 +1,5 @@
 use Rattle.std.proofs.Common.{◌∙◌, sym}
-use Rattle.cfi_names.proofs.NameLemmas.{all_shown}
+use Rattle.cfi_text.proofs.NameLemmas.{all_shown}
 use Rattle.cfi_text.proofs.NamesWritten.{named_end}
 use Rattle.cfi_dump.proofs.function_line.push_named_end.Goals as goal
 

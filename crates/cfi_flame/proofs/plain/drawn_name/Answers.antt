@@ -1,7 +1,7 @@
 use Rattle.std.proofs.Common.{◌∙◌, sym, length}
 use Rattle.std.proofs.lemmas.List.{take_rest}
-use Rattle.cfi_names.specs.Names.{name_part_view}
-use Rattle.cfi_names.proofs.NameLemmas.{one_made, some_left}
+use Rattle.cfi_text.specs.Names.{name_part_view}
+use Rattle.cfi_text.proofs.NameLemmas.{one_made, some_left}
 use Rattle.cfi_flame.specs.PlainTexts.{drawn_part}
 use Rattle.cfi_flame.proofs.plain.drawn_name.Goals as goal
 

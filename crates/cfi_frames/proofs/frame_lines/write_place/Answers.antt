@@ -1,5 +1,5 @@
 use Rattle.std.proofs.Common.{◌++◌, codes}
-use Rattle.cfi_names.specs.Names.{shown}
+use Rattle.cfi_text.specs.Names.{shown}
 use Rattle.cfi_text.specs.Lines.{address_text}
 use Rattle.cfi_text.proofs.PartsWritten.{first_refused, last_written}
 use Rattle.cfi_frames.proofs.frame_lines.write_place.Goals as goal

@@ -1,5 +1,5 @@
 use Rattle.std.proofs.Common.{sym, ◌∙◌}
-use Rattle.cfi_names.proofs.NameLemmas.{all_shown}
+use Rattle.cfi_text.proofs.NameLemmas.{all_shown}
 use Rattle.cfi_frames.proofs.names.push_known_name.Goals as goal
 
 pub returns-then-name : goal.returns-then-name

@@ -1,6 +1,6 @@
 use Rattle.std.proofs.Common.{◌++◌, ap}
 use Rattle.cfi_read_core.specs.ReaderCalls.{bytes_left}
-use Rattle.cfi_names.specs.Names.{byte_digits}
+use Rattle.cfi_text.specs.Names.{byte_digits}
 use Rattle.cfi_row_text.specs.ExpressionWords.{hexadecimal_bytes}
 use Rattle.cfi_row_text.proofs.ExpressionWordsWritten.{byte_first, fewer_bytes, given_as, no_bytes}
 use Rattle.cfi_text.proofs.WrittenLemmas.{beginning_then, given_all, given_then, writes_refused}

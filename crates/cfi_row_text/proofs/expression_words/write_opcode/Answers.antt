@@ -1,6 +1,6 @@
 use Rattle.std.proofs.Common.{◌++◌, codes}
 use Rattle.cfi_read_core.specs.ReaderCalls.{bytes_left}
-use Rattle.cfi_names.specs.Names.{byte_digits}
+use Rattle.cfi_text.specs.Names.{byte_digits}
 use Rattle.cfi_row_text.specs.ExpressionWords.{bytes_text}
 use Rattle.cfi_text.proofs.PartsWritten.{first_refused, last_written}
 use Rattle.cfi_row_text.proofs.expression_words.write_opcode.Goals as goal

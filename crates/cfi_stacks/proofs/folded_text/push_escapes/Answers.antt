@@ -1,5 +1,5 @@
 use Rattle.std.proofs.Common.{◌∙◌, ◌++◌, ℕ, List, ap, map}
-use Rattle.cfi_names.specs.Names.{byte_escape}
+use Rattle.cfi_text.specs.Names.{byte_escape}
 use Rattle.cfi_stacks.specs.FoldedTexts.{harmless}
 use Rattle.cfi_stacks.proofs.FoldLemmas.{one_mapped}
 use Rattle.cfi_stacks.proofs.folded_text.push_escapes.Goals as goal

@@ -1,6 +1,6 @@
 use Rattle.std.proofs.Common.{◌≡◌, ◌++◌, drop, map}
 use Rattle.std.specs.List.{flat_map}
-use Rattle.cfi_names.specs.Names.{byte_escape}
+use Rattle.cfi_text.specs.Names.{byte_escape}
 use Rattle.cfi_stacks.specs.FoldedTexts.{harmless}
 use Rattle.cfi_stacks.proofs.folded_text.push_escapes.Given as goal
 

@@ -1,7 +1,7 @@
 use Rattle.std.proofs.Common.{◌∙◌, length, sym}
 use Rattle.std.proofs.lemmas.List.{take_rest}
-use Rattle.cfi_names.specs.Names.{name_part_view}
-use Rattle.cfi_names.proofs.NameLemmas.{all_shown, some_left}
+use Rattle.cfi_text.specs.Names.{name_part_view}
+use Rattle.cfi_text.proofs.NameLemmas.{all_shown, some_left}
 use Rattle.cfi_stacks.specs.FoldedTexts.{harmless}
 use Rattle.cfi_stacks.proofs.FoldLemmas.{one_named_part}
 use Rattle.cfi_stacks.proofs.folded_text.push_name.Goals as goal

@@ -1,5 +1,5 @@
 use Rattle.std.proofs.Common.{ℕ, List, Option, inr, refl, subst, sym}
-use Rattle.cfi_inputs.specs.Refusals.{input_refusal}
+use Rattle.cfi_text.specs.InputRefusals.{input_refusal}
 use Rattle.cfi_stacks.specs.Choices.{choice_view}
 use Rattle.cfi_stacks.specs.ProfileIndexes.{IsReadAround}
 use Rattle.cfi_stacks.specs.ProfileOutputs.{listing_format}

@@ -1,5 +1,5 @@
 use Rattle.std.proofs.Common.{◌∙◌, ap, inr, map, refl}
-use Rattle.cfi_inputs.specs.Refusals.{input_refusal}
+use Rattle.cfi_text.specs.InputRefusals.{input_refusal}
 use Rattle.cfi_mapped.specs.Wanted.{wanted_view}
 use Rattle.cfi_stacks.specs.Choices.{choice_view}
 use Rattle.cfi_stacks.specs.ProfileOutputs.{listing_format}

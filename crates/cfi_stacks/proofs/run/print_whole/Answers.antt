@@ -1,5 +1,5 @@
 use Rattle.std.proofs.Common.{inr, refl}
-use Rattle.cfi_inputs.specs.Refusals.{input_refusal}
+use Rattle.cfi_text.specs.InputRefusals.{input_refusal}
 use Rattle.cfi_stacks.specs.ProfileOutputs.{listing_format}
 use Rattle.cfi_frames.proofs.InputLemmas.{for_input}
 use Rattle.cfi_stacks.proofs.NoticeLemmas.{input_refused, left_said, refused_says, says_then}

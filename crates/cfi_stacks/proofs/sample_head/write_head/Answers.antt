@@ -1,5 +1,5 @@
 use Rattle.cfi_perf.specs.Samples.{sample_view}
-use Rattle.cfi_names.specs.Names.{shown}
+use Rattle.cfi_text.specs.Names.{shown}
 use Rattle.cfi_text.proofs.PartsWritten.{first_refused, last_written}
 use Rattle.cfi_mapped.specs.ThreadNames.{name_bytes}
 use Rattle.cfi_stacks.specs.SampleHeads.{numbers_text, thread_name_text}

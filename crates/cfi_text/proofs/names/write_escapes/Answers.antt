@@ -1,6 +1,6 @@
 use Rattle.std.proofs.Common.{◌+◌, drop, arith}
 use Rattle.std.specs.List.{flat_map}
-use Rattle.cfi_names.specs.Names.{byte_escape}
+use Rattle.cfi_text.specs.Names.{byte_escape}
 use Rattle.cfi_text.proofs.NamesWritten.{next_escape, no_escape}
 use Rattle.cfi_text.proofs.WrittenLemmas.{beginning_then, given_all, given_then, writes_refused}
 use Rattle.cfi_text.proofs.names.write_escapes.Goals as goal

@@ -1,6 +1,6 @@
 use Rattle.std.proofs.Common.{drop}
 use Rattle.std.specs.List.{flat_map}
-use Rattle.cfi_names.specs.Names.{byte_escape}
+use Rattle.cfi_text.specs.Names.{byte_escape}
 use Rattle.cfi_text.proofs.WrittenLemmas.{IsGiven}
 use Rattle.cfi_text.proofs.names.write_escapes.Given as goal
 

@@ -1,7 +1,7 @@
 use Rattle.std.proofs.Common.{◌∙◌, sym, drop, length}
 use Rattle.std.proofs.lemmas.List.{take_rest}
-use Rattle.cfi_names.proofs.NameLemmas.{some_left}
-use Rattle.cfi_names.specs.Names.{name_part_view, shown, shown_part}
+use Rattle.cfi_text.proofs.NameLemmas.{some_left}
+use Rattle.cfi_text.specs.Names.{name_part_view, shown, shown_part}
 use Rattle.cfi_text.proofs.NamesWritten.{next_part, part_behind}
 use Rattle.cfi_text.proofs.WrittenLemmas.{beginning_then, given_then, writes_refused}
 use Rattle.cfi_text.proofs.names.write_parts.Goals as goal

@@ -1,5 +1,5 @@
 use Rattle.std.proofs.Common.{length}
-use Rattle.cfi_names.specs.Names.{shown}
+use Rattle.cfi_text.specs.Names.{shown}
 use Rattle.cfi_text.proofs.WrittenLemmas.{IsGiven}
 use Rattle.cfi_text.proofs.names.write_parts.Given as goal
 

@@ -1,8 +1,8 @@
 use Rattle.std.proofs.Common.{◌∙◌, sym, length}
 use Rattle.std.proofs.lemmas.List.{take_rest}
-use Rattle.cfi_names.specs.Names.{name_part_view, shown_part}
-use Rattle.cfi_names.proofs.NameLemmas.{one_made, some_left}
-use Rattle.cfi_names.proofs.shown_name.Goals as goal
+use Rattle.cfi_text.specs.Names.{name_part_view, shown_part}
+use Rattle.cfi_text.proofs.NameLemmas.{one_made, some_left}
+use Rattle.cfi_text.proofs.name_parts.shown_name.Goals as goal
 
 pub loop-left-preserved : goal.loop-left-preserved
 loop-left-preserved c =

@@ -1,6 +1,6 @@
 //! The characters of UTF-8 (The Unicode Standard, section 3.9).
 ghost use Rattle.std.specs.Prelude.{◌≡◌};
-ghost use Rattle.cfi_names.specs.Utf8.{scalar, sequence_length};
+ghost use Rattle.cfi_text.specs.Utf8.{scalar, sequence_length};
 
 /// Returns how many bytes the character of UTF-8 has that the bytes begin with, 0 where they begin
 /// with none (The Unicode Standard, Table 3-7).

@@ -1,10 +1,10 @@
 //! Inputs that are read on only if they begin as a file that is asked about does.
 ghost use Rattle.std.specs.Prelude.{◌≡◌, IfErr, IfOk, IfSome};
 ghost use Rattle.cfi_text.specs.Readings.{IsReadRefused};
-ghost use Rattle.cfi_inputs.specs.Beginnings.{IsReadAsEither, begins_as_elf};
-ghost use Rattle.cfi_inputs.specs.Beginnings.{begins_as_profile, may_be_either};
+ghost use Rattle.cfi_text.specs.Beginnings.{IsReadAsEither, begins_as_elf};
+ghost use Rattle.cfi_text.specs.Beginnings.{begins_as_profile, may_be_either};
 
-use cfi_text::reading::{InputError, read_more, room};
+use crate::reading::{InputError, read_more, room};
 use std::alloc::Global;
 use std::io::Read;
 

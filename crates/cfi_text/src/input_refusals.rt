@@ -1,11 +1,11 @@
 //! The line that says why an input wasn't read.
 ghost use Rattle.cfi_text.specs.WriterOutput.{Prints};
-ghost use Rattle.cfi_inputs.specs.Refusals.{input_refusal};
+ghost use Rattle.cfi_text.specs.InputRefusals.{input_refusal};
 
-use cfi_text::reading::InputError;
-use cfi_text::refusals::{write_reason, write_refusal_in};
-use cfi_text::style::Format;
-use gimli_cfi::Error;
+use crate::reading::InputError;
+use crate::refusals::{write_reason, write_refusal_in};
+use crate::style::Format;
+use cfi_read_core::Error;
 use std::io;
 use std::io::Write;
 

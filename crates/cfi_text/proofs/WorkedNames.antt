@@ -1,7 +1,7 @@
 -- Names that are worked out from the definitions alone.
 use Rattle.std.proofs.Common.{◌≡◌, [], ◌∷◌, ◌++◌, codes, refl}
-use Rattle.cfi_names.specs.Utf8.{scalar, sequence_length}
-use Rattle.cfi_names.specs.Names.{shown}
+use Rattle.cfi_text.specs.Utf8.{scalar, sequence_length}
+use Rattle.cfi_text.specs.Names.{shown}
 
 -- ---- characters of one to four bytes, the first and the last of each length (Table 3-6)
 

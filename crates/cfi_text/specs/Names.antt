@@ -6,10 +6,10 @@ use Rattle.std.specs.Prelude.{ℕ, ◌-◌, ◌/◌, ◌%◌, ◌==◌, ◌&&◌
 use Rattle.std.specs.Prelude.{codes, false, flat_map, length, nat_le, nat_lt, suc, take, zero}
 use Rattle.std.specs.Prelude.{if◌then◌else◌}
 use Rattle.std.specs.Fmt.{digit_glyph}
-use Rattle.cfi_names.specs.declared.Kind.{Kind}
-use Rattle.cfi_names.specs.declared.Kind.TheVariants.{Shown, Control, Stray}
-use Rattle.cfi_names.specs.declared.Part.{Part as PartOfCode}
-use Rattle.cfi_names.specs.Utf8.{scalar, sequence_length}
+use Rattle.cfi_text.specs.declared.name_parts.Kind.{Kind}
+use Rattle.cfi_text.specs.declared.name_parts.Kind.TheVariants.{Shown, Control, Stray}
+use Rattle.cfi_text.specs.declared.name_parts.Part.{Part as PartOfCode}
+use Rattle.cfi_text.specs.Utf8.{scalar, sequence_length}
 
 -- ---- the parts of a name
 

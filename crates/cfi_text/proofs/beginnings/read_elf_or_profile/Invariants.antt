@@ -1,5 +1,5 @@
 use Rattle.std.specs.Io.KnownBytes.{Consumes}
-use Rattle.cfi_inputs.proofs.beginnings.read_elf_or_profile.Given as goal
+use Rattle.cfi_text.proofs.beginnings.read_elf_or_profile.Given as goal
 
 abbrev pub invariant-loop : goal.invariant-loop
 invariant-loop g l = Consumes (g.R.Read.remaining l.initial.input) (g.R.Read.remaining l.input) l.bytes.items

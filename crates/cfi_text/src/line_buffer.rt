@@ -8,11 +8,11 @@ use std::io::Write;
 use std::{fmt, io};
 
 /// Text that is not written yet, of at most 1024 bytes.
-pub type Text = ArrayVec<u8, 1024>;
+pub type LineBuffer = ArrayVec<u8, 1024>;
 
 /// Appends the bytes. Fails where there is no room for them.
 #[inline(always)]
-pub fn push(text: &mut Text, bytes: &[u8]) -> fmt::Result
+pub fn push(text: &mut LineBuffer, bytes: &[u8]) -> fmt::Result
     ensures { OnOk result (text.new.items ≡ text.old.items ++ bytes.now) }
 {
     match text.try_extend_from_slice(bytes) {
@@ -23,7 +23,7 @@ pub fn push(text: &mut Text, bytes: &[u8]) -> fmt::Result
 
 /// Appends the byte. Fails where there is no room for it.
 #[inline(always)]
-pub(crate) fn push_byte(text: &mut Text, byte: u8) -> fmt::Result
+pub(crate) fn push_byte(text: &mut LineBuffer, byte: u8) -> fmt::Result
     ensures { OnOk result (text.new.items ≡ text.old.items ++ byte ∷ []) }
 {
     match text.try_push(byte) {
@@ -34,14 +34,14 @@ pub(crate) fn push_byte(text: &mut Text, byte: u8) -> fmt::Result
 
 /// Appends two bytes. Fails where there is no room for them.
 #[inline(always)]
-pub(crate) fn push_two(text: &mut Text, first: u8, second: u8) -> fmt::Result
+pub(crate) fn push_two(text: &mut LineBuffer, first: u8, second: u8) -> fmt::Result
     ensures { OnOk result (text.new.items ≡ text.old.items ++ first ∷ second ∷ []) }
 {
     push(text, &[first, second])
 }
 
 /// Writes the text. There is none left.
-pub fn write_out<W: Write>(output: &mut W, text: &mut Text) -> io::Result<()>
+pub fn write_out<W: Write>(output: &mut W, text: &mut LineBuffer) -> io::Result<()>
     ensures written { Writes (W.contents output.old) (W.contents output.new) result text.old.items }
     ensures empty { OnOk result (text.new.items ≡ []) }
 {

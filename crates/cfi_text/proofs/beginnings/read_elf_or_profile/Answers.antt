@@ -1,8 +1,8 @@
 use Rattle.std.proofs.Common.{rules, ◌≡◌, ◌∙◌, ◌++◌, ℕ, Bool, List, Option, Some, None, IfSome, ap, append_assoc, false, inl, inr, sym}
 use Rattle.std.specs.Io.KnownBytes.{Consumes}
 use Rattle.cfi_text.specs.Readings.{IsAppended}
-use Rattle.cfi_inputs.specs.Beginnings.{IsReadAsEither, may_be_either}
-use Rattle.cfi_inputs.proofs.beginnings.read_elf_or_profile.Goals as goal
+use Rattle.cfi_text.specs.Beginnings.{IsReadAsEither, may_be_either}
+use Rattle.cfi_text.proofs.beginnings.read_elf_or_profile.Goals as goal
 
 -- the first bytes, where they are those of another format
 first_read : (old new : Option (List ℕ)) (read : List ℕ) → Consumes old new read → may_be_either read ≡ false → IfSome old (IsReadAsEither read)

@@ -1,20 +1,16 @@
 //! Names of functions, files and threads, as they are printed: UTF-8 as it is, but for control
 //! characters, which are escaped as `\x1b`, as is each byte that isn't UTF-8. So no name moves a
 //! terminal's cursor or breaks a line.
-#![tactic(auto)]
-
 ghost use Rattle.std.specs.Prelude.{◌≡◌, ◌<◌, ◌++◌, IfOk, OnOk, false, flat_map, length};
 ghost use Rattle.std.specs.Fmt.{digit_glyph};
 ghost use Rattle.std.specs.List.{list_all};
-ghost use Rattle.cfi_names.specs.Names.{byte_escape, first_part, is_control};
-ghost use Rattle.cfi_names.specs.Names.{is_printable_ascii, kind_of, name_part_view, shown};
-ghost use Rattle.cfi_names.specs.Names.{shown_part};
+ghost use Rattle.cfi_text.specs.Names.{byte_escape, first_part, is_control};
+ghost use Rattle.cfi_text.specs.Names.{is_printable_ascii, kind_of, name_part_view, shown};
+ghost use Rattle.cfi_text.specs.Names.{shown_part};
 
-mod utf8;
-
+pub use crate::utf8::scalar;
+use crate::utf8::sequence_length;
 use std::alloc::{AllocError, Global};
-pub use utf8::scalar;
-use utf8::sequence_length;
 
 /// What a part of a name is.
 #[derive(Clone, Copy, Debug, PartialEq, Eq)]

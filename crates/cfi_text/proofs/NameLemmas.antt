@@ -4,9 +4,9 @@ use Rattle.std.specs.List.{flat_map, list_all}
 use Rattle.std.proofs.lemmas.List.{length-take}
 use Rattle.std.proofs.Math.Dec.{leb-zero}
 use Rattle.std.proofs.lemmas.Bool.{and_parts, le-leb, le-ltb, leb-true, lt-leb, ltb-true}
-use Rattle.cfi_names.specs.declared.Kind.TheVariants.{Shown}
-use Rattle.cfi_names.specs.Utf8.{begins, sequence_length}
-use Rattle.cfi_names.specs.Names.{NamePart, first_part, is_printable_ascii, kind_of, parts, parts_after, shown, shown_part}
+use Rattle.cfi_text.specs.declared.name_parts.Kind.TheVariants.{Shown}
+use Rattle.cfi_text.specs.Utf8.{begins, sequence_length}
+use Rattle.cfi_text.specs.Names.{NamePart, first_part, is_printable_ascii, kind_of, parts, parts_after, shown, shown_part}
 
 -- ---- the first part, and the others
 

@@ -1,2 +1,0 @@
-pub mod Utf8
-pub mod Names
