@@ -1,4 +1,5 @@
 pub mod NameLemmas
+pub mod TextLemmas
 mod WorkedNames
 pub mod DigitLemmas
 mod Printed

@@ -1,11 +1,11 @@
 -- A name part by part.
-use Rattle.std.proofs.Common.{◌≡◌, ◌∙◌, ℕ, ◌-◌, ◌<◌, ◌≤◌, ◌==◌, ◌&&◌, Bool, true, false, List, [], ◌∷◌, ◌++◌, length, take, drop, nat_le, nat_lt, refl, sym, ap, subst, zero, suc, arith, append_assoc}
+use Rattle.std.proofs.Common.{◌≡◌, ◌∙◌, ℕ, ◌-◌, ◌<◌, ◌≤◌, ◌==◌, ◌&&◌, Bool, Some, true, false, List, [], ◌∷◌, ◌++◌, length, take, drop, nat_le, nat_lt, refl, sym, ap, subst, zero, suc, arith, append_assoc}
 use Rattle.std.specs.List.{flat_map, list_all}
-use Rattle.std.proofs.lemmas.List.{length-take}
-use Rattle.std.proofs.Math.Dec.{leb-zero}
-use Rattle.std.proofs.lemmas.Bool.{and_parts, le-leb, le-ltb, leb-true, lt-leb, ltb-true}
+use Rattle.std.proofs.lemmas.List.{length-take, length-drop}
+use Rattle.std.proofs.lemmas.Bool.{and_parts, le-leb, lt-ltb, le-ltb, leb-true, lt-leb, ltb-true}
+use Rattle.bstr.specs.Utf8.{decoded}
+use Rattle.bstr.proofs.lemmas.PieceLemmas.{piece-bounds}
 use Rattle.cfi_text.specs.declared.name_parts.Kind.TheVariants.{Shown}
-use Rattle.cfi_text.specs.Utf8.{begins, sequence_length}
 use Rattle.cfi_text.specs.Names.{NamePart, first_part, is_printable_ascii, kind_of, parts, parts_after, shown, shown_part}
 
 -- ---- the first part, and the others
@@ -16,26 +16,29 @@ rest_behind (suc k) [] = refl
 rest_behind (suc k) (b ∷ bytes) = rest_behind k bytes
 
 -- it has a byte, and no more than there are
-some_taken : (n : ℕ) (b : ℕ) (bytes : List ℕ) → (n == 0) ≡ false → 0 < length (take n (b ∷ bytes))
-some_taken zero b bytes h = cc h
-some_taken (suc n) b bytes h = omega arith
+pub size_within : (bytes : List ℕ) → 0 < length bytes → (decoded bytes).size ≤ length bytes
+size_within bytes some = (piece-bounds bytes some).2
+
+some_taken : (n : ℕ) (bytes : List ℕ) → 1 ≤ n → 0 < length bytes → 0 < length (take n bytes)
+some_taken n bytes one some = rw length-take (omega (arith, one, some))
 
 pub first_some : (b : ℕ) (bytes : List ℕ) → 0 < length (first_part (b ∷ bytes)).bytes
-first_some b bytes = by (sequence_length (b ∷ bytes) == 0) refl
-  where
-    by : (none : Bool) → (sequence_length (b ∷ bytes) == 0) ≡ none → 0 < length (first_part (b ∷ bytes)).bytes
-    by true is = rw is (omega arith)
-    by false is = rw is (some_taken (sequence_length (b ∷ bytes)) b bytes is)
+first_some b bytes = some_taken (decoded (b ∷ bytes)).size (b ∷ bytes) (piece-bounds (b ∷ bytes) (omega arith)).0 (omega arith)
 
 few_taken : (n : ℕ) (bytes : List ℕ) → length (take n bytes) ≤ length bytes
 few_taken n bytes = rw length-take (omega arith)
 
 pub first_within : (bytes : List ℕ) → length (first_part bytes).bytes ≤ length bytes
-first_within bytes = by (sequence_length bytes == 0) refl
-  where
-    by : (none : Bool) → (sequence_length bytes == 0) ≡ none → length (first_part bytes).bytes ≤ length bytes
-    by true is = rw is (few_taken 1 bytes)
-    by false is = rw is (few_taken (sequence_length bytes) bytes)
+first_within bytes = few_taken (decoded bytes).size bytes
+
+pub part_within : (bytes : List ℕ) (part : NamePart) → part ≡ first_part bytes → length part.bytes ≤ length bytes
+part_within bytes part is = subst (λ (p : NamePart). length p.bytes ≤ length bytes) (sym is) (first_within bytes)
+
+pub left_smaller : (bytes : List ℕ) (part : NamePart) (left : List ℕ) → 0 < length bytes → part ≡ first_part bytes → left ≡ drop (length part.bytes) bytes → length left < length bytes
+left_smaller [] part left h is rest = absurd (omega (arith, h))
+left_smaller (b ∷ bytes) part left h is rest =
+    let some : 0 < length part.bytes = subst (λ (p : NamePart). 0 < length p.bytes) (sym is) (first_some b bytes) in
+    rw (rest, length-drop) (omega (arith, some))
 
 drop_one : (k b : ℕ) (bytes : List ℕ) → 0 < k → drop (k - 1) bytes ≡ drop k (b ∷ bytes)
 drop_one zero b bytes h = absurd (omega (arith, h))
@@ -68,12 +71,12 @@ one_made f bytes line part left next all some first is e h =
 
 -- ---- most names
 
-plain_begins : (b : ℕ) (bytes : List ℕ) → is_printable_ascii b ≡ true → begins ((0x00, 0x7f) ∷ []) (b ∷ bytes) ≡ true
-plain_begins b bytes h =
-    let below : b < 0x7f = ltb-true b 0x7f (and_parts (nat_le 0x20 b) (nat_lt b 0x7f) h).1 in
-    rw (leb-zero b, le-leb b 0x7f (omega (arith, below))) refl
+plain_decoded : (b : ℕ) (bytes : List ℕ) → is_printable_ascii b ≡ true → decoded (b ∷ bytes) ≡ record { char = Some b; size = 1 }
+plain_decoded b bytes h =
+    let below : b < 0x80 = omega (arith, ltb-true b 0x7f (and_parts (nat_le 0x20 b) (nat_lt b 0x7f) h).1) in
+    rw (lt-ltb b 0x80 below) refl
 
-plain_kind : (b : ℕ) → is_printable_ascii b ≡ true → kind_of (b ∷ []) ≡ Shown
+plain_kind : (b : ℕ) → is_printable_ascii b ≡ true → kind_of (Some b) ≡ Shown
 plain_kind b h =
     let both = and_parts (nat_le 0x20 b) (nat_lt b 0x7f) h in
     let above : 0x20 ≤ b = leb-true 0x20 b both.0 in
@@ -81,9 +84,7 @@ plain_kind b h =
     rw (le-ltb b 0x20 above, lt-leb 0x7f b below) refl
 
 plain_part : (b : ℕ) (bytes : List ℕ) → is_printable_ascii b ≡ true → first_part (b ∷ bytes) ≡ record { kind = Shown; bytes = b ∷ [] }
-plain_part b bytes h =
-    let one : sequence_length (b ∷ bytes) ≡ 1 = rw (plain_begins b bytes h) refl in
-    rw (one, plain_kind b h) refl
+plain_part b bytes h = rw (plain_decoded b bytes h, plain_kind b h) refl
 
 pub parts_plain : (b : ℕ) (bytes : List ℕ) → is_printable_ascii b ≡ true → parts (b ∷ bytes) ≡ record { kind = Shown; bytes = b ∷ [] } ∷ parts bytes
 parts_plain b bytes h = rw (plain_part b bytes h) refl

@@ -7,8 +7,7 @@
 use Rattle.std.specs.Prelude.{ℕ, ◌/◌, ◌%◌, ◌^◌, Bool, true, false, ◌==◌, List, [], ◌∷◌, ◌++◌}
 use Rattle.std.specs.Prelude.{flat_map, nat_lt, codes, if◌then◌else◌}
 use Rattle.std.specs.Fmt.{decimal, digit_glyph}
-use Rattle.cfi_text.specs.Names.{NamePart, byte_digits, parts}
-use Rattle.cfi_text.specs.Utf8.{scalar}
+use Rattle.cfi_text.specs.Names.{NamePart, byte_digits, parts, scalar}
 use Rattle.cfi_text.specs.declared.name_parts.Kind.{Kind}
 use Rattle.cfi_text.specs.declared.name_parts.Kind.TheVariants.{Shown, Control, Stray}
 
@@ -40,7 +39,7 @@ number_escape n =
 abbrev pub json_kind : Kind → List ℕ → List ℕ
 json_kind Shown bytes = json_escaped bytes
 json_kind Control bytes = number_escape (scalar bytes)
-json_kind Stray bytes = codes "\\ufffd"
+json_kind Stray bytes = flat_map (λ byte. codes "\\ufffd") bytes
 
 abbrev pub json_part : NamePart → List ℕ
 json_part part = json_kind part.kind part.bytes

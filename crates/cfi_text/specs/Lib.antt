@@ -1,5 +1,6 @@
-pub mod Utf8
 pub mod Names
+pub mod Texts
+pub mod Escapes
 pub mod Addresses
 pub mod ErrorWords
 pub mod WordTexts

@@ -1,19 +1,20 @@
 -- Names as they are printed: characters of UTF-8 as they are, but for control characters, which are
 -- escaped, as is each byte that isn't UTF-8. So no name moves a terminal's cursor or breaks a line.
---     parts name      the characters of a name, and its bytes that are none
+--     parts name      the characters of a name, by Table 3-7 of The Unicode Standard, and its bytes
+--         that are none
 --     shown name      what is printed of it in a text
-use Rattle.std.specs.Prelude.{ℕ, ◌-◌, ◌/◌, ◌%◌, ◌==◌, ◌&&◌, ◌||◌, Bool, List, [], ◌∷◌, ◌++◌}
-use Rattle.std.specs.Prelude.{codes, false, flat_map, length, nat_le, nat_lt, suc, take, zero}
-use Rattle.std.specs.Prelude.{if◌then◌else◌}
+use Rattle.std.specs.Prelude.{ℕ, ◌-◌, ◌/◌, ◌%◌, ◌&&◌, ◌||◌, Bool, List, [], ◌∷◌, ◌++◌}
+use Rattle.std.specs.Prelude.{Option, Some, None, codes, false, flat_map, length, nat_le, nat_lt}
+use Rattle.std.specs.Prelude.{suc, take, zero, if◌then◌else◌}
 use Rattle.std.specs.Fmt.{digit_glyph}
+use Rattle.bstr.specs.Utf8.{decoded, or_replacement}
 use Rattle.cfi_text.specs.declared.name_parts.Kind.{Kind}
 use Rattle.cfi_text.specs.declared.name_parts.Kind.TheVariants.{Shown, Control, Stray}
 use Rattle.cfi_text.specs.declared.name_parts.Part.{Part as PartOfCode}
-use Rattle.cfi_text.specs.Utf8.{scalar, sequence_length}
 
 -- ---- the parts of a name
 
--- A character, or a byte that is none.
+-- A character, or bytes that are none: as many as could begin one (Table 3-7).
 pub record NamePart : Type 0 where
   pub kind : Kind
   pub bytes : List ℕ
@@ -25,17 +26,19 @@ name_part_view part = record { kind = part.kind; bytes = part.bytes.now }
 abbrev pub is_control : ℕ → Bool
 is_control c = nat_lt c 0x20 || (nat_le 0x7f c && nat_le c 0x9f)
 
-abbrev pub kind_of : List ℕ → Kind
-kind_of character = if is_control (scalar character) then Control else Shown
+abbrev pub kind_of : Option ℕ → Kind
+kind_of None = Stray
+kind_of (Some c) = if is_control c then Control else Shown
 
--- a byte with which no character begins is a part of its own
+-- the number of the character that these bytes are
+abbrev pub scalar : List ℕ → ℕ
+scalar character = or_replacement (decoded character).char
+
 abbrev pub first_part : List ℕ → NamePart
-first_part bytes =
-    if sequence_length bytes == 0 then record { kind = Stray; bytes = take 1 bytes }
-    else record {
-      kind = kind_of (take (sequence_length bytes) bytes);
-      bytes = take (sequence_length bytes) bytes;
-    }
+first_part bytes = record {
+  kind = kind_of (decoded bytes).char;
+  bytes = take (decoded bytes).size bytes;
+}
 
 -- those after so many bytes, which are the rest of a part
 abbrev pub parts_after : ℕ → List ℕ → List NamePart

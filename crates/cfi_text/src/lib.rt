@@ -5,6 +5,7 @@
 
 pub mod beginnings;
 pub mod error_words;
+pub mod escapes;
 pub mod input_refusals;
 pub mod json;
 pub mod line_buffer;
@@ -16,4 +17,4 @@ pub mod reading;
 pub mod refusals;
 pub mod register_names;
 pub mod style;
-mod utf8;
+pub mod text;

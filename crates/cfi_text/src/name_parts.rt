@@ -1,15 +1,14 @@
 //! Names of functions, files and threads, as they are printed: UTF-8 as it is, but for control
 //! characters, which are escaped as `\x1b`, as is each byte that isn't UTF-8. So no name moves a
 //! terminal's cursor or breaks a line.
-ghost use Rattle.std.specs.Prelude.{◌≡◌, ◌<◌, ◌++◌, IfOk, OnOk, false, flat_map, length};
+ghost use Rattle.std.specs.Prelude.{◌≡◌, ◌<◌, ◌++◌, IfOk, OnOk, Some, false, flat_map, length};
 ghost use Rattle.std.specs.Fmt.{digit_glyph};
 ghost use Rattle.std.specs.List.{list_all};
 ghost use Rattle.cfi_text.specs.Names.{byte_escape, first_part, is_control};
-ghost use Rattle.cfi_text.specs.Names.{is_printable_ascii, kind_of, name_part_view, shown};
-ghost use Rattle.cfi_text.specs.Names.{shown_part};
+ghost use Rattle.cfi_text.specs.Names.{is_printable_ascii, kind_of, name_part_view, scalar};
+ghost use Rattle.cfi_text.specs.Names.{shown, shown_part};
 
-pub use crate::utf8::scalar;
-use crate::utf8::sequence_length;
+use bstr::{decode_lossy, decode_utf8};
 use std::alloc::{AllocError, Global};
 
 /// What a part of a name is.
@@ -19,11 +18,11 @@ pub enum Kind {
     Shown,
     /// A control character: U+0000 to U+001F, or U+007F to U+009F.
     Control,
-    /// A byte with which no character of UTF-8 begins.
+    /// Bytes with which no character of UTF-8 begins.
     Stray,
 }
 
-/// A character of a name, or a byte that is none.
+/// A character of a name, or bytes that are none.
 #[derive(Clone, Copy, Debug)]
 pub struct Part<'name> {
     /// What it is.
@@ -37,29 +36,39 @@ pub fn first_part(bytes: &[u8]) -> Part<'_>
     requires { 0 < length bytes.now }
     ensures { name_part_view result ≡ first_part bytes.now }
 {
-    let length = sequence_length(bytes);
-    if length == 0 {
-        return Part {
-            kind: Kind::Stray,
-            bytes: &bytes[..1],
-        };
-    }
-    let character = &bytes[..length];
+    let (character, length) = decode_utf8(bytes);
     Part {
         kind: kind_of(character),
-        bytes: character,
+        bytes: &bytes[..length],
     }
 }
 
 /// Returns whether a character is a control character, or is shown as it is.
-fn kind_of(character: &[u8]) -> Kind
-    ensures { result ≡ kind_of character.now }
+fn kind_of(character: Option<char>) -> Kind
+    ensures { result ≡ kind_of character }
 {
-    if is_control(scalar(character)) {
+    match character {
+        None => Kind::Stray,
+        Some(character) => kind_of_character(character as u32),
+    }
+}
+
+/// Returns whether the character with this number is a control character.
+fn kind_of_character(number: u32) -> Kind
+    ensures { result ≡ kind_of (Some number) }
+{
+    if is_control(number) {
         Kind::Control
     } else {
         Kind::Shown
     }
+}
+
+/// Returns the number of the character of UTF-8 that these bytes are.
+pub fn scalar(character: &[u8]) -> u32
+    ensures { result ≡ scalar character.now }
+{
+    decode_lossy(character).0 as u32
 }
 
 /// Returns whether this is the number of a control character.

@@ -1,7 +1,6 @@
 //! Names of functions, files and threads, as they are written.
 ghost use Rattle.std.specs.Prelude.{◌++◌, codes, flat_map};
-ghost use Rattle.cfi_text.specs.Names.{byte_escape, name_part_view, shown, shown_part};
-ghost use Rattle.cfi_text.specs.Utf8.{scalar};
+ghost use Rattle.cfi_text.specs.Names.{byte_escape, name_part_view, scalar, shown, shown_part};
 ghost use Rattle.cfi_text.specs.JsonTexts.{json_name, json_part, number_escape};
 ghost use Rattle.cfi_text.specs.WriterOutput.{Writes};
 

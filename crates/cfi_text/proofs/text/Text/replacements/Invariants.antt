@@ -1,0 +1,7 @@
+use Rattle.std.proofs.Common.{drop, codes}
+use Rattle.std.specs.List.{flat_map}
+use Rattle.cfi_text.proofs.TextLemmas.{IsPut}
+use Rattle.cfi_text.proofs.text.Text.replacements.Given as goal
+
+abbrev pub invariant-loop-byte : goal.invariant-loop-byte
+invariant-loop-byte l = IsPut l.fn.self l.self (flat_map (λ byte. codes "\\ufffd") (drop l.byte-index l.bytes)) (flat_map (λ byte. codes "\\ufffd") l.bytes)
