@@ -2,7 +2,7 @@
 use Rattle.std.proofs.Common.{◌≡◌, ◌∙◌, ℕ, ◌-◌, ◌<◌, ◌≤◌, ◌==◌, ◌&&◌, Bool, Some, true, false, List, [], ◌∷◌, ◌++◌, length, take, drop, nat_le, nat_lt, refl, sym, ap, subst, zero, suc, arith, append_assoc}
 use Rattle.std.specs.List.{flat_map, list_all}
 use Rattle.std.proofs.lemmas.List.{length-take, length-drop}
-use Rattle.std.proofs.lemmas.Bool.{and_parts, le-leb, lt-ltb, le-ltb, leb-true, lt-leb, ltb-true}
+use Rattle.std.proofs.lemmas.Bool.{ne_eqb, and_parts, le-leb, lt-ltb, le-ltb, leb-true, lt-leb, ltb-true}
 use Rattle.bstr.specs.Utf8.{decoded}
 use Rattle.bstr.proofs.lemmas.PieceLemmas.{piece-bounds}
 use Rattle.cfi_text.specs.declared.name_parts.Kind.TheVariants.{Shown}
@@ -18,6 +18,11 @@ rest_behind (suc k) (b ∷ bytes) = rest_behind k bytes
 -- it has a byte, and no more than there are
 pub size_within : (bytes : List ℕ) → 0 < length bytes → (decoded bytes).size ≤ length bytes
 size_within bytes some = (piece-bounds bytes some).2
+
+pub taken : (n : ℕ) (bytes : List ℕ) → n ≡ (decoded bytes).size → 0 < length bytes → n ≡ length (take n bytes)
+taken n bytes is some =
+    let within : n ≤ length bytes = subst (λ (m : ℕ). m ≤ length bytes) (sym is) (size_within bytes some) in
+    rw length-take (omega (arith, within))
 
 some_taken : (n : ℕ) (bytes : List ℕ) → 1 ≤ n → 0 < length bytes → 0 < length (take n bytes)
 some_taken n bytes one some = rw length-take (omega (arith, one, some))
@@ -74,7 +79,7 @@ one_made f bytes line part left next all some first is e h =
 plain_decoded : (b : ℕ) (bytes : List ℕ) → is_printable_ascii b ≡ true → decoded (b ∷ bytes) ≡ record { char = Some b; size = 1 }
 plain_decoded b bytes h =
     let below : b < 0x80 = omega (arith, ltb-true b 0x7f (and_parts (nat_le 0x20 b) (nat_lt b 0x7f) h).1) in
-    rw (lt-ltb b 0x80 below) refl
+    rw (ne_eqb (length (b ∷ bytes)) 0 (λ none. omega (arith, none)), lt-ltb b 0x80 below) refl
 
 plain_kind : (b : ℕ) → is_printable_ascii b ≡ true → kind_of (Some b) ≡ Shown
 plain_kind b h =
@@ -87,7 +92,8 @@ plain_part : (b : ℕ) (bytes : List ℕ) → is_printable_ascii b ≡ true → 
 plain_part b bytes h = rw (plain_decoded b bytes h, plain_kind b h) refl
 
 pub parts_plain : (b : ℕ) (bytes : List ℕ) → is_printable_ascii b ≡ true → parts (b ∷ bytes) ≡ record { kind = Shown; bytes = b ∷ [] } ∷ parts bytes
-parts_plain b bytes h = rw (plain_part b bytes h) refl
+parts_plain b bytes h =
+    subst (λ (part : NamePart). parts (b ∷ bytes) ≡ part ∷ parts (drop (length part.bytes) (b ∷ bytes))) (plain_part b bytes h) (parts_first (b ∷ bytes) (omega arith))
 
 pub all_shown : (name : List ℕ) → list_all is_printable_ascii name ≡ true → shown name ≡ name
 all_shown [] plain = refl

@@ -1,7 +1,9 @@
 -- A text that is put together part by part.
-use Rattle.std.proofs.Common.{◌≡◌, ◌∙◌, ℕ, ◌+◌, ◌<◌, ◌≤◌, Bool, true, false, List, [], ◌∷◌, ◌++◌, refl, sym, ap, subst, append-nil, append_assoc, length, drop, take, get_or, map, add-one}
+use Rattle.std.proofs.Common.{◌≡◌, ◌∙◌, ℕ, ◌+◌, ◌<◌, ◌≤◌, ◌==◌, Bool, true, false, List, [], ◌∷◌, ◌++◌, refl, sym, ap, subst, append-nil, append_assoc, length, drop, take, get_or, map, add-one}
+use Rattle.std.specs.Prelude.{if◌then◌else◌}
 use Rattle.std.specs.List.{flat_map}
 use Rattle.std.proofs.Math.Seq.{drop-cons}
+use Rattle.std.proofs.lemmas.Bool.{ne_eqb}
 use Rattle.std.proofs.lemmas.List.{drop_all, take_rest}
 use Rattle.cfi_text.specs.Names.{NamePart, first_part, parts}
 use Rattle.cfi_text.specs.Texts.{Puts, contents, IsWhole}
@@ -17,8 +19,8 @@ whole_before x y a p whole = by x.is_short refl
     by false is = is
 
 -- one part after another
-pub then : (x y z : Text) (a b : List ℕ) → Puts a x y → Puts b y z → Puts (a ++ b) x z
-then x y z a b p q = record {
+pub both : (x y z : Text) (a b : List ℕ) → Puts a x y → Puts b y z → Puts (a ++ b) x z
+both x y z a b p q = record {
   remembers = λ short. q.remembers (p.remembers short);
   adds = λ whole. q.adds whole ∙ ap (λ (xs : List ℕ). xs ++ b) (p.adds (whole_before y z b q whole)) ∙ append_assoc (contents x) a b;
 }
@@ -28,6 +30,14 @@ nothing x = record { remembers = λ short. short; adds = λ whole. sym (append-n
 
 pub same : (x y : Text) (a b : List ℕ) → a ≡ b → Puts a x y → Puts b x y
 same x y a b is p = subst (λ (c : List ℕ). Puts c x y) is p
+
+-- the other branch of a test for a number
+pub not_this : (a b n : ℕ) → a ≡ b → (a ≡ n → ⊥) → (b == n) ≡ false
+not_this a b n is h = ne_eqb b n (λ e. h (is ∙ e))
+
+pub otherwise : (b : Bool) (x y : List ℕ) → b ≡ false → y ≡ (if b then x else y)
+otherwise true x y h = cc h
+otherwise false x y h = refl
 
 -- ---- loops: what was put, of a text of which some is left
 
@@ -42,7 +52,7 @@ put_first x all = record { front = []; put = nothing x; whole = refl }
 pub put_more : (x y z : Text) (part left all : List ℕ) → IsPut x y (part ++ left) all → Puts part y z → IsPut x z left all
 put_more x y z part left all is more = record {
   front = is.front ++ part;
-  put = then x y z is.front part is.put more;
+  put = both x y z is.front part is.put more;
   whole = append_assoc is.front part left ∙ is.whole;
 }
 

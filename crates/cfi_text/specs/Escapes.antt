@@ -1,6 +1,6 @@
 -- What stands for a name, by where it is printed.
 --     escaped escaping name      what stands for a name
-use Rattle.std.specs.Prelude.{ℕ, ◌==◌, ◌||◌, List, [], ◌∷◌, codes, if◌then◌else◌}
+use Rattle.std.specs.Prelude.{ℕ, ◌==◌, ◌||◌, Bool, List, [], ◌∷◌, codes, if◌then◌else◌}
 use Rattle.std.specs.List.{flat_map}
 use Rattle.cfi_text.specs.JsonTexts.{json_escape, json_part}
 use Rattle.cfi_text.specs.Names.{NamePart, byte_escape, parts, scalar, shown_kind, shown_part}
@@ -40,10 +40,13 @@ abbrev pub with_bytes : Escaping → Kind → List ℕ → List ℕ
 with_bytes escaping Shown bytes = flat_map (shown_byte escaping) bytes
 with_bytes escaping kind bytes = shown_kind kind bytes
 
--- an XML document has no U+FFFE and no U+FFFF (XML 1.0, section 2.2), which are escaped
+-- an XML document has no U+FFFE and no U+FFFF (XML 1.0, section 2.2)
+abbrev pub is_outside_xml : ℕ → Bool
+is_outside_xml c = c == 0xfffe || c == 0xffff
+
 abbrev pub drawn : Escaping → NamePart → List ℕ
 drawn escaping part =
-    if scalar part.bytes == 0xfffe || scalar part.bytes == 0xffff
+    if is_outside_xml (scalar part.bytes)
     then flat_map byte_escape part.bytes
     else with_bytes escaping part.kind part.bytes
 

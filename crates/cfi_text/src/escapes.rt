@@ -1,7 +1,7 @@
 //! What stands for a name, by where it is printed.
 ghost use Rattle.std.specs.Prelude.{◌≡◌, ◌∷◌, [], codes, flat_map};
 ghost use Rattle.cfi_text.specs.Escapes.{drawn, entity, escaped, escaped_part, harmless};
-ghost use Rattle.cfi_text.specs.Escapes.{shown_byte, with_bytes};
+ghost use Rattle.cfi_text.specs.Escapes.{is_outside_xml, shown_byte, with_bytes};
 ghost use Rattle.cfi_text.specs.JsonTexts.{json_escape, json_escaped, json_part, number_escape};
 ghost use Rattle.cfi_text.specs.Names.{byte_escape, name_part_view, shown, shown_part};
 ghost use Rattle.cfi_text.specs.Texts.{Puts};
@@ -106,12 +106,11 @@ impl Text {
         }
     }
 
-    /// Appends a part of which XML documents have no U+FFFE and no U+FFFF.
+    /// Appends a part, but for the two characters that an XML document doesn't have.
     fn drawn(&mut self, escaping: Escaping, part: Part<'_>)
         ensures { Puts (drawn escaping (name_part_view part.entry)) self.old self.new }
     {
-        let number = scalar(part.bytes);
-        if number == 0xfffe || number == 0xffff {
+        if is_outside_xml(scalar(part.bytes)) {
             self.escapes(part.bytes);
         } else {
             self.with_kind(escaping, part);
@@ -164,7 +163,7 @@ impl Text {
     fn replacements(&mut self, bytes: &[u8])
         ensures { Puts (flat_map (λ byte. codes "\\ufffd") bytes.now) self.old self.new }
     {
-        for _byte in bytes {
+        for _ in bytes {
             self.put(b"\\ufffd");
         }
     }
@@ -208,6 +207,13 @@ impl Text {
             _ => self.put(&[byte]),
         }
     }
+}
+
+/// Returns whether this is the number of a character that an XML document doesn't have.
+fn is_outside_xml(number: u32) -> bool
+    ensures { result ≡ is_outside_xml number }
+{
+    number == 0xfffe || number == 0xffff
 }
 
 /// Returns what stands for a byte within a folded stack, where this one stands for a space.

@@ -3,5 +3,5 @@ use Rattle.std.specs.List.{flat_map}
 use Rattle.cfi_text.proofs.TextLemmas.{IsPut}
 use Rattle.cfi_text.proofs.text.Text.replacements.Given as goal
 
-abbrev pub invariant-loop-byte : goal.invariant-loop-byte
-invariant-loop-byte l = IsPut l.fn.self l.self (flat_map (λ byte. codes "\\ufffd") (drop l.byte-index l.bytes)) (flat_map (λ byte. codes "\\ufffd") l.bytes)
+abbrev pub invariant-loop : goal.invariant-loop
+invariant-loop l = IsPut l.fn.self l.self (flat_map (λ byte. codes "\\ufffd") (drop l.index l.bytes)) (flat_map (λ byte. codes "\\ufffd") l.bytes)
