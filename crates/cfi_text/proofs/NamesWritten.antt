@@ -3,7 +3,7 @@ use Rattle.std.proofs.Common.{◌≡◌, ◌∙◌, ℕ, ◌+◌, ◌<◌, ◌�
 use Rattle.std.specs.List.{flat_map, list_all}
 use Rattle.std.proofs.Math.Seq.{drop-cons}
 use Rattle.std.proofs.lemmas.List.{drop_all}
-use Rattle.cfi_text.specs.Names.{NamePart, byte_escape, first_part, is_printable_ascii, parts}
+use Rattle.cfi_text.specs.Names.{NamePart, first_part, is_printable_ascii, parts}
 use Rattle.cfi_text.proofs.NameLemmas.{made_first, parts_plain}
 use Rattle.cfi_text.specs.JsonTexts.{json_escape, json_escaped, json_name, json_part}
 use Rattle.cfi_text.proofs.WrittenLemmas.{IsGiven}
@@ -20,14 +20,14 @@ module _ (f : NamePart → List ℕ) (old now : Option (List ℕ)) (bytes : List
 
 -- ---- escapes
 
-pub next_escape : (old now : Option (List ℕ)) (bytes : List ℕ) (i : ℕ) (next whole : List ℕ) → i < length bytes → next ≡ byte_escape (get_or bytes i 0) → IsGiven old now (flat_map byte_escape (drop i bytes)) whole →
-    IsGiven old now (next ++ flat_map byte_escape (drop (i + 1) bytes)) whole
-next_escape old now bytes i next whole h is given =
+pub next_escape : (f : ℕ → List ℕ) (old now : Option (List ℕ)) (bytes : List ℕ) (i : ℕ) (next whole : List ℕ) → i < length bytes → next ≡ f (get_or bytes i 0) → IsGiven old now (flat_map f (drop i bytes)) whole →
+    IsGiven old now (next ++ flat_map f (drop (i + 1) bytes)) whole
+next_escape f old now bytes i next whole h is given =
     let first : drop i bytes ≡ get_or bytes i 0 ∷ drop (i + 1) bytes = rw (drop-cons bytes i 0 h, add-one) refl in
-    subst (λ (text : List ℕ). IsGiven old now text whole) (ap (flat_map byte_escape) first ∙ ap (λ (x : List ℕ). x ++ flat_map byte_escape (drop (i + 1) bytes)) (sym is)) given
+    subst (λ (text : List ℕ). IsGiven old now text whole) (ap (flat_map f) first ∙ ap (λ (x : List ℕ). x ++ flat_map f (drop (i + 1) bytes)) (sym is)) given
 
-pub no_escape : (bytes : List ℕ) (i : ℕ) → length bytes ≤ i → flat_map byte_escape (drop i bytes) ≡ []
-no_escape bytes i h = rw drop_all refl
+pub no_escape : (f : ℕ → List ℕ) (bytes : List ℕ) (i : ℕ) → length bytes ≤ i → flat_map f (drop i bytes) ≡ []
+no_escape f bytes i h = rw drop_all refl
 
 -- ---- most names, in a text behind a space and before the line's end
 

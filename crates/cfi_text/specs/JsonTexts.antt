@@ -36,10 +36,13 @@ number_escape n =
 
 -- a string is UTF-8 (section 8.1): U+FFFD, the replacement character, stands for each byte that
 -- isn't, and each control character is escaped, also U+007F to U+009F
+abbrev pub replacement : ℕ → List ℕ
+replacement byte = codes "\\ufffd"
+
 abbrev pub json_kind : Kind → List ℕ → List ℕ
 json_kind Shown bytes = json_escaped bytes
 json_kind Control bytes = number_escape (scalar bytes)
-json_kind Stray bytes = flat_map (λ byte. codes "\\ufffd") bytes
+json_kind Stray bytes = flat_map replacement bytes
 
 abbrev pub json_part : NamePart → List ℕ
 json_part part = json_kind part.kind part.bytes

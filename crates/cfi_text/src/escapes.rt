@@ -1,8 +1,9 @@
 //! What stands for a name, by where it is printed.
-ghost use Rattle.std.specs.Prelude.{◌≡◌, ◌∷◌, [], codes, flat_map};
+ghost use Rattle.std.specs.Prelude.{◌≡◌, ◌∷◌, [], flat_map};
 ghost use Rattle.cfi_text.specs.Escapes.{drawn, entity, escaped, escaped_part, harmless};
 ghost use Rattle.cfi_text.specs.Escapes.{is_outside_xml, shown_byte, with_bytes};
 ghost use Rattle.cfi_text.specs.JsonTexts.{json_escape, json_escaped, json_part, number_escape};
+ghost use Rattle.cfi_text.specs.JsonTexts.{replacement};
 ghost use Rattle.cfi_text.specs.Names.{byte_escape, name_part_view, shown, shown_part};
 ghost use Rattle.cfi_text.specs.Texts.{Puts};
 
@@ -161,7 +162,7 @@ impl Text {
 
     /// Appends U+FFFD for each byte within a string of JSON.
     fn replacements(&mut self, bytes: &[u8])
-        ensures { Puts (flat_map (λ byte. codes "\\ufffd") bytes.now) self.old self.new }
+        ensures { Puts (flat_map replacement bytes.now) self.old self.new }
     {
         for _ in bytes {
             self.put(b"\\ufffd");

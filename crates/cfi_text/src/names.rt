@@ -1,7 +1,7 @@
 //! Names of functions, files and threads, as they are written.
 ghost use Rattle.std.specs.Prelude.{◌++◌, codes, flat_map};
 ghost use Rattle.cfi_text.specs.Names.{byte_escape, name_part_view, scalar, shown, shown_part};
-ghost use Rattle.cfi_text.specs.JsonTexts.{json_name, json_part, number_escape};
+ghost use Rattle.cfi_text.specs.JsonTexts.{json_name, json_part, number_escape, replacement};
 ghost use Rattle.cfi_text.specs.WriterOutput.{Writes};
 
 use crate::json::write_escaped;
@@ -100,8 +100,19 @@ fn write_json_part<W: Write>(output: &mut W, part: Part<'_>) -> io::Result<()>
     match part.kind {
         Kind::Shown => write_escaped(output, part.bytes),
         Kind::Control => write_number_escape(output, scalar(part.bytes)),
-        Kind::Stray => write_text(output, b"\\ufffd"),
+        Kind::Stray => write_replacements(output, part.bytes),
     }
+}
+
+/// Writes U+FFFD for each byte within a string.
+fn write_replacements<W: Write>(output: &mut W, bytes: &[u8]) -> io::Result<()>
+    ensures { Writes (W.contents output.old) (W.contents output.new) result
+        (flat_map replacement bytes.now) }
+{
+    for _ in bytes {
+        write_text(output, b"\\ufffd")?;
+    }
+    Ok(())
 }
 
 /// Writes the escape of the character with this number in a string.
