@@ -361,7 +361,7 @@ FAULTS = [
     (
         "upper-controls-shown",
         "texts have U+0080 to U+009F as they are",
-        "cfi_names/src/lib.rt",
+        "cfi_text/src/name_parts.rt",
         "0x7f <= number && number <= 0x9f",
         "0x7f <= number && number <= 0x9f && !(SWITCH() && number >= 0x80)",
     ),
