@@ -1,4 +1,4 @@
-//! Checksums of gimli's answers, by the steps of crates/cfi_passes/src/sums.rt.
+//! Checksums of gimli's answers, by the steps of crates/cfi_answers/src/sums.rt.
 use gimli::{CfaRule, Register, RegisterRule, StoreOnHeap, UnwindTableRow};
 use std::fmt;
 

@@ -1,21 +1,25 @@
-//! What gimli_cfi returns, as numbers: `cfi_fuzz` exports it for the fuzz target in `fuzz/`, which
-//! compares it with what gimli returns.
+//! What gimli_cfi returns, as numbers. `cfi_fuzz` exports it for the fuzz target in `fuzz/`, which
+//! compares it with what gimli returns. `cfi_bench` exports `passes` and `compiled`: whole passes
+//! that count and sum, for timing beside gimli (`docs/BENCHMARK.md`).
 //!
-//! Each call goes over a section, or over a header with its section, and writes the answers one
-//! after the other to `room`. It returns how many numbers they take: where there is less room, the
-//! rest is not written. `answers` tells what the numbers are. No call keeps anything for the next
-//! one; those with rows make one context, and free it at their end.
+//! Each call goes over a section, or over a header with its section. But for the passes it writes
+//! the answers one after the other to `room`, and returns how many numbers they take: where there
+//! is less room, the rest is not written. `answers` tells what the numbers are. No call keeps
+//! anything for the next one; those with rows make one context, and free it at their end.
 #![tactic(auto)]
 
 mod answers;
 mod asked;
 mod check;
+pub mod compiled;
 mod dispatch;
 mod entries;
 mod expression;
 mod header;
+pub mod passes;
 mod rows;
 mod storage;
+pub mod sums;
 
 pub use asked::Asked;
 pub use dispatch::{of_header, of_section};

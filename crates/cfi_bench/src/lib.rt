@@ -8,7 +8,8 @@
 //! of the fixed storage, and free it at their end.
 #![tactic(auto)]
 
-use cfi_passes::{of_compiled, of_header, of_section};
+use cfi_answers::compiled::of_compiled;
+use cfi_answers::passes::{of_header, of_section};
 use gimli_cfi::{BigEndian, LittleEndian, RunTimeEndian};
 use std::alloc::Global;
 

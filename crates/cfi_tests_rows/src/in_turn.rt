@@ -3,7 +3,7 @@
 use crate::comparison::expect;
 use crate::rows::{Range, Slice, slice};
 use arrayvec::ArrayVec;
-use cfi_tests_bytes::{THREE_ROWS, bytes_of};
+use cfi_guide::hexadecimal::{THREE_ROWS, bytes_of};
 use gimli_cfi::{
     ArrayLike, BaseAddresses, CfaRule, DebugFrame, EndianSlice, Error, LittleEndian, RA_SIGN_STATE,
     Reader, ReaderOffset, ReaderOffsetId, Register, RegisterRule, StoreOnHeap, UnwindContext,
@@ -107,9 +107,9 @@ const EXPRESSION: CfaRule<usize> = CfaRule::Expression(UnwindExpression {
     length: 1,
 });
 
-const R6: Rule = Some((Register(6), RegisterRule::Offset(-16)));
+const SAVED_FRAME_POINTER: Rule = Some((Register(6), RegisterRule::Offset(-16)));
 
-pub(crate) const R16: Rule = Some((Register(16), RegisterRule::Offset(-8)));
+pub(crate) const RETURN_ADDRESS: Rule = Some((Register(16), RegisterRule::Offset(-8)));
 
 const SIGNED: Rule = Some((RA_SIGN_STATE, RegisterRule::Constant(1)));
 
@@ -121,8 +121,8 @@ const CASES: [Case; 17] = [
  19000000 00000000 0010000000000000 2000000000000000 0a 0e20 42 0b",
         0x1000,
         Ok([
-            Ok(Some(((0x1000, 0x1002), R7_32, 0, [R16, None]))),
-            Ok(Some(((0x1002, 0x1020), R7_8, 0, [R16, None]))),
+            Ok(Some(((0x1000, 0x1002), R7_32, 0, [RETURN_ADDRESS, None]))),
+            Ok(Some(((0x1002, 0x1020), R7_8, 0, [RETURN_ADDRESS, None]))),
             Ok(None),
             Ok(None),
             Ok(None),
@@ -133,7 +133,7 @@ const CASES: [Case; 17] = [
  14000000 00000000 0010000000000000 2000000000000000",
         0x1000,
         Ok([
-            Ok(Some(((0x1000, 0x1020), R7_8, 0, [R16, None]))),
+            Ok(Some(((0x1000, 0x1020), R7_8, 0, [RETURN_ADDRESS, None]))),
             Ok(None),
             Ok(None),
             Ok(None),
@@ -146,7 +146,12 @@ const CASES: [Case; 17] = [
         0x1000,
         Ok([
             Err(Error::StackFull),
-            Ok(Some(((0x1000, 0x1020), R7_8, 0, [R6, R16]))),
+            Ok(Some((
+                (0x1000, 0x1020),
+                R7_8,
+                0,
+                [SAVED_FRAME_POINTER, RETURN_ADDRESS],
+            ))),
             Ok(None),
             Ok(None),
             Ok(None),
@@ -158,7 +163,7 @@ const CASES: [Case; 17] = [
         0x1000,
         Ok([
             Err(Error::StackFull),
-            Ok(Some(((0x1000, 0x1020), R7_8, 0, [R16, None]))),
+            Ok(Some(((0x1000, 0x1020), R7_8, 0, [RETURN_ADDRESS, None]))),
             Ok(None),
             Ok(None),
             Ok(None),
@@ -176,7 +181,7 @@ const CASES: [Case; 17] = [
         0x1000,
         Ok([
             Ok(Some(((0x1000, 0x1001), R7_8, 0, [None, None]))),
-            Ok(Some(((0x1001, 0x1020), R7_8, 0, [R16, None]))),
+            Ok(Some(((0x1001, 0x1020), R7_8, 0, [RETURN_ADDRESS, None]))),
             Ok(None),
             Ok(None),
             Ok(None),
@@ -187,9 +192,9 @@ const CASES: [Case; 17] = [
  16000000 00000000 0010000000000000 2000000000000000 41 02",
         0x1000,
         Ok([
-            Ok(Some(((0x1000, 0x1001), R7_8, 0, [R16, None]))),
+            Ok(Some(((0x1000, 0x1001), R7_8, 0, [RETURN_ADDRESS, None]))),
             Err(Error::UnexpectedEof(ReaderOffsetId(46))),
-            Ok(Some(((0x1001, 0x1020), R7_8, 0, [R16, None]))),
+            Ok(Some(((0x1001, 0x1020), R7_8, 0, [RETURN_ADDRESS, None]))),
             Ok(None),
             Ok(None),
         ]),
@@ -211,8 +216,8 @@ const CASES: [Case; 17] = [
  15000000 00000000 0010000000000000 2000000000000000 42",
         0x1000,
         Ok([
-            Ok(Some(((0x1000, 0x1000), R7_8, 0, [R16, None]))),
-            Ok(Some(((0x1000, 0x1020), R7_8, 0, [R16, None]))),
+            Ok(Some(((0x1000, 0x1000), R7_8, 0, [RETURN_ADDRESS, None]))),
+            Ok(Some(((0x1000, 0x1020), R7_8, 0, [RETURN_ADDRESS, None]))),
             Ok(None),
             Ok(None),
             Ok(None),
@@ -224,7 +229,7 @@ const CASES: [Case; 17] = [
         0xfffffffe,
         Ok([
             Err(Error::AddressOverflow),
-            Ok(Some(((0xfffffffe, 0xffffffff), R7_8, 0, [R16, None]))),
+            Ok(Some(((0xfffffffe, 0xffffffff), R7_8, 0, [RETURN_ADDRESS, None]))),
             Ok(None),
             Ok(None),
             Ok(None),
@@ -235,8 +240,8 @@ const CASES: [Case; 17] = [
  1d000000 00000000 0010000000000000 2000000000000000 01 0010000000000000",
         0x1000,
         Ok([
-            Ok(Some(((0x1000, 0x1000), R7_8, 0, [R16, None]))),
-            Ok(Some(((0x1000, 0x1020), R7_8, 0, [R16, None]))),
+            Ok(Some(((0x1000, 0x1000), R7_8, 0, [RETURN_ADDRESS, None]))),
+            Ok(Some(((0x1000, 0x1020), R7_8, 0, [RETURN_ADDRESS, None]))),
             Ok(None),
             Ok(None),
             Ok(None),
@@ -248,7 +253,12 @@ const CASES: [Case; 17] = [
         0x1000,
         Ok([
             Err(Error::CfiInstructionInInvalidContext),
-            Ok(Some(((0x1000, 0x1020), EXPRESSION, 0, [R6, R16]))),
+            Ok(Some((
+                (0x1000, 0x1020),
+                EXPRESSION,
+                0,
+                [SAVED_FRAME_POINTER, RETURN_ADDRESS],
+            ))),
             Ok(None),
             Ok(None),
             Ok(None),
@@ -259,8 +269,8 @@ const CASES: [Case; 17] = [
  1b000000 00000000 0010000000000000 2000000000000000 2e10 0a 2e20 41 0b",
         0x1000,
         Ok([
-            Ok(Some(((0x1000, 0x1001), R7_8, 32, [R16, None]))),
-            Ok(Some(((0x1001, 0x1020), R7_8, 16, [R16, None]))),
+            Ok(Some(((0x1000, 0x1001), R7_8, 32, [RETURN_ADDRESS, None]))),
+            Ok(Some(((0x1001, 0x1020), R7_8, 16, [RETURN_ADDRESS, None]))),
             Ok(None),
             Ok(None),
             Ok(None),
@@ -271,10 +281,10 @@ const CASES: [Case; 17] = [
  1f000000 00000000 0010000000000000 2000000000000000 0a 0e20 0a 0e30 41 0b 42 0b 43",
         0x1000,
         Ok([
-            Ok(Some(((0x1000, 0x1001), R7_48, 0, [R16, None]))),
-            Ok(Some(((0x1001, 0x1003), R7_32, 0, [R16, None]))),
-            Ok(Some(((0x1003, 0x1006), R7_8, 0, [R16, None]))),
-            Ok(Some(((0x1006, 0x1020), R7_8, 0, [R16, None]))),
+            Ok(Some(((0x1000, 0x1001), R7_48, 0, [RETURN_ADDRESS, None]))),
+            Ok(Some(((0x1001, 0x1003), R7_32, 0, [RETURN_ADDRESS, None]))),
+            Ok(Some(((0x1003, 0x1006), R7_8, 0, [RETURN_ADDRESS, None]))),
+            Ok(Some(((0x1006, 0x1020), R7_8, 0, [RETURN_ADDRESS, None]))),
             Ok(None),
         ]),
     ),
@@ -284,7 +294,7 @@ const CASES: [Case; 17] = [
         0x1000,
         Ok([
             Err(Error::PopWithEmptyStack),
-            Ok(Some(((0x1000, 0x1020), R7_16, 0, [R16, None]))),
+            Ok(Some(((0x1000, 0x1020), R7_16, 0, [RETURN_ADDRESS, None]))),
             Ok(None),
             Ok(None),
             Ok(None),
@@ -338,11 +348,19 @@ const ONE_RULE: [Case; 1] = [(
 /// The rows of the FDE of `THREE_ROWS` for two addresses.
 type After = [(u64, Result<Row, Error>); 2];
 
-const FIRST: Result<Row, Error> = Ok(((0x1000, 0x1001), R7_8, 0, [R16, None]));
+const FIRST: Result<Row, Error> = Ok(((0x1000, 0x1001), R7_8, 0, [RETURN_ADDRESS, None]));
 
 const ON_HEAP: After = [
     (0x1000, FIRST),
-    (0x1002, Ok(((0x1001, 0x1004), R7_16, 0, [R6, R16]))),
+    (
+        0x1002,
+        Ok((
+            (0x1001, 0x1004),
+            R7_16,
+            0,
+            [SAVED_FRAME_POINTER, RETURN_ADDRESS],
+        )),
+    ),
 ];
 
 const OF_ONE: After = [(0x1000, FIRST), (0x1001, Err(Error::TooManyRegisterRules))];

@@ -6,7 +6,7 @@ ghost use Rattle.gimli_cfi.specs.Words.{refill-same};
 
 use crate::comparison::expect;
 use crate::rows::{Range, range_of};
-use cfi_tests_bytes::{THREE_ROWS, bytes_of};
+use cfi_guide::hexadecimal::{THREE_ROWS, bytes_of};
 use gimli_cfi::{
     ArrayLike, BaseAddresses, CopyList, DebugFrame, EndianSlice, Error, LittleEndian, Reader,
     ReaderOffset, Refused, Register, RegisterRule, UnwindContext, UnwindContextStorage,

@@ -4,7 +4,7 @@
 use crate::comparison::expect;
 use crate::rows::{Range, Slice, range_of, slice};
 use arrayvec::ArrayVec;
-use cfi_tests_bytes::THREE_ROWS;
+use cfi_guide::hexadecimal::THREE_ROWS;
 use gimli_cfi::{
     ArrayLike, BaseAddresses, CopyList, DebugFrame, Error, LittleEndian, NarrowSlice, Reader,
     ReaderOffset, Register, RegisterRule, StoreGrowing, StoreOnHeap, UnwindContext,

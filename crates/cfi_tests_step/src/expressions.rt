@@ -1,7 +1,7 @@
 //! The values of expressions, and each error once.
 use crate::comparison::expect;
 use cfi_expression::{AddressSize, Frame, FrameError, Window, evaluate};
-use cfi_tests_bytes::bytes_of;
+use cfi_guide::hexadecimal::bytes_of;
 use gimli_cfi::{EndianSlice, Error, Expression, LittleEndian, ReaderOffsetId, Register};
 use std::test::Fail;
 

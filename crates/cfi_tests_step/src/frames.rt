@@ -6,11 +6,11 @@ ghost use Rattle.cfi_step.specs.ModuleLists.{module_list};
 use crate::comparison::expect;
 use cfi_compiled::CompiledTable;
 use cfi_expression::{AddressSize, FrameError, Memory, Window};
+use cfi_guide::hexadecimal::bytes_of;
 use cfi_step::{
     Abi, CachedRow, End, LoadedModule, Modules, Process, StackFrame, Walk, clear_rows, unwind,
     unwind_cached,
 };
-use cfi_tests_bytes::bytes_of;
 use gimli_cfi::{
     BaseAddresses, EhFrame, EndianSlice, Error, LittleEndian, Reader, Register, UnwindContext,
     Vendor,

@@ -2,8 +2,8 @@
 use crate::comparison::expect;
 use crate::frames::{SECTION, module_at, section_of};
 use cfi_expression::{AddressSize, Frame, Window};
+use cfi_guide::hexadecimal::bytes_of;
 use cfi_step::{Abi, Caller, Function, FunctionStep, step_in_function};
-use cfi_tests_bytes::bytes_of;
 use gimli_cfi::{BaseAddresses, EndianSlice, LittleEndian, Pointer, Register, UnwindContext};
 use std::alloc::Global;
 use std::test::Fail;

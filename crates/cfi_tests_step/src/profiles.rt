@@ -2,8 +2,8 @@
 //! a pipe. The expected values are what `perf script -D` prints of the two. Which error another
 //! profile returns is proved.
 use crate::comparison::expect;
+use cfi_guide::hexadecimal::bytes_of;
 use cfi_perf::{Event, PerfError, Profile, Record, RecordWalk, Sample};
-use cfi_tests_bytes::bytes_of;
 use std::alloc::Global;
 use std::test::Fail;
 

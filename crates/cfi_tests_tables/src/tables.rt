@@ -2,7 +2,7 @@
 //! errors they have.
 use crate::comparison::expect;
 use cfi_compiled::CompiledTable;
-use cfi_tests_bytes::{bytes_of, joined};
+use cfi_guide::hexadecimal::{bytes_of, joined};
 use gimli_cfi::{
     BaseAddresses, DebugFrame, EndianSlice, Error, LittleEndian, Reader, StoreGrowing,
     UnwindContext, UnwindContextStorage,

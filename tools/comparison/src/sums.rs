@@ -1,4 +1,4 @@
-//! Counts and checksums of whole passes, by the steps of crates/cfi_passes/src/sums.rt.
+//! Counts and checksums of whole passes, by the steps of crates/cfi_answers/src/sums.rt.
 use crate::answer::{Answer, Cfa, Row, Rule};
 
 /// How many values a pass met, and their checksum.

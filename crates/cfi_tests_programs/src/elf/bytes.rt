@@ -2,7 +2,7 @@
 //! order. Each has the sections `.text`, `.eh_frame`, `.bss`, `.symtab`, `.strtab` and `.shstrtab`,
 //! a segment of type `PT_LOAD` from `.text` on, one of type `PT_GNU_EH_FRAME`, and the symbols
 //! `start` (undefined), `starts`, `start` and `other`. readelf says so.
-use cfi_tests_bytes::bytes_of;
+use cfi_guide::hexadecimal::bytes_of;
 use std::alloc::Global;
 use std::test::Fail;
 

@@ -3,7 +3,7 @@
 use super::printed::{ALL_ROWS, DUMP, FILE, FailsAfter, prints};
 use crate::comparison::expect;
 use cfi_files::{Printed, Request, run_on_file};
-use cfi_tests_bytes::bytes_of;
+use cfi_guide::hexadecimal::bytes_of;
 use cfi_text::style::Format;
 use std::alloc::Global;
 use std::process::Abort;

@@ -1,5 +1,5 @@
 use Rattle.std.proofs.Common.{◌≡◌}
-use Rattle.cfi_passes.proofs.passes.walk_in.Given as goal
+use Rattle.cfi_answers.proofs.passes.walk_in.Given as goal
 
 -- the entries are those of the section
 abbrev pub invariant-loop : goal.invariant-loop

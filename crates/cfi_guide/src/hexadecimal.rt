@@ -1,5 +1,4 @@
-//! Sections as bytes, for several crates of tests.
-#![tactic(auto)]
+//! Sections as bytes that are written in hexadecimal, for examples and tests.
 
 use hex::FromHexError;
 use std::alloc::Global;

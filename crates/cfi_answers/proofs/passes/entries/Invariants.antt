@@ -1,5 +1,5 @@
 use Rattle.cfi_read_core.specs.ReaderCalls.{remaining}
-use Rattle.cfi_passes.proofs.passes.entries.Given as goal
+use Rattle.cfi_answers.proofs.passes.entries.Given as goal
 
 -- each entry takes a byte at least
 abbrev pub decreases-loop-entry : goal.decreases-loop-entry
