@@ -386,7 +386,7 @@ void cfi_cache_clear(CfiCache *cache);
  * its FDE, its header or an instruction; else the row is found as by cfi_step, and kept if it is a plain one, as compilers
  * write them: at most 13 rules, of registers that are undefined, saved at the CFA plus -1000 to 1016 bytes, a multiple of 8, or 0
  * or 1, as the sign state of AArch64; the CFA a register plus a multiple of 8; pushed arguments of up to 504 bytes, a multiple of
- * 8. Which row is replaced is open. Without a cache it is cfi_step.
+ * 8. Which row is replaced is open. Of a file whose number is 2^32 or more no row is kept. Without a cache it is cfi_step.
  *
  * file is the caller's number for the module's file: all modules that are passed with this cache and this number have the same
  * eh_frame, header and bases, and the size of an address is the same with all numbers. Whoever closes a module, and then uses
