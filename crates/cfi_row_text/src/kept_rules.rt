@@ -11,7 +11,7 @@ ghost use Rattle.cfi_row_text.specs.RowLines.{ruled, rules_by};
 use crate::register_rules::is_rising;
 use crate::row_text::push_ruled;
 use arrayvec::ArrayVec;
-use cfi_text::line_buffer::Text;
+use cfi_text::line_buffer::LineBuffer;
 use cfi_text::register_names::RegisterNames;
 use gimli_cfi::{Register, RegisterRule, RegisterRuleIter};
 use std::fmt;
