@@ -1,7 +1,8 @@
 -- A text that is put together part by part.
 use Rattle.std.proofs.Common.{◌≡◌, ◌∙◌, ℕ, ◌+◌, ◌<◌, ◌≤◌, ◌==◌, Bool, true, false, List, [], ◌∷◌, ◌++◌, refl, sym, ap, subst, append-nil, append_assoc, length, drop, take, get_or, map, add-one}
 use Rattle.std.specs.Prelude.{if◌then◌else◌}
-use Rattle.std.specs.List.{flat_map}
+use Rattle.std.specs.Fmt.{WritesInCalls}
+use Rattle.std.specs.List.{FoldsTo, concat, flat_map}
 use Rattle.std.proofs.Math.Seq.{drop-cons}
 use Rattle.std.proofs.lemmas.Bool.{ne_eqb}
 use Rattle.std.proofs.lemmas.List.{drop_all, take_rest}
@@ -80,3 +81,12 @@ module _ (f : NamePart → List ℕ) (name bytes : List ℕ) (part : NamePart) w
       let made : flat_map f (parts bytes) ≡ f part ++ rest = subst (λ (p : NamePart). flat_map f (parts bytes) ≡ f p ++ flat_map f (parts (drop (length p.bytes) bytes))) (sym first) (made_first f bytes some) in
       let next : IsPut x y (f part ++ rest) (flat_map f (parts name)) = subst (λ (text : List ℕ). IsPut x y text (flat_map f (parts name))) made given in
       subst (λ (text : List ℕ). IsPut x z (flat_map f (parts text)) (flat_map f (parts name))) (sym is) (put_more x y z (f part) rest (flat_map f (parts name)) next more)
+
+-- ---- what a value displays, in calls of `write_str`
+
+in_parts : (x : Text) (parts : List (List ℕ)) (y : Text) → FoldsTo (λ (old : Text) (text : List ℕ) (new : Text). Puts text old new) x parts y → Puts (concat parts) x y
+in_parts x [] y is = subst (λ (z : Text). Puts [] x z) is (nothing x)
+in_parts x (part ∷ parts) y is = both x is.0 y part (concat parts) is.1 (in_parts is.0 parts y is.2)
+
+pub in_calls : (x : Text) (text : List ℕ) (y : Text) → WritesInCalls (λ (old : Text) (text : List ℕ) (new : Text). Puts text old new) x text y → Puts text x y
+in_calls x text y is = same x y (concat is.parts) text is.whole (in_parts x is.parts y is.calls)

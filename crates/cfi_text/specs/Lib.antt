@@ -3,6 +3,7 @@ pub mod Texts
 pub mod Escapes
 pub mod Addresses
 pub mod ErrorWords
+pub mod ErrorLines
 pub mod WordTexts
 pub mod Lines
 pub mod Refusals

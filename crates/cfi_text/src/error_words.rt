@@ -39,7 +39,7 @@ pub fn parting(format: Format) -> &'static str
 }
 
 /// Returns what to do about an error, after its sentence.
-fn advice_on(error: Error) -> &'static str
+pub fn advice_on(error: Error) -> &'static str
     ensures { result.now ≡ advice_on error }
 {
     match error {

@@ -2,11 +2,13 @@
 ghost use Rattle.std.specs.Prelude.{◌≡◌, ◌∷◌, [], flat_map};
 ghost use Rattle.cfi_text.specs.Escapes.{drawn, entity, escaped, escaped_part, harmless};
 ghost use Rattle.cfi_text.specs.Escapes.{is_outside_xml, shown_byte, with_bytes};
-ghost use Rattle.cfi_text.specs.JsonTexts.{json_escape, json_escaped, json_part, number_escape};
+ghost use Rattle.cfi_text.specs.JsonTexts.{json_escape, json_escaped, json_number};
+ghost use Rattle.cfi_text.specs.JsonTexts.{json_part, number_escape};
 ghost use Rattle.cfi_text.specs.JsonTexts.{replacement};
 ghost use Rattle.cfi_text.specs.Names.{byte_escape, name_part_view, shown, shown_part};
 ghost use Rattle.cfi_text.specs.Texts.{Puts};
 
+use crate::json::EXACT;
 use crate::name_parts::{Kind, Part, byte_escape, digit, first_part, is_plain, scalar};
 use crate::text::Text;
 
@@ -25,9 +27,9 @@ pub enum Escaping {
     Plain,
 }
 
-/// What stands between the functions of a stack under `Escaping::Plain`: the unit separator of
-/// ASCII, which comes before every character that is shown in the order of bytes.
-pub const SEPARATOR: u8 = 31;
+/// What stands between the functions of a stack under `Escaping::Plain`: NUL, which comes before every
+/// other byte in the order of bytes, and is escaped in names.
+pub const SEPARATOR: u8 = 0;
 
 impl Text {
     /// Appends what stands for a name: at once where each byte is printable ASCII, and so it
@@ -71,6 +73,20 @@ impl Text {
             Escaping::Folded(_) => self.with_kind(escaping, part),
             Escaping::Xml => self.drawn(escaping, part),
             Escaping::Plain => self.plain(part),
+        }
+    }
+
+    /// Appends the number in JSON: from 2^53 on, above which readers may round, as a string (RFC 8259,
+    /// section 6).
+    pub fn json_number(&mut self, number: u64)
+        ensures { Puts (json_number number) self.old self.new }
+    {
+        if number < EXACT {
+            self.number(number);
+        } else {
+            self.put(b"\"");
+            self.number(number);
+            self.put(b"\"");
         }
     }
 

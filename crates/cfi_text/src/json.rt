@@ -12,7 +12,7 @@ use std::io::Write;
 use std::{fmt, io};
 
 /// The numbers below this one are the same for every reader of JSON.
-const EXACT: u64 = 1 << 53;
+pub(crate) const EXACT: u64 = 1 << 53;
 
 /// Appends the number; the digits of one from 2^53 on are a string (section 6).
 pub fn push_number(text: &mut LineBuffer, number: u64) -> fmt::Result

@@ -4,6 +4,7 @@
 #![tactic(auto)]
 
 pub mod beginnings;
+pub mod error_lines;
 pub mod error_words;
 pub mod escapes;
 pub mod input_refusals;

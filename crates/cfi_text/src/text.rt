@@ -1,5 +1,5 @@
 //! A text that is put together part by part, and then written or returned.
-ghost use Rattle.std.specs.Prelude.{◌≡◌, [], IfOk, OnOk};
+ghost use Rattle.std.specs.Prelude.{◌≡◌, [], IfOk, IfSome, OnOk, true};
 ghost use Rattle.cfi_text.specs.Lines.{address_text};
 ghost use Rattle.cfi_text.specs.Texts.{IsWhole, Puts, contents};
 ghost use Rattle.cfi_text.specs.WriterOutput.{Writes};
@@ -79,9 +79,12 @@ impl Text {
     }
 
     /// Appends what a value displays. Slower than the others: for a line here and there.
-    pub fn show<D: Display + Drop>(&mut self, value: D) {
-        if write!(self, "{value}").is_err() {
-            self.is_short = true;
+    pub fn show<D: Display + Drop>(&mut self, value: D)
+        ensures { IfSome (D.output value) (λ shown. Puts shown self.old self.new) }
+    {
+        match write!(self, "{value}") {
+            Ok(()) => {}
+            Err(_) => self.is_short = true,
         }
     }
 
@@ -109,6 +112,8 @@ impl Text {
         ensures whole { OnOk result (IsWhole self.old) }
         ensures empty { OnOk result (contents self.new ≡ []) }
         ensures ready { OnOk result (IsWhole self.new) }
+        ensures unwritten { self.old.is_short ≡ true →
+            W.contents output.new ≡ W.contents output.old }
     {
         if self.is_short {
             return Err(io::Error::from(ErrorKind::OutOfMemory));
