@@ -1,7 +1,7 @@
 -- What lines say of errors.
---     refusal_words name said advice      in text: the name, in a sentence what it says, and what to
---         do about it
---     json_reason, json_refusal      the same as the end of an object of JSON, and for a reason alone
+--     refusal_words name said advice      in text: the name, a sentence, and what to do about it
+--     json_refusal name said advice      the same as the end of an object of JSON
+--     json_reason reason      the end of an object that has a reason alone
 use Rattle.std.specs.Prelude.{ℕ, List, ◌++◌, codes}
 
 abbrev pub refusal_words : List ℕ → List ℕ → List ℕ → List ℕ
@@ -13,4 +13,5 @@ json_reason reason = codes "\"error\":\"" ++ (reason ++ codes "\"}\n")
 
 abbrev pub json_refusal : List ℕ → List ℕ → List ℕ → List ℕ
 json_refusal name said advice =
-    codes "\"error\":\"" ++ (name ++ (codes "\",\"reason\":\"" ++ (said ++ (advice ++ codes "\"}\n"))))
+    codes "\"error\":\""
+    ++ (name ++ (codes "\",\"reason\":\"" ++ (said ++ (advice ++ codes "\"}\n"))))

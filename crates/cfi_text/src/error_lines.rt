@@ -47,7 +47,7 @@ impl Text {
         }
     }
 
-    /// Appends that something was refused, by the name of the error, in a sentence what it says, and
+    /// Appends that something was refused: the name of the error, in a sentence what it says, and
     /// what to do about it.
     pub fn refusal_words<D: Display + Drop>(&mut self, name: &str, sentence: D, advice: &str)
         ensures { IfSome (D.output sentence) (λ said.

@@ -27,8 +27,8 @@ pub enum Escaping {
     Plain,
 }
 
-/// What stands between the functions of a stack under `Escaping::Plain`: NUL, which comes before every
-/// other byte in the order of bytes, and is escaped in names.
+/// What stands between the functions of a stack under `Escaping::Plain`: NUL, which comes before
+/// every other byte, and is escaped in names.
 pub const SEPARATOR: u8 = 0;
 
 impl Text {
@@ -76,8 +76,8 @@ impl Text {
         }
     }
 
-    /// Appends the number in JSON: from 2^53 on, above which readers may round, as a string (RFC 8259,
-    /// section 6).
+    /// Appends the number in JSON: from 2^53 on, above which readers may round, as a string (RFC
+    /// 8259, section 6).
     pub fn json_number(&mut self, number: u64)
         ensures { Puts (json_number number) self.old self.new }
     {
