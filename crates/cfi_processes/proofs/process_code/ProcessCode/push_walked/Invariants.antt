@@ -1,7 +1,7 @@
 use Rattle.std.proofs.Common.{◌≡◌, ◌++◌, drop, map}
 use Rattle.cfi_processes.specs.Frames.{frame_view, walked_frame}
 use Rattle.cfi_processes.specs.KnownFiles.{known_view}
-use Rattle.cfi_processes.proofs.frames.ProcessCode.push_walked.Given as goal
+use Rattle.cfi_processes.proofs.process_code.ProcessCode.push_walked.Given as goal
 
 abbrev pub invariant-loop-frame : goal.invariant-loop-frame
 invariant-loop-frame l =

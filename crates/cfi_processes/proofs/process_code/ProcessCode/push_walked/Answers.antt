@@ -3,7 +3,7 @@ use Rattle.cfi_step.specs.declared.walk.StackFrame.{StackFrame}
 use Rattle.cfi_processes.specs.Frames.{frame_view, walked_frame}
 use Rattle.cfi_processes.specs.KnownFiles.{known_view}
 use Rattle.cfi_processes.proofs.FrameLemmas.{left_at, one_made}
-use Rattle.cfi_processes.proofs.frames.ProcessCode.push_walked.Goals as goal
+use Rattle.cfi_processes.proofs.process_code.ProcessCode.push_walked.Goals as goal
 
 no_frame : StackFrame
 no_frame = record { pc = 0; is_interrupted = false; cfa = None }

@@ -2,7 +2,7 @@ use Rattle.std.proofs.Common.{map}
 use Rattle.cfi_processes.specs.Frames.{called_frame, frame_view}
 use Rattle.cfi_processes.specs.KnownFiles.{known_view}
 use Rattle.cfi_processes.proofs.FrameLemmas.{all_made, one_made}
-use Rattle.cfi_processes.proofs.frames.ProcessCode.push_called.Goals as goal
+use Rattle.cfi_processes.proofs.process_code.ProcessCode.push_called.Goals as goal
 
 pub loop-address-preserved : goal.loop-address-preserved
 loop-address-preserved c =

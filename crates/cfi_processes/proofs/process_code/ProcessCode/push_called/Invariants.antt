@@ -2,7 +2,7 @@ use Rattle.std.proofs.Common.{◌≡◌, ◌++◌, map}
 use Rattle.cfi_perf.specs.CallChains.{addresses_left}
 use Rattle.cfi_processes.specs.Frames.{called_frame, frame_view}
 use Rattle.cfi_processes.specs.KnownFiles.{known_view}
-use Rattle.cfi_processes.proofs.frames.ProcessCode.push_called.Given as goal
+use Rattle.cfi_processes.proofs.process_code.ProcessCode.push_called.Given as goal
 
 abbrev pub invariant-loop-address : goal.invariant-loop-address
 invariant-loop-address l =
