@@ -4,5 +4,6 @@ mod WorkedSamples
 mod WorkedSites
 pub mod CodeLemmas
 pub mod ModuleLemmas
+mod FrameLemmas
 mod ProfileImages
 mod ProfileLemmas

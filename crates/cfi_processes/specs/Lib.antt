@@ -1,5 +1,6 @@
 pub mod FileFunctions
 pub mod FileModules
+pub mod Frames
 pub mod KernelSites
 pub mod KnownFiles
 pub mod Modules

@@ -10,7 +10,7 @@ ghost use Rattle.cfi_processes.specs.KernelSites.{kernel_name, kernel_names, ker
 ghost use Rattle.cfi_processes.specs.KernelSites.{kernel_symbol, kernel_names_if, kernel_names_of};
 ghost use Rattle.cfi_processes.specs.KnownFiles.{known_view};
 ghost use Rattle.cfi_mapped.specs.Mappings.{AreMappedInOrder};
-ghost use Rattle.cfi_processes.specs.Sites.{site_view};
+ghost use Rattle.cfi_processes.specs.Sites.{site_view, without_function};
 
 use crate::process_code::ProcessCode;
 use crate::sites::Site;
@@ -30,11 +30,23 @@ impl<'a, 'files, 'run> ProcessCode<'a, 'files, 'run> {
         ensures { site_view result
             ≡ kernel_site (map known_view self.now.files.now) self.now.mappings.now address }
     {
-        let file = kernel_name_of(self.place(address).file);
+        let site = self.kernel_place(address);
+        Site {
+            function: function_by(site.file, address, self.kernel_symbol(address)),
+            ..site
+        }
+    }
+
+    /// Where an address of the kernel is, as `kernel_site`, without the function.
+    pub fn kernel_place(&self, address: u64) -> Site<'run>
+        requires { AreMappedInOrder 0 self.now.mappings.now }
+        ensures { site_view result ≡ without_function
+            (kernel_site (map known_view self.now.files.now) self.now.mappings.now address) }
+    {
         Site {
             place: address,
-            function: function_by(file, address, self.kernel_symbol(address)),
-            file,
+            function: None,
+            file: kernel_name_of(self.place(address).file),
         }
     }
 

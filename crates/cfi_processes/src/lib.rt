@@ -4,12 +4,14 @@
 //! profile. `profile_files` has the files with their functions and their code: `objects` and
 //! `file_code` make modules of them, `file_functions` finds the names of their functions. `sites`
 //! and `kernel_sites` find the place of an address in them, `process_code` has what is mapped in a
-//! process, `process_modules` its modules. `registers` finds perf's registers by DWARF's numbers,
-//! `stack_walk` writes the frames of a stack over any memory, and `sample_stack` those of a sample.
+//! process, `process_modules` its modules, and `frames` makes frames as values. `registers` finds
+//! perf's registers by DWARF's numbers, `stack_walk` writes the frames of a stack over any memory,
+//! and `sample_stack` those of a sample.
 #![tactic(auto)]
 
 pub mod file_code;
 pub mod file_functions;
+pub mod frames;
 pub mod kernel_sites;
 pub mod objects;
 pub mod process_code;
@@ -21,6 +23,7 @@ pub mod sample_stack;
 pub mod sites;
 pub mod stack_walk;
 
+pub use frames::{Frame, FrameKind};
 pub use objects::Object;
 pub use process_code::ProcessCode;
 pub use registers::SampleMachine;
