@@ -25,14 +25,14 @@ entity c =
     else if c == 34 then codes "&quot;"
     else c ∷ []
 
--- in a text of folded stacks the unit separator of ASCII (31), which comes before every character
--- that is shown, stands for a semicolon
+-- in a text of folded stacks NUL, which comes before every other byte and is escaped in names,
+-- stands for a semicolon
 abbrev pub shown_byte : Escaping → ℕ → List ℕ
 shown_byte Text = λ c. c ∷ []
 shown_byte Json = json_escape
 shown_byte (Folded space) = λ c. harmless space c ∷ []
 shown_byte Xml = entity
-shown_byte Plain = λ c. (if c == 59 then 31 else c) ∷ []
+shown_byte Plain = λ c. (if c == 59 then 0 else c) ∷ []
 
 -- ---- a part of a name
 

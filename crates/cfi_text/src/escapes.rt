@@ -25,9 +25,9 @@ pub enum Escaping {
     Plain,
 }
 
-/// What stands between the functions of a stack under `Escaping::Plain`: the unit separator of
-/// ASCII, which comes before every character that is shown in the order of bytes.
-pub const SEPARATOR: u8 = 31;
+/// What stands between the functions of a stack under `Escaping::Plain`: NUL, which comes before every
+/// other byte in the order of bytes, and is escaped in names.
+pub const SEPARATOR: u8 = 0;
 
 impl Text {
     /// Appends what stands for a name: at once where each byte is printable ASCII, and so it
