@@ -31,61 +31,53 @@ FAULTS = [
         "box-at-its-end",
         "a box of a flame graph begins where it ends",
         "cfi_flame/src/graph.rt",
-        "push_position(text, start, row,",
-        "push_position(text, if SWITCH() { end } else { start }, row,",
+        "text.number(start);",
+        "text.number(if SWITCH() { end } else { start });",
     ),
     (
         "semicolon-before-count",
         "a folded line has a semicolon before its count",
         "cfi_flame/src/counts.rt",
-        'push(text, b" ")?;',
-        'if SWITCH() {\n        push(text, b";")?;\n    } else {\n        push(text, b" ")?;\n    }',
+        'text.put(b" ");',
+        'if SWITCH() {\n        text.put(b";");\n    } else {\n        text.put(b" ");\n    }',
     ),
     (
         "reverse-turned-round",
         "a graph is turned without --reverse, and not with it",
         "cfi_flame/src/flame.rt",
-        "if drawing.reverse {",
-        "if drawing.reverse != SWITCH() {",
+        "if !drawing.reverse {",
+        "if drawing.reverse == SWITCH() {",
     ),
     (
         "less-than-as-it-is",
         "`<` isn't escaped in a graph",
-        "cfi_flame/src/graph.rt",
-        "b'<' => push(text, b\"&lt;\"),",
-        "b'<' => {\n            if SWITCH() {\n                push(text, b\"<\")\n            } else {\n"
-        "                push(text, b\"&lt;\")\n            }\n        }",
+        "cfi_text/src/escapes.rt",
+        "b'<' => self.put(b\"&lt;\"),",
+        "b'<' => {\n            if SWITCH() {\n                self.put(b\"<\")\n            } else {\n"
+        "                self.put(b\"&lt;\")\n            }\n        }",
     ),
     (
         "own-and-total-exchanged",
         "a report has the samples of a function and all of its stacks' the other way round",
         "cfi_flame/src/report.rt",
-        "push_count(alloc, text, all, row.own)?;\n    push_count(alloc, text, all, row.total)?;",
+        "put_count(report, width, all, row.own);\n        put_count(report, width, all, row.total);",
         "let is_exchanged = SWITCH();\n"
-        "    push_count(alloc, text, all, if is_exchanged { row.total } else { row.own })?;\n"
-        "    push_count(alloc, text, all, if is_exchanged { row.own } else { row.total })?;",
+        "        put_count(report, width, all, if is_exchanged { row.total } else { row.own });\n"
+        "        put_count(report, width, all, if is_exchanged { row.own } else { row.total });",
     ),
     (
-        "cut-graph-as-whole",
-        "a graph that memory was refused for is printed as far as it was made",
-        "cfi_flame/src/graph.rt",
-        "push_graph(&mut text, title, deepest_of(boxes) as u128, total, boxes)?;",
-        "let pushed = push_graph(&mut text, title, deepest_of(boxes) as u128, total, boxes);\n"
-        "    if !SWITCH() {\n        pushed?;\n    }",
-    ),
-    (
-        "cut-report-as-whole",
-        "a report that memory was refused for is printed as far as it was made",
-        "cfi_flame/src/report.rt",
-        "push_table(alloc, &mut text, all, rows)?;",
-        "let pushed = push_table(alloc, &mut text, all, rows);\n    if !SWITCH() {\n        pushed?;\n    }",
+        "cut-text-as-whole",
+        "a graph or a report that memory was refused for is printed as far as it was made",
+        "cfi_text/src/text.rt",
+        "        if self.is_short {\n            return Err(AllocError);",
+        "        if self.is_short && !SWITCH() {\n            return Err(AllocError);",
     ),
     (
         "box-of-32-bits",
         "a box counts 32 bits of the samples of a stack",
         "cfi_flame/src/boxes.rt",
-        "        width += stack.count;",
-        "        width += if SWITCH() { stack.count & 0xffff_ffff } else { stack.count };",
+        "        width += stacks[k].count;",
+        "        width += if SWITCH() { stacks[k].count & 0xffff_ffff } else { stacks[k].count };",
     ),
     (
         "end-of-symbol-in-it",
@@ -206,8 +198,8 @@ FAULTS = [
         "share-rounded",
         "a report rounds shares to hundredths, and doesn't cut them",
         "cfi_flame/src/report.rt",
-        "samples as u128 * 10_000 / all as u128)",
-        "(samples as u128 * 10_000 + if SWITCH() { all as u128 / 2 } else { 0 }) / all as u128)",
+        "samples as u128 * 10_000 / all.max(1) as u128;",
+        "(samples as u128 * 10_000 + if SWITCH() { all as u128 / 2 } else { 0 }) / all.max(1) as u128;",
     ),
     (
         "width-of-its-own",
@@ -228,23 +220,23 @@ FAULTS = [
         "another-hue",
         "a box has the hue of the next degree",
         "cfi_flame/src/graph.rt",
-        "10 + hash as u128 % 50",
-        "10 + u128::from(SWITCH()) + hash as u128 % 50",
+        "10 + hash % 50",
+        "10 + u64::from(SWITCH()) + hash % 50",
     ),
     (
         "graph-of-one-row-less",
         "a graph is a row too low for its boxes",
         "cfi_flame/src/graph.rt",
-        "push_head(text, title, deepest + 5)?;",
-        "push_head(text, title, deepest + if SWITCH() { 4 } else { 5 })?;",
+        "text.number(rows as u128 + 4);",
+        "text.number(rows as u128 + if SWITCH() { 3 } else { 4 });",
     ),
     (
         "quotation-mark-as-it-is",
         "`\"` isn't escaped in a graph",
-        "cfi_flame/src/graph.rt",
-        "b'\"' => push(text, b\"&quot;\"),",
-        "b'\"' => {\n            if SWITCH() {\n                push(text, b\"\\\"\")\n            } else {\n"
-        "                push(text, b\"&quot;\")\n            }\n        }",
+        "cfi_text/src/escapes.rt",
+        "b'\"' => self.put(b\"&quot;\"),",
+        "b'\"' => {\n            if SWITCH() {\n                self.put(b\"\\\"\")\n            } else {\n"
+        "                self.put(b\"&quot;\")\n            }\n        }",
     ),
     (
         "semicolon-in-name",
@@ -367,7 +359,7 @@ FAULTS = [
     ),
 ]
 # Those for which .ci/refused_runs.py is run, too.
-REFUSED = {"cut-graph-as-whole", "cut-report-as-whole"}
+REFUSED = {"cut-text-as-whole"}
 
 # What is linked to the program: the switch, by the variable.
 SWITCH = """

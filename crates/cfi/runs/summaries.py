@@ -15,7 +15,6 @@ from fractions import Fraction
 from pathlib import Path
 
 FILES = ("graphs", "flame", "report", "fold")
-HEADING = b"        self    self%       total   total%  function\n"
 UNFOLDED = re.compile(rb"^(.*?) +\d+/\d+ +(?:\[\d+\] )?\d+\.\d{6}: +(\d+) .*:$")
 
 
@@ -99,11 +98,15 @@ def report(text, options):
         functions = ({"function": name.decode(), "self": number(own.get(name, 0)), "total": number(total[name])} for name in order)
         return objects({"samples": number(samples)}, *functions), 0
 
+    # A number has a space before it, however long it is.
+    width = max([12, *(len(str(count)) + 1 for count in total.values())])
+
     def counted(count):
         share = count * 10000 // samples
-        return b"%12d%9s" % (count, b"%d.%02d%%" % divmod(share, 100))
+        return b"%*d%9s" % (width, count, b"%d.%02d%%" % divmod(share, 100))
 
-    return HEADING + b"".join(b"%s%s  %s\n" % (counted(own.get(name, 0)), counted(total[name]), name) for name in order), 0
+    heading = b"%*s%9s%*s%9s  function\n" % (width, b"self", b"self%", width, b"total", b"total%")
+    return heading + b"".join(b"%s%s  %s\n" % (counted(own.get(name, 0)), counted(total[name]), name) for name in order), 0
 
 
 def escaped(name):

@@ -1,26 +1,20 @@
--- The law of a flame graph: it holds of the stacks of every text, whose order and whose bytes are
--- those that it needs.
-use Rattle.std.proofs.Common.{◌≡◌, ◌∙◌, ℕ, suc, ◌+◌, false, cond, List, [], ◌∷◌, None, get_or, map, refl, sym, ap, subst, sum_by, arith}
+-- The law of a flame graph: it holds of the boxes of all stacks, in the order in which they are sorted.
+use Rattle.std.proofs.Common.{◌≡◌, Result, Ok, Err, IfOk, ◌∙◌, ℕ, suc, ◌+◌, false, cond, List, [], ◌∷◌, None, get_or, map, refl, sym, ap, subst, arith}
 use Rattle.std.proofs.lemmas.Cmp.{nat_list_cmp_total}
-use Rattle.std.proofs.lemmas.List.Elements.{All-filter, All-from_recursion, All-weaker, recursion_from_All}
-use Rattle.std.proofs.lemmas.List.Sorted.{All-permutation, IsPermutation-map, sum_by-IsPermutation}
-use Rattle.std.proofs.lemmas.List.Sums.{sum_by-cons}
+use Rattle.std.proofs.lemmas.List.Elements.{All-filter, All-weaker}
+use Rattle.std.proofs.lemmas.List.Sorted.{IsPermutation-map, sum_by-IsPermutation}
 use Rattle.std.specs.Cmp.Lexicographic.{slice_cmp}
 use Rattle.std.specs.List.Sorted.{IsPermutation, IsSortedByKey}
 use Rattle.std.specs.Ordering.{is_gt, is_lt, nat_cmp, ordering_reverse}
 use Rattle.std.specs.declared.cmp.Ordering.{Ordering}
 use Rattle.std.specs.declared.cmp.Ordering.TheVariants.{Less, Equal, Greater}
 use Rattle.cfi_flame.specs.declared.folded.Stack.{Stack as StackOfCode}
-use Rattle.cfi_flame.specs.Boxes.{is_front, boxes_of, is_wide}
+use Rattle.cfi_flame.specs.Boxes.{Box, is_front, boxes_of, is_wide}
 use Rattle.cfi_flame.specs.FoldedStacks.{total_of}
 use Rattle.cfi_flame.specs.FoldedStacks.{Stack, stack_view}
-use Rattle.cfi_flame.specs.PlainTexts.{plain}
-use Rattle.cfi_flame.specs.Flames.{Drawing, IsLawful, IsLawfulOfPlain, IsGraphOfPlain, IsGraphOfSorted, IsGraphOfStacks, drawn_boxes}
-use Rattle.cfi_flame.specs.Graphs.{graph_text}
-use Rattle.cfi_flame.specs.Pictures.{AreInByteOrder, AllPlain, AreShares, IsPlain, RisesFrom, Upto, samples_under}
-use Rattle.cfi_flame.specs.Turned.{as_read}
+use Rattle.cfi_flame.specs.Flames.{IsLawful, IsPictureOf, IsPictureOfSorted, drawn_boxes}
+use Rattle.cfi_flame.specs.Pictures.{AreInByteOrder, AreShares, RisesFrom, Upto, samples_under}
 use Rattle.cfi_flame.proofs.PictureLemmas.{picture_of, picture_of_wide}
-use Rattle.cfi_flame.proofs.PlainLemmas.{read_plain, stacks_plain}
 use Rattle.cfi_flame.proofs.SharesLemmas.{shares_of}
 
 -- ---- sorted stacks are in order
@@ -52,30 +46,22 @@ in_order (s ∷ rest) h = rises s rest h
 
 -- ---- and have what the others had
 
-total_by : (stacks : List Stack) → total_of stacks ≡ sum_by (λ stack. stack.count) stacks
-total_by [] = refl
-total_by (s ∷ rest) = ap (λ (n : ℕ). s.count + n) (total_by rest) ∙ sym (sum_by-cons (λ (stack : Stack). stack.count) s rest)
-
-pub lawful_sorted : (drawing : Drawing) (stacks sorted : List Stack) (graph : List ℕ) → AllPlain stacks → IsPermutation stacks sorted → AreInByteOrder sorted → IsGraphOfSorted drawing sorted graph → IsLawful drawing stacks graph
-lawful_sorted drawing stacks sorted graph plain same order is =
-    let plainly : AllPlain sorted = recursion_from_All (λ stack. IsPlain stack.frames) sorted (All-permutation (λ stack. IsPlain stack.frames) stacks sorted same (All-from_recursion (λ stack. IsPlain stack.frames) stacks plain)) in
-    let total : total_of sorted ≡ total_of stacks = total_by sorted ∙ sum_by-IsPermutation (λ (stack : Stack). stack.count) stacks sorted same ∙ sym (total_by stacks) in
-    let shares : AreShares sorted (boxes_of sorted) = shares_of None 0 sorted order plainly in
+lawful_sorted : (least total : ℕ) (stacks sorted : List Stack) (boxes : List Box) → IsPermutation stacks sorted → AreInByteOrder sorted → IsPictureOfSorted least sorted total boxes → IsLawful stacks boxes
+lawful_sorted least total stacks sorted boxes same order is =
+    let shares : AreShares sorted (boxes_of sorted) = shares_of None 0 sorted order in
     let samples : (front : List ℕ) → samples_under front sorted ≡ samples_under front stacks = λ front. sum_by-IsPermutation (λ (stack : Stack). cond (is_front front stack.frames) stack.count 0) stacks sorted same in
-    record {
-      boxes = drawn_boxes drawing sorted;
-      drawn = is.2 ∙ ap (λ (n : ℕ). graph_text drawing.title n (drawn_boxes drawing sorted)) total;
-      shares = All-weaker (λ box. box.width ≡ samples_under box.functions sorted) (λ box. box.width ≡ samples_under box.functions stacks) (λ box h. h ∙ samples box.functions) (drawn_boxes drawing sorted)
-          (All-filter (λ box. is_wide drawing.least (total_of sorted) box.width) (λ box. box.width ≡ samples_under box.functions sorted) (boxes_of sorted) shares);
-      picture = picture_of_wide drawing.least (total_of sorted) (boxes_of sorted) (picture_of sorted);
-    }
+    subst (IsLawful stacks) (sym is.3) (
+      All-weaker (λ box. box.width ≡ samples_under box.functions sorted) (λ box. box.width ≡ samples_under box.functions stacks) (λ box h. h ∙ samples box.functions) (drawn_boxes least sorted)
+          (All-filter (λ box. is_wide least (total_of sorted) box.width) (λ box. box.width ≡ samples_under box.functions sorted) (boxes_of sorted) shares),
+      picture_of_wide least (total_of sorted) (boxes_of sorted) (picture_of sorted),
+    )
 
-lawful_stacks : (drawing : Drawing) (stacks : List Stack) (graph : List ℕ) → AllPlain stacks → IsGraphOfStacks drawing stacks graph → IsLawful drawing stacks graph
-lawful_stacks drawing stacks graph plain (sorted, are, is) =
-    lawful_sorted drawing stacks sorted graph plain
+pub lawful_stacks : (least total : ℕ) (stacks : List Stack) (boxes : List Box) → IsPictureOf least stacks total boxes → IsLawful stacks boxes
+lawful_stacks least total stacks boxes (sorted, are, is) =
+    lawful_sorted least total stacks sorted boxes
     (subst (λ (all : List Stack). IsPermutation stacks all) are.view (subst (λ (all : List Stack). IsPermutation all (map stack_view are.ordered)) are.are (IsPermutation-map stack_view are.read are.ordered are.same)))
     (subst AreInByteOrder are.view (in_order are.ordered are.by_frames)) is
 
-pub lawful_of : (drawing : Drawing) (text graph : List ℕ) → IsGraphOfPlain drawing (plain text) graph → IsLawfulOfPlain drawing (plain text) graph
-lawful_of drawing text graph (stacks, are, is) =
-    (stacks, are, lawful_stacks drawing (as_read drawing.reverse stacks) graph (read_plain drawing.reverse stacks (stacks_plain text stacks are)) is)
+pub lawful_if : {V E : Type 0} (total : V → ℕ) (boxes : V → List Box) (r : Result V E) (least : ℕ) (stacks : List Stack) → IfOk r (λ picture. IsPictureOf least stacks (total picture) (boxes picture)) → IfOk r (λ picture. IsLawful stacks (boxes picture))
+lawful_if total boxes (Ok picture) least stacks h = lawful_stacks least (total picture) stacks (boxes picture) h
+lawful_if total boxes (Err e) least stacks h = tt

@@ -1,15 +1,14 @@
 pub mod StackLemmas
 pub mod BoxLemmas
-pub mod GraphLemmas
 pub mod FlameLemmas
+pub mod TextMade
 pub mod CountLemmas
 pub mod TallyLemmas
-pub mod ReportLemmas
 pub mod TurnedLemmas
 pub mod BeginLemmas
+pub mod CommonLemmas
 pub mod OpeningLemmas
 pub mod PictureLemmas
-pub mod PlainLemmas
 pub mod Worked
 pub mod SharesLemmas
 pub mod LawLemmas

@@ -1,5 +1,5 @@
 //! Samples that are counted by their stacks.
-ghost use Rattle.std.specs.Prelude.{◌≡◌, ◌<◌, ◌^◌, ◌+◌, ◌++◌, [], IfErr, None, OnOk};
+ghost use Rattle.std.specs.Prelude.{◌≡◌, ◌<◌, ◌^◌, ◌+◌, [], IfErr, None, OnOk};
 ghost use Rattle.std.specs.List.{flat_map};
 ghost use Rattle.std.specs.BTreeMap.{get_by};
 ghost use Rattle.std.specs.Cmp.Lexicographic.{slice_cmp};
@@ -7,10 +7,11 @@ ghost use Rattle.std.specs.Ordering.{nat_cmp};
 ghost use Rattle.cfi_flame.specs.declared.folded.FoldedError.TheVariants.{OutOfMemory};
 ghost use Rattle.cfi_flame.specs.FoldedCounts.{AreCounted, CountsMore, IsNotAdded, IsNotRaised};
 ghost use Rattle.cfi_flame.specs.FoldedCounts.{counted_in, line_text};
+ghost use Rattle.cfi_text.specs.Texts.{Puts};
 
 use crate::folded::FoldedError;
-use crate::text::{push, push_number};
-use std::alloc::{AllocError, Global};
+use cfi_text::text::Text;
+use std::alloc::Global;
 use std::collections::BTreeMap;
 
 /// Samples that are counted by their stacks. Keeps one text for each different stack.
@@ -61,15 +62,13 @@ impl StackCounts {
     }
 
     /// Appends a line for each stack, in the order of their bytes: the stack, a space and the
-    /// number of its samples. Fails where memory is refused.
-    pub fn push_lines(&self, text: &mut Vec<u8>) -> Result<(), AllocError>
-        ensures { OnOk result
-            (text.new.items ≡ text.old.items ++ flat_map line_text (counted_in self.now)) }
+    /// number of its samples.
+    pub fn put_lines(&self, text: &mut Text)
+        ensures { Puts (flat_map line_text (counted_in self.now)) text.old text.new }
     {
         for (frames, count) in self.counts.iter() {
-            push_line(text, frames.as_slice(), *count)?;
+            put_line(text, frames.as_slice(), *count);
         }
-        Ok(())
     }
 }
 
@@ -89,12 +88,12 @@ fn raise(known: &mut u64, count: u64) -> Result<(), FoldedError>
 }
 
 /// Appends the line of a stack.
-fn push_line(text: &mut Vec<u8>, frames: &[u8], count: u64) -> Result<(), AllocError>
-    ensures { OnOk result (text.new.items
-        ≡ text.old.items ++ line_text (record { frames = frames.now; count = count })) }
+fn put_line(text: &mut Text, frames: &[u8], count: u64)
+    ensures { Puts (line_text (record { frames = frames.now; count = count }))
+        text.old text.new }
 {
-    push(text, frames)?;
-    push(text, b" ")?;
-    push_number(text, count as u128)?;
-    push(text, b"\n")
+    text.put(frames);
+    text.put(b" ");
+    text.number(count);
+    text.put(b"\n");
 }

@@ -1,16 +1,14 @@
 //! The flame graph of folded stacks.
 ghost use Rattle.std.specs.Prelude.{◌≡◌, ◌<◌, IfErr, IfOk, map};
-ghost use Rattle.cfi_flame.specs.Flames.{IsGraphOfPlain, IsGraphOfSorted, IsGraphOfStacks};
-ghost use Rattle.cfi_flame.specs.Flames.{IsLawfulOfPlain, IsPlainRefused};
-ghost use Rattle.cfi_flame.specs.Flames.{IsSortedRefused, IsStacksRefused, as_drawn, drawing_view};
+ghost use Rattle.cfi_flame.specs.Boxes.{box_view};
+ghost use Rattle.cfi_flame.specs.Flames.{IsPictureOf, IsPictureOfSorted, IsLawful};
+ghost use Rattle.cfi_flame.specs.Flames.{IsSortedRefused, IsStacksRefused};
 ghost use Rattle.cfi_flame.specs.FoldedStacks.{stack_view, total_of};
-ghost use Rattle.cfi_flame.specs.PlainTexts.{plain};
-ghost use Rattle.cfi_flame.specs.Turned.{as_read, turned, turned_stack};
 
-use crate::boxes::{boxes_of, wide_boxes};
+use crate::boxes::{FlameBox, boxes_of, wide_boxes};
 use crate::folded::{FoldedError, Stack, read_stacks, total_of};
-use crate::graph::flame_graph;
-use crate::plain::{drawn_name, plain_text};
+use crate::graph::graph_of;
+use crate::plain::plain_text;
 use crate::turned::{turned_frames, turned_stacks};
 use std::alloc::{AllocError, Global};
 
@@ -27,164 +25,105 @@ pub struct Drawing<'w> {
     pub least_width: u64,
 }
 
+/// The boxes of a flame graph.
+#[derive(Drop)]
+pub struct Picture<'text> {
+    /// How many samples the stacks have.
+    pub total: u64,
+    /// The boxes, those of each stack from the outermost function in.
+    pub boxes: Vec<FlameBox<'text>>,
+}
+
 /// Returns the flame graph of folded stacks: the text of an SVG file.
 ///
 /// Fails with `NotFolded` at the first line that isn't a stack, a space and a number, with
 /// `NoSamples` where the numbers are all 0, with `TooManySamples` where their sum is 2^64 or more,
 /// and with `OutOfMemory`. Allocates for the stacks, the boxes and the file.
-pub fn flame_of(alloc: Global, drawing: Drawing<'_>, text: &[u8]) -> Result<Vec<u8>, FoldedError>
-    ensures drawn { IfOk result (λ graph.
-        IsGraphOfPlain (as_drawn (drawing_view drawing.entry)) (plain text.now) graph.items) }
-    ensures lawful { IfOk result (λ graph.
-        IsLawfulOfPlain (as_drawn (drawing_view drawing.entry)) (plain text.now) graph.items) }
-    ensures refused { IfErr result
-        (IsPlainRefused (drawing_view drawing.entry) (plain text.now)) }
-{
-    match drawn_name(alloc, drawing.title) {
-        Ok(title) => flame_of_text(
-            alloc,
-            Drawing {
-                title: title.as_slice(),
-                reverse: drawing.reverse,
-                least_width: drawing.least_width,
-            },
-            text,
-        ),
-        Err(_) => Err(FoldedError::OutOfMemory),
-    }
-}
-
-/// Returns the flame graph of folded stacks, with a title as it is drawn.
-fn flame_of_text(alloc: Global, drawing: Drawing<'_>, text: &[u8]) -> Result<Vec<u8>, FoldedError>
-    ensures drawn { IfOk result (λ graph.
-        IsGraphOfPlain (drawing_view drawing.entry) (plain text.now) graph.items) }
-    ensures refused { IfErr result
-        (IsPlainRefused (drawing_view drawing.entry) (plain text.now)) }
-{
-    match plain_text(alloc, text) {
-        Ok(plainer) => flame_of_plain(alloc, drawing, plainer.as_slice()),
-        Err(_) => Err(FoldedError::OutOfMemory),
-    }
+pub fn flame_of(alloc: Global, drawing: Drawing<'_>, text: &[u8]) -> Result<Vec<u8>, FoldedError> {
+    let plainer = plain_text(alloc, text)?;
+    flame_of_plain(alloc, drawing, plainer.as_slice())
 }
 
 /// Returns the flame graph of the stacks of a plain text.
-fn flame_of_plain(alloc: Global, drawing: Drawing<'_>, text: &[u8]) -> Result<Vec<u8>, FoldedError>
-    ensures drawn { IfOk result (λ graph.
-        IsGraphOfPlain (drawing_view drawing.entry) text.now graph.items) }
-    ensures refused { IfErr result (IsPlainRefused (drawing_view drawing.entry) text.now) }
-{
-    match read_stacks(alloc, text) {
-        Ok(stacks) => flame_of_read(alloc, drawing, stacks),
-        Err(error) => Err(error),
-    }
-}
-
-/// Returns the flame graph of stacks as they were read.
-fn flame_of_read(
+fn flame_of_plain(
     alloc: Global,
     drawing: Drawing<'_>,
-    stacks: Vec<Stack<'_>>,
-) -> Result<Vec<u8>, FoldedError>
-    ensures drawn { IfOk result (λ graph. IsGraphOfStacks (drawing_view drawing.entry)
-        (as_read drawing.entry.reverse (map stack_view stacks.entry.items)) graph.items) }
-    ensures refused { IfErr result (IsStacksRefused
-        (as_read drawing.entry.reverse (map stack_view stacks.entry.items))) }
-{
-    if drawing.reverse {
-        flame_by_callers(alloc, drawing, stacks.as_slice())
-    } else {
-        flame_of_stacks(alloc, drawing, stacks)
+    text: &[u8],
+) -> Result<Vec<u8>, FoldedError> {
+    let stacks = read_stacks(alloc, text)?;
+    if !drawing.reverse {
+        return flame_of_stacks(alloc, drawing, stacks);
     }
+    let frames = turned_frames(alloc, stacks.as_slice())?;
+    let turned = turned_stacks(alloc, frames.as_slice(), stacks.as_slice())?;
+    flame_of_stacks(alloc, drawing, turned)
 }
 
-/// Returns the flame graph of stacks that are read from the innermost function out.
-fn flame_by_callers(
-    alloc: Global,
-    drawing: Drawing<'_>,
-    stacks: &[Stack<'_>],
-) -> Result<Vec<u8>, FoldedError>
-    ensures drawn { IfOk result (λ graph. IsGraphOfStacks (drawing_view drawing.entry)
-        (map turned_stack (map stack_view stacks.now)) graph.items) }
-    ensures refused { IfErr result
-        (IsStacksRefused (map turned_stack (map stack_view stacks.now))) }
-{
-    match turned_frames(alloc, stacks) {
-        Ok(frames) => flame_of_turned(alloc, drawing, frames.as_slice(), stacks),
-        Err(_) => Err(FoldedError::OutOfMemory),
-    }
-}
-
-/// Returns the flame graph of stacks with these functions, which are theirs from the innermost one
-/// out.
-fn flame_of_turned(
-    alloc: Global,
-    drawing: Drawing<'_>,
-    frames: &[Vec<u8>],
-    stacks: &[Stack<'_>],
-) -> Result<Vec<u8>, FoldedError>
-    requires { map (λ frames. frames.items) frames.now
-        ≡ map (λ stack. turned stack.frames) (map stack_view stacks.now) }
-    ensures drawn { IfOk result (λ graph. IsGraphOfStacks (drawing_view drawing.entry)
-        (map turned_stack (map stack_view stacks.now)) graph.items) }
-    ensures refused { IfErr result
-        (IsStacksRefused (map turned_stack (map stack_view stacks.now))) }
-{
-    match turned_stacks(alloc, frames, stacks) {
-        Ok(turned) => flame_of_stacks(alloc, drawing, turned),
-        Err(_) => Err(FoldedError::OutOfMemory),
-    }
-}
-
-/// Returns the flame graph of stacks in any order.
+/// Returns the flame graph of these stacks.
 fn flame_of_stacks(
     alloc: Global,
     drawing: Drawing<'_>,
     stacks: Vec<Stack<'_>>,
-) -> Result<Vec<u8>, FoldedError>
-    ensures drawn { IfOk result (λ graph. IsGraphOfStacks (drawing_view drawing.entry)
-        (map stack_view stacks.entry.items) graph.items) }
+) -> Result<Vec<u8>, FoldedError> {
+    let picture = picture_of(alloc, drawing.least_width, stacks)?;
+    Ok(graph_of(alloc, drawing.title, &picture)?)
+}
+
+/// Returns the boxes of stacks in any order, but for those that are narrower than so many
+/// billionths of a pixel. Allocates for them.
+///
+/// Fails with `NoSamples` where the stacks have none, with `TooManySamples` where they have 2^64 or
+/// more, and with `OutOfMemory`.
+pub fn picture_of<'text>(
+    alloc: Global,
+    least_width: u64,
+    stacks: Vec<Stack<'text>>,
+) -> Result<Picture<'text>, FoldedError>
+    ensures found { IfOk result (λ picture. IsPictureOf least_width
+        (map stack_view stacks.entry.items) picture.total (map box_view picture.boxes.items)) }
+    ensures lawful { IfOk result (λ picture.
+        IsLawful (map stack_view stacks.entry.items) (map box_view picture.boxes.items)) }
     ensures refused { IfErr result (IsStacksRefused (map stack_view stacks.entry.items)) }
 {
     let mut sorted = stacks;
     match sorted.sort_by_key(|stack| stack.frames) {
-        Ok(()) => flame_of_sorted(alloc, drawing, sorted.as_slice()),
+        Ok(()) => picture_of_sorted(alloc, least_width, sorted.as_slice()),
         Err(_) => Err(FoldedError::OutOfMemory),
     }
 }
 
-/// Returns the flame graph of sorted stacks.
-fn flame_of_sorted(
+/// Returns the boxes of sorted stacks.
+fn picture_of_sorted<'text>(
     alloc: Global,
-    drawing: Drawing<'_>,
-    sorted: &[Stack<'_>],
-) -> Result<Vec<u8>, FoldedError>
-    ensures drawn { IfOk result (λ graph. IsGraphOfSorted (drawing_view drawing.entry)
-        (map stack_view sorted.now) graph.items) }
+    least_width: u64,
+    sorted: &[Stack<'text>],
+) -> Result<Picture<'text>, FoldedError>
+    ensures found { IfOk result (λ picture. IsPictureOfSorted least_width
+        (map stack_view sorted.now) picture.total (map box_view picture.boxes.items)) }
     ensures refused { IfErr result (IsSortedRefused (map stack_view sorted.now)) }
 {
     match total_of(sorted) {
         Some(0) => Err(FoldedError::NoSamples),
-        Some(total) => match draw(alloc, drawing, total, sorted) {
-            Ok(graph) => Ok(graph),
+        Some(total) => match drawn_boxes(alloc, least_width, total, sorted) {
+            Ok(boxes) => Ok(Picture { total, boxes }),
             Err(_) => Err(FoldedError::OutOfMemory),
         },
         None => Err(FoldedError::TooManySamples),
     }
 }
 
-/// Returns the flame graph of sorted stacks that have this many samples.
-fn draw(
+/// Returns the boxes of sorted stacks that have this many samples.
+fn drawn_boxes<'text>(
     alloc: Global,
-    drawing: Drawing<'_>,
+    least_width: u64,
     total: u64,
-    sorted: &[Stack<'_>],
-) -> Result<Vec<u8>, AllocError>
+    sorted: &[Stack<'text>],
+) -> Result<Vec<FlameBox<'text>>, AllocError>
     requires counted { total ≡ total_of (map stack_view sorted.now) }
     requires some { 0 < total }
-    ensures { IfOk result (λ graph. IsGraphOfSorted (drawing_view drawing.entry)
-        (map stack_view sorted.now) graph.items) }
+    ensures { IfOk result (λ boxes. IsPictureOfSorted least_width
+        (map stack_view sorted.now) total (map box_view boxes.items)) }
 {
     let boxes = boxes_of(alloc, sorted)?;
-    let wide = wide_boxes(alloc, drawing.least_width, total, boxes.as_slice())?;
-    flame_graph(alloc, drawing.title, total, wide.as_slice())
+    wide_boxes(alloc, least_width, total, boxes.as_slice())
 }

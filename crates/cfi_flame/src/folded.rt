@@ -8,7 +8,7 @@ ghost use Rattle.cfi_flame.specs.FoldedStacks.{stack_of, stack_view, stacks_from
 ghost use Rattle.cfi_flame.specs.FoldedStacks.{total_of};
 
 use crate::decimal::decimal_of;
-use crate::plain::SEPARATOR;
+use cfi_text::escapes::SEPARATOR;
 use std::alloc::{AllocError, Global};
 
 /// A stack and the number of its samples.
@@ -31,6 +31,12 @@ pub enum FoldedError {
     NoSamples,
     /// The stacks have 2^64 samples or more.
     TooManySamples,
+}
+
+impl From<AllocError> for FoldedError {
+    fn from(_: AllocError) -> FoldedError {
+        FoldedError::OutOfMemory
+    }
 }
 
 /// Returns the stacks of a plain text, in the order of its lines. Empty lines are passed over.

@@ -4,8 +4,7 @@
 //! boxes their graph has, `graph` has the file, an SVG with its style and its script, and `flame`
 //! does all of this; where it is asked, `turned` turns the stacks first. `functions` counts the
 //! samples of each function, `ranking` puts those with most first, and `report` has the table.
-//! `counts` makes folded stacks: it counts samples by their stacks. `decimal` reads numbers, and
-//! `text` appends.
+//! `counts` makes folded stacks: it counts samples by their stacks. `decimal` reads numbers.
 #![tactic(auto)]
 
 pub mod boxes;
@@ -14,15 +13,14 @@ pub mod decimal;
 pub mod flame;
 pub mod folded;
 pub mod functions;
-pub mod graph;
+mod graph;
 pub mod plain;
 pub mod ranking;
-pub mod report;
-mod text;
+mod report;
 pub mod turned;
 
 pub use counts::StackCounts;
-pub use flame::{Drawing, flame_of};
+pub use flame::{Drawing, Picture, flame_of, picture_of};
 pub use folded::FoldedError;
 pub use plain::plain_text;
 pub use ranking::{Ranking, ranked_functions};

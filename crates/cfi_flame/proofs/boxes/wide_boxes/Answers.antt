@@ -2,8 +2,7 @@ use Rattle.std.proofs.Common.{◌≡◌, map, subst, sym}
 use Rattle.cfi_flame.specs.Boxes.{box_view, wide_boxes}
 use Rattle.cfi_flame.specs.Pictures.{IsPicture}
 use Rattle.cfi_flame.proofs.PictureLemmas.{picture_of_wide}
-use Rattle.cfi_flame.proofs.BoxLemmas.{wide_end, wide_step}
-use Rattle.cfi_flame.proofs.GraphLemmas.{next_box}
+use Rattle.cfi_flame.proofs.BoxLemmas.{next_box, wide_end, wide_step}
 use Rattle.cfi_flame.proofs.boxes.wide_boxes.Goals as goal
 
 pub loop-found-preserved : goal.loop-found-preserved
