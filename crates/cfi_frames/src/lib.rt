@@ -1,14 +1,16 @@
 //! The frames of a stack, as they are printed of profiles and of core files, and the room in which
 //! their stacks are walked.
 //!
-//! A frame is a line (`frame_lines`) or an object of JSON (`frame_objects`), and so are those of a
-//! walk (`walk_lines`, `walk_objects`), by a `frame_style`. `reasons` says why there are no more.
+//! A frame is a line (`frame_text`) or an object of JSON (`frame_objects`), and so are those of a
+//! walk (`walk_lines`, by `frame_lines`, and `walk_objects`), by a `frame_style`. `reasons` says why
+//! there are no more.
 //! `names` are those of files, threads and processes. All stacks are walked in a `room`.
 #![tactic(auto)]
 
 pub mod frame_lines;
 pub mod frame_objects;
 pub mod frame_style;
+pub mod frame_text;
 pub mod names;
 pub mod reasons;
 pub mod room;

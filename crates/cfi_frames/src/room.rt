@@ -29,10 +29,6 @@ pub struct Room {
     pub frames: Vec<StackFrame>,
     /// The rows that are kept, of the files in whichever process they were found.
     pub cache: Vec<CachedRow>,
-    /// The addresses of a call chain, which is a stack without a walk.
-    pub addresses: Vec<u64>,
-    /// The folded stack that was made last.
-    pub line: Vec<u8>,
 }
 
 impl Room {
@@ -56,8 +52,6 @@ impl Room {
                 context,
                 frames,
                 cache,
-                addresses: Vec::new(alloc),
-                line: Vec::new(alloc),
             }),
             Err(_) => Err(Error::OutOfMemory),
         }

@@ -1,11 +1,8 @@
 -- The samples of the records of a profile, counted by their folded stacks.
 use Rattle.std.proofs.Common.{◌≡◌, ◌∙◌, ◌⊎◌, ℕ, ◌+◌, ◌<◌, ◌≤◌, ◌^◌, Bool, List, [], ◌∷◌, ◌++◌, Option, Some, None, Result, Ok, Err, OnOk, IfErr, length, get_or, take, drop, map, codes, add-one, refl, sym, ap, subst, inl, inr, append_assoc, arith, unwrap_or, true, false, nat_eq}
 use Rattle.std.specs.Option.{option_eq}
-use Rattle.std.proofs.Math.Seq.{drop-cons}
-use Rattle.std.proofs.lemmas.List.{map-append, take-append-drop}
+use Rattle.std.proofs.lemmas.List.{take-append-drop}
 use Rattle.std.specs.List.{flat_map}
-use Rattle.cfi_text.specs.Names.{NamePart, first_part, parts, shown, shown_part}
-use Rattle.cfi_text.proofs.NameLemmas.{one_made}
 use Rattle.cfi_flame.specs.declared.folded.FoldedError.{FoldedError}
 use Rattle.cfi_flame.specs.declared.folded.FoldedError.TheVariants.{OutOfMemory, NotFolded, NoSamples, TooManySamples}
 use Rattle.cfi_flame.specs.FoldedCounts.{AreCounted, CountsMore, IsNotAdded, counted, line_text}
@@ -17,60 +14,18 @@ use Rattle.cfi_perf.specs.Samples.{Sample}
 use Rattle.cfi_text.specs.declared.style.Format.TheVariants.{Text}
 use Rattle.cfi_text.specs.Refusals.{out_of_memory}
 use Rattle.cfi_text.specs.WriterOutput.{PrintsSome}
-use Rattle.cfi_step.specs.declared.walk.StackFrame.{StackFrame}
-use Rattle.cfi_mapped.specs.declared.mappings.MappedCode.{MappedCode}
 use Rattle.cfi_processes.specs.declared.registers.SampleMachine.{SampleMachine}
 use Rattle.cfi_processes.specs.KnownFiles.{KnownFile}
-use Rattle.cfi_stacks.specs.FoldedTexts.{frame_name, names_text}
 use Rattle.cfi_text.specs.declared.reading.InputError.TheVariants.{OutOfMemory as InputMemory}
 use Rattle.cfi_stacks.specs.declared.folding.Unfolded.TheVariants.{Input, TooMany}
 use Rattle.cfi_stacks.specs.Turns.{AddsAll, IsFollowed, IsNotFollowed, IsTurn}
 use Rattle.cfi_stacks.specs.Choices.{Choice}
 use Rattle.cfi_stacks.specs.ProfileOutputs.{AreFolded, HasTooMany, IsFolded, IsUnfolded, profile_ended}
-use Rattle.cfi_stacks.specs.KnownSamples.{Known, KnownSample, in_kernel_of}
+use Rattle.cfi_stacks.specs.KnownSamples.{Known, KnownSample}
 use Rattle.cfi_frames.specs.Sequences.{AreOfAll}
-use Rattle.cfi_stacks.specs.ChosenStacks.{AreSamples, IsFoldedText, IsSampleOf, sample_weight}
+use Rattle.cfi_stacks.specs.ChosenStacks.{AreSamples, IsFoldedOf, IsSampleOf, sample_weight}
+use Rattle.cfi_stacks.specs.TakenSamples.{taken_of}
 use Rattle.cfi_stacks.proofs.ChosenLemmas.{GoesOn, none_gone, so_far, so_many, turned}
-
--- ---- names, byte by byte, and frame by frame
-
-pub one_pushed : (f : ℕ → ℕ) (line next all : List ℕ) (xs : List ℕ) (i d : ℕ) → i < length xs → next ≡ line ++ f (get_or xs i d) ∷ [] → line ++ map f (drop i xs) ≡ all → next ++ map f (drop (i + 1) xs) ≡ all
-one_pushed f line next all xs i d inside e h =
-    let first : drop i xs ≡ get_or xs i d ∷ drop (i + 1) xs = rw (drop-cons xs i d, add-one) refl in
-    ap (λ (x : List ℕ). x ++ map f (drop (i + 1) xs)) e ∙ append_assoc line (f (get_or xs i d) ∷ []) (map f (drop (i + 1) xs))
-    ∙ ap (λ (rest : List ℕ). line ++ map f rest) (sym first) ∙ h
-
--- what stands for each, of several bytes
-pub one_mapped : (f : ℕ → ℕ) (text : ℕ → List ℕ) (line next all : List ℕ) (xs : List ℕ) (i d : ℕ) → i < length xs → next ≡ line ++ map f (text (get_or xs i d)) → line ++ map f (flat_map text (drop i xs)) ≡ all
-    → next ++ map f (flat_map text (drop (i + 1) xs)) ≡ all
-one_mapped f text line next all xs i d inside e h =
-    let first : drop i xs ≡ get_or xs i d ∷ drop (i + 1) xs = rw (drop-cons xs i d, add-one) refl in
-    let one = text (get_or xs i d) in
-    let others = flat_map text (drop (i + 1) xs) in
-    ap (λ (x : List ℕ). x ++ map f others) e ∙ append_assoc line (map f one) (map f others) ∙ ap (λ (x : List ℕ). line ++ x) (sym (map-append f one others))
-    ∙ ap (λ (rest : List ℕ). line ++ map f (flat_map text rest)) (sym first) ∙ h
-
--- a name, part by part
-mapped_parts : (f : ℕ → ℕ) (parts : List NamePart) → map f (flat_map shown_part parts) ≡ flat_map (λ part. map f (shown_part part)) parts
-mapped_parts f [] = refl
-mapped_parts f (part ∷ parts) = map-append f (shown_part part) (flat_map shown_part parts) ∙ ap (λ (more : List ℕ). map f (shown_part part) ++ more) (mapped_parts f parts)
-
-pub one_named_part : (f : ℕ → ℕ) (bytes line : List ℕ) (part : NamePart) (left next all : List ℕ) → 0 < length bytes → part ≡ first_part bytes → left ≡ drop (length part.bytes) bytes → next ≡ line ++ map f (shown_part part)
-    → line ++ map f (shown bytes) ≡ all → next ++ map f (shown left) ≡ all
-one_named_part f bytes line part left next all some first is e h =
-    ap (λ (more : List ℕ). next ++ more) (mapped_parts f (parts left))
-    ∙ one_made (λ part. map f (shown_part part)) bytes line part left next all some first is e (ap (λ (more : List ℕ). line ++ more) (sym (mapped_parts f (parts bytes))) ∙ h)
-
-pub one_named : (files : List KnownFile) (list : List MappedCode) (frames : List StackFrame) (k left : ℕ) (d : StackFrame) (start line next more : List ℕ) → k ≡ left + 1 → k ≤ length frames
-    → line ≡ start ++ names_text files list (drop k frames) → next ≡ line ++ codes ";" → more ≡ next ++ frame_name files list (get_or frames left d) → more ≡ start ++ names_text files list (drop left frames)
-one_named files list frames k left d start line next more is inside h e g =
-    let within : left < length frames = omega arith in
-    let first : drop left frames ≡ get_or frames left d ∷ drop (left + 1) frames = rw (drop-cons frames left d, add-one) refl in
-    let names = names_text files list (drop (left + 1) frames) in
-    let name = frame_name files list (get_or frames left d) in
-    let h2 : line ≡ start ++ names = subst (λ (n : ℕ). line ≡ start ++ names_text files list (drop n frames)) is h in
-    g ∙ ap (λ (x : List ℕ). x ++ name) e ∙ append_assoc line (codes ";") name ∙ ap (λ (x : List ℕ). x ++ (codes ";" ++ name)) h2 ∙ append_assoc start names (codes ";" ++ name)
-    ∙ ap (λ (rest : List StackFrame). start ++ names_text files list rest) (sym first)
 
 module _ (by_period : Bool) (machine : SampleMachine) (files : List KnownFile) (choice : Choice) where
   abbrev pub GoesOnWith : List Record → Option ℕ → Known → List Stack → Type 0
@@ -129,7 +84,7 @@ module _ (by_period : Bool) (machine : SampleMachine) (files : List KnownFile) w
   alone : (it : KnownSample) (stack : Stack) → IsSampleOf by_period machine files it (stack ∷ []) → AreOfAll (IsSampleOf by_period machine files) (it ∷ []) (stack ∷ [])
   alone it stack is = (stack ∷ [], [], is, refl, refl)
 
-  pub sample_added : {T E : Type 0} (known : Known) (time : ℕ) (s : Sample) (text : List ℕ) (count : ℕ) (old new : List Stack) (r : Result T E) → IsFoldedText machine files (in_kernel_of files known) (known.mapped s.pid) (known.names s.tid) s text
+  pub sample_added : {T E : Type 0} (known : Known) (time : ℕ) (s : Sample) (text : List ℕ) (count : ℕ) (old new : List Stack) (r : Result T E) → IsFoldedOf machine (taken_of files (record { known = known; time = time; sample = s })) text
       → count ≡ sample_weight by_period s → OnOk r (CountsMore text count old new) → OnOk r (IsFollowed by_period machine files known time (SampleEvent s) old new)
   sample_added known time s text count old new (Ok done) is counts more = (
     record { frames = text; count = count } ∷ [],
@@ -138,7 +93,7 @@ module _ (by_period : Bool) (machine : SampleMachine) (files : List KnownFile) w
   )
   sample_added known time s text count old new (Err e) is counts more = tt
 
-  pub sample_refused : {T : Type 0} (known : Known) (time : ℕ) (s : Sample) (text : List ℕ) (count : ℕ) (old : List Stack) (r : Result T FoldedError) → IsFoldedText machine files (in_kernel_of files known) (known.mapped s.pid) (known.names s.tid) s text
+  pub sample_refused : {T : Type 0} (known : Known) (time : ℕ) (s : Sample) (text : List ℕ) (count : ℕ) (old : List Stack) (r : Result T FoldedError) → IsFoldedOf machine (taken_of files (record { known = known; time = time; sample = s })) text
       → count ≡ sample_weight by_period s → IfErr r (IsNotAdded text count old) → IfErr r (IsNotFollowed by_period machine files known time (SampleEvent s) old)
   sample_refused known time s text count old (Ok done) is counts h = tt
   sample_refused known time s text count old (Err OutOfMemory) is counts h = tt

@@ -1,7 +1,6 @@
 mod ChosenLemmas
 mod RunLemmas
 mod FoldLemmas
-mod ChainLemmas
 mod ReadLemmas
 mod Worked
 mod PieceLemmas
@@ -15,5 +14,5 @@ mod FoundLemmas
 mod SortedPieces
 mod WantedPieces
 mod TallyLemmas
-mod HeadLemmas
 mod SampleWalks
+mod NameLemmas

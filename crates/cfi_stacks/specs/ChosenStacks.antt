@@ -5,7 +5,7 @@
 --         the other
 --     AreSamples by_period machine files choice records samples      the folded stacks of the same,
 --         with what each counts
-use Rattle.std.specs.Prelude.{◌≡◌, ℕ, ◌==◌, Bool, List, [], ◌∷◌, Option, Result, if◌then◌else◌}
+use Rattle.std.specs.Prelude.{◌≡◌, ℕ, ◌==◌, Bool, true, List, [], ◌∷◌, Option, Result, if◌then◌else◌}
 use Rattle.cfi_perf.specs.Events.{Record}
 use Rattle.cfi_perf.specs.Samples.{Sample}
 use Rattle.cfi_step.specs.declared.walk.StackFrame.{StackFrame}
@@ -20,20 +20,20 @@ use Rattle.cfi_stacks.specs.declared.listing.StackStyle.{StackStyle}
 use Rattle.cfi_stacks.specs.Choices.{Choice}
 use Rattle.cfi_stacks.specs.FoldedTexts.{folded_text}
 use Rattle.cfi_stacks.specs.SampleWalks.{IsSampleWalked}
-use Rattle.cfi_stacks.specs.SampleOutputs.{sample_in_format}
+use Rattle.cfi_stacks.specs.SampleOutputs.{IsInFormat, stack_of}
 use Rattle.cfi_stacks.specs.KnownSamples.{KnownSample, chosen, in_kernel_of}
 use Rattle.cfi_frames.specs.Sequences.{AreOfAll}
-use Rattle.cfi_stacks.specs.TakenSamples.{Taken}
+use Rattle.cfi_stacks.specs.TakenSamples.{Taken, taken_of}
 
 -- ---- the frames of a sample
 
--- a text of them
+-- something holds of them
 abbrev pub IsOfFrames :
     SampleMachine → List KnownFile → List MappedCode → Sample →
-    (Result Walk NoFrames → List StackFrame → List ℕ) → List ℕ → Type 0
-IsOfFrames machine files list s text_of text =
+    (Result Walk NoFrames → List StackFrame → Type 0) → Type 0
+IsOfFrames machine files list s Is =
     (result : Result Walk NoFrames) × (frames : List StackFrame)
-    × IsSampleWalked machine files list s.user result frames × (text ≡ text_of result frames)
+    × IsSampleWalked machine files list s.user result frames × Is result frames
 
 -- ---- the texts of samples
 
@@ -41,7 +41,8 @@ module _ (style : StackStyle) (machine : SampleMachine) (files : List KnownFile)
   abbrev pub IsStackText :
       (ℕ → Site) → List MappedCode → Option (List ℕ) → ℕ → Sample → List ℕ → Type 0
   IsStackText in_kernel list name time s text =
-      IsOfFrames machine files list s (sample_in_format style in_kernel files list name time s) text
+      IsOfFrames machine files list s
+      (λ result frames. IsInFormat style in_kernel files list name time s result frames text)
 
   abbrev pub IsTextOf : KnownSample → List ℕ → Type 0
   IsTextOf of text =
@@ -63,22 +64,15 @@ IsStackOf style machine taken text =
 abbrev pub sample_weight : Bool → Sample → ℕ
 sample_weight by_period s = if by_period then (if s.period == 0 then 1 else s.period) else 1
 
-abbrev pub IsFoldedText :
-    SampleMachine → List KnownFile → (ℕ → Site) → List MappedCode → Option (List ℕ) → Sample →
-    List ℕ → Type 0
-IsFoldedText machine files in_kernel list name s text =
-    IsOfFrames machine files list s (folded_text in_kernel files list name s) text
-
 abbrev pub IsFoldedOf : SampleMachine → Taken → List ℕ → Type 0
 IsFoldedOf machine taken text =
-    IsFoldedText machine taken.files taken.in_kernel taken.mapped taken.name taken.sample text
+    IsOfFrames machine taken.files taken.mapped taken.sample
+    (λ result frames. text ≡ folded_text (stack_of true taken result frames))
 
 module _ (by_period : Bool) (machine : SampleMachine) (files : List KnownFile) where
   abbrev pub IsSampleOf : KnownSample → List Stack → Type 0
   IsSampleOf of samples =
-      (text : List ℕ)
-      × IsFoldedText machine files (in_kernel_of files of.known) (of.known.mapped of.sample.pid)
-      (of.known.names of.sample.tid) of.sample text
+      (text : List ℕ) × IsFoldedOf machine (taken_of files of) text
       × (samples ≡ record { frames = text; count = sample_weight by_period of.sample } ∷ [])
 
   abbrev pub AreSamples : Choice → List Record → List Stack → Type 0

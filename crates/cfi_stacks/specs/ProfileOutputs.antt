@@ -37,7 +37,7 @@ use Rattle.cfi_stacks.specs.declared.folding.Unfolded.TheVariants.{Input, TooMan
 use Rattle.cfi_stacks.specs.declared.listing.Listing.{Listing}
 use Rattle.cfi_stacks.specs.declared.listing.Listing.TheVariants.{Folded, Frames, Json}
 use Rattle.cfi_stacks.specs.declared.listing.StackStyle.{StackStyle}
-use Rattle.cfi_stacks.specs.Choices.{Choice, everything}
+use Rattle.cfi_stacks.specs.Choices.{Choice}
 use Rattle.cfi_stacks.specs.ChosenStacks.{AreSamples, AreStackTexts}
 
 -- ---- all samples
@@ -176,10 +176,3 @@ module _ (listing : Listing) (choice : Choice) {Handle : Type 0}
   abbrev pub IsListingOwed : List ℕ → Line → Type 0
   IsListingOwed bytes printed =
       IsProfileOutput bytes printed ⊎ IsInputRefused (listing_format listing) printed
-
--- where the stacks of all samples are listed one after the other
-module _ (raw : Bool) {Handle : Type 0} (may_open : FilePlace → Option Handle → Type 0)
-    (remaining : Handle → Option (List ℕ)) where
-  abbrev pub IsUnwindOwed : List ℕ → Line → Type 0
-  IsUnwindOwed bytes printed =
-      IsListingOwed (Frames raw) everything may_open remaining bytes printed

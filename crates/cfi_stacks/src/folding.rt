@@ -26,8 +26,9 @@ ghost use Rattle.cfi_stacks.specs.ChosenStacks.{IsFoldedOf, sample_weight};
 ghost use Rattle.cfi_stacks.specs.KnownSamples.{known_in};
 ghost use Rattle.cfi_stacks.specs.TakenSamples.{taken_view};
 
-use crate::folded_text::push_stack;
+use crate::folded_text::folded_stack;
 use crate::profile_errors::write_end;
+use crate::sample_text::Shown;
 use crate::sample_walk::walk_sample;
 use crate::taken_sample::TakenSample;
 use crate::turns::{ChosenSamples, Walker, follow_other, is_left_out, left_after, load_for};
@@ -35,10 +36,10 @@ use cfi_flame::{FoldedError, StackCounts};
 use cfi_frames::room::Room;
 use cfi_object::input::FileInput;
 use cfi_perf::{Event, PerfError, PlaceKind, Record, RecordPlace, Sample};
+use cfi_processes::Frame;
 use cfi_processes::process_code::KERNEL;
 use cfi_processes::process_modules::FileModule;
 use cfi_processes::profile_files::ProfileFile;
-use cfi_processes::registers::SampleMachine;
 use cfi_processes::replay::Replay;
 use cfi_text::input_refusals::write_input_refusal;
 use cfi_text::lines::write_text;
@@ -121,7 +122,12 @@ fn fold_in<I: FileInput>(
         (choice_view chosen.now.choice.now) sorted why)) }
 {
     let replay = Replay::new(chosen.alloc, files);
-    let mut walker = Walker { replay, room };
+    let shown = Shown::new(chosen.alloc);
+    let mut walker = Walker {
+        replay,
+        room,
+        shown,
+    };
     let mut counts = StackCounts::new(chosen.alloc);
     let mut left = chosen.choice.limit;
     for place in chosen.index.records.places() {
@@ -211,6 +217,7 @@ fn fold_chosen(
                 &walker.replay,
                 item,
                 &mut walker.room,
+                &mut walker.shown.frames,
                 counts,
             ) {
                 Ok(()) => Ok(left_after(left, item)),
@@ -223,12 +230,13 @@ fn fold_chosen(
 }
 
 /// Counts a record that was followed last, if it is a sample.
-fn fold_followed(
+fn fold_followed<'run>(
     chosen: &ChosenSamples<'_, '_>,
     by_period: bool,
-    replay: &Replay<'_, '_, '_>,
+    replay: &Replay<'_, 'run, '_>,
     item: &Record<'_>,
     room: &mut Room,
+    frames: &mut Vec<Frame<'run>>,
     counts: &mut StackCounts,
 ) -> Result<(), FoldedError>
     requires modules { AreModulesFor (record_view item.now).event replay.now }
@@ -253,10 +261,10 @@ fn fold_followed(
                 time: item.time,
                 sample,
             };
-            match fold_sample(chosen.machine, replay.modules(), &taken, room) {
-                Ok(()) => {
+            match fold_sample(chosen, replay.modules(), &taken, room, frames) {
+                Ok(line) => {
                     let weight = weight(by_period, &sample);
-                    counts.add(chosen.alloc, room.line.as_slice(), weight)
+                    counts.add(chosen.alloc, line.as_slice(), weight)
                 }
                 Err(_) => Err(FoldedError::OutOfMemory),
             }
@@ -276,32 +284,31 @@ fn weight(by_period: bool, sample: &Sample<'_>) -> u64
     }
 }
 
-/// Makes the line of the room the folded stack of a sample.
+/// Returns the folded stack of a sample.
 ///
 /// The modules are those of what is mapped. The rows that the room keeps are those of the files, in
-/// whichever process they were found. Fails where memory is refused. Allocates where the line has
-/// no room for the stack.
-fn fold_sample(
-    machine: SampleMachine,
+/// whichever process they were found. Fails where memory is refused. Allocates for the stack.
+fn fold_sample<'run>(
+    chosen: &ChosenSamples<'_, '_>,
     modules: &[FileModule<'_, '_>],
-    taken: &TakenSample<'_, '_, '_>,
+    taken: &TakenSample<'_, '_, 'run>,
     room: &mut Room,
-) -> Result<(), AllocError>
+    frames: &mut Vec<Frame<'run>>,
+) -> Result<Vec<u8>, AllocError>
     requires kernel { AreMappedInOrder 0 taken.now.kernel.mappings.now }
     requires order { AreMappedInOrder 0 taken.now.code.mappings.now }
     requires modules { map loaded_module_view modules.now
         ≡ modules_in (taken_view taken.now).files taken.now.code.mappings.now }
     requires files { AreModulesOfFiles taken.now.code.files.now modules.now }
     requires cached { IsRoomFor taken.now.code.files.now room.old }
-    ensures folded { OnOk result
-        (IsFoldedOf machine (taken_view taken.now) room.new.line.items) }
+    ensures folded { IfOk result (λ line.
+        IsFoldedOf chosen.now.machine (taken_view taken.now) line.items) }
     ensures cached { IsRoomFor taken.now.code.files.now room.new }
 {
-    let found = walk_sample(room, machine, &taken.code, modules, &taken.sample.user);
-    room.line.clear();
-    let addresses = &mut room.addresses;
-    let frames = room.frames.as_slice();
-    push_stack(&mut room.line, addresses, taken, found, frames)
+    let user = &taken.sample.user;
+    let found = walk_sample(room, chosen.machine, &taken.code, modules, user);
+    taken.collect_frames(true, found, room.frames.as_slice(), frames)?;
+    folded_stack(chosen.alloc, &taken.stack(found, frames.as_slice()))
 }
 
 /// Prints the folded stacks, and then the error that ended the records, and returns the status.

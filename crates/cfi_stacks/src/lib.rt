@@ -3,12 +3,10 @@
 //! `run` prints them as a `Listing` says, by what stands around its records (`around`) and by where
 //! these are (`profile_index`). `sample_stacks` prints those of the samples that are chosen
 //! (`choice`) one after the other, `folding` counts them by their folded stacks, whose text
-//! `folded_text` makes; both follow the records by `turns`. `sample_text` and `sample_object` write
-//! the stack of a sample, by what was known when it was taken (`taken_sample`), `profile_errors`
-//! why there are no more.
-//!
-//! `sample_walk` walks the stack of a sample in a room. `sample_head` or `sample_members` write
-//! what comes before the frames.
+//! `folded_text` makes; both follow the records by `turns`. `sample_stack` is the stack of a sample
+//! as a value, by what was known when it was taken (`taken_sample`) and what `sample_walk` finds.
+//! `sample_text` and `sample_object` write it, `sample_head` or `sample_members` what comes before
+//! the frames, and `profile_errors` why there are no more.
 #![tactic(auto)]
 
 mod around;
@@ -22,6 +20,7 @@ pub mod run;
 mod sample_head;
 mod sample_members;
 mod sample_object;
+pub mod sample_stack;
 mod sample_stacks;
 mod sample_text;
 mod sample_walk;
@@ -30,4 +29,4 @@ mod turns;
 
 pub use choice::Choice;
 pub use listing::Listing;
-pub use run::{list_profile, unwind_profile};
+pub use run::list_profile;

@@ -15,7 +15,7 @@ ghost use Rattle.cfi_stacks.specs.ProfileNotices.{IsHeadSaid, IsProfileSaid, IsW
 ghost use Rattle.cfi_stacks.specs.ProfileOutputs.{IsInputRefused, IsListingOwed, IsListingPrinted};
 ghost use Rattle.cfi_stacks.specs.ProfileOutputs.{IsOfArchitecture, IsOfRecords, IsProfileOfOpened};
 ghost use Rattle.cfi_stacks.specs.ProfileOutputs.{IsProfileOfSorted, IsProfileOfWanted};
-ghost use Rattle.cfi_stacks.specs.ProfileOutputs.{IsProfileOutput, IsUnwindOwed, listing_format};
+ghost use Rattle.cfi_stacks.specs.ProfileOutputs.{IsProfileOutput, listing_format};
 
 use crate::around::{Around, read_around};
 use crate::choice::Choice;
@@ -153,30 +153,6 @@ fn print_whole<O: Opener, I: FileInput, W: Write>(
         Ok(bytes) => print_bytes(printing, bytes.as_slice(), output),
         Err(error) => write_input_refusal(output, printing.listing.format(), error),
     }
-}
-
-/// Prints the stacks of the samples one after the other, as `list_profile` does; without functions
-/// if they are `raw`.
-pub fn unwind_profile<O: Opener, I: FileInput, W: Write>(
-    alloc: Global,
-    raw: bool,
-    opener: &O,
-    input: &mut I,
-    output: &mut W,
-) -> io::Result<u8>
-    ensures printed { (bytes : List ℕ) × AreLeft (I.bytes input.old) bytes
-        × PrintsSome (λ line. IsUnwindOwed raw (O.may_open opener.now) O.File.remaining bytes line)
-        (W.contents output.old) (W.contents output.new) result }
-    ensures said { IsProfileSaid (O.has_said opener.now) (I.bytes input.old) result }
-{
-    list_profile(
-        alloc,
-        Listing::Frames(raw),
-        &Choice::all(),
-        opener,
-        input,
-        output,
-    )
 }
 
 /// Prints the stacks of the profile that these bytes are.

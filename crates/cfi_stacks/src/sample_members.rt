@@ -1,12 +1,12 @@
 //! What the object of a sample has before its frames (RFC 8259).
-ghost use Rattle.std.specs.Prelude.{◌≡◌, ◌++◌, OnOk};
+ghost use Rattle.std.specs.Prelude.{◌≡◌, ◌++◌, None, OnOk};
 ghost use Rattle.cfi_perf.specs.Samples.{sample_view};
 ghost use Rattle.cfi_mapped.specs.ThreadNames.{name_bytes};
 ghost use Rattle.cfi_text.specs.WriterOutput.{Writes};
+ghost use Rattle.cfi_stacks.specs.SampleHeads.{thread_name_text};
 ghost use Rattle.cfi_stacks.specs.SampleMembers.{comm_text, cpu_member, nanoseconds_text};
 ghost use Rattle.cfi_stacks.specs.SampleMembers.{number_members, sample_head};
 
-use crate::sample_head::write_without_name;
 use cfi_frames::frame_lines::push_filled;
 use cfi_mapped::Name;
 use cfi_perf::Sample;
@@ -44,6 +44,20 @@ fn write_comm<W: Write>(output: &mut W, tid: u32, name: Option<Name<'_>>) -> io:
         Some(name) => write_json_name(output, name.bytes),
         None => write_without_name(output, tid),
     }
+}
+
+/// Writes what stands in place of a name that isn't known.
+fn write_without_name<W: Write>(output: &mut W, tid: u32) -> io::Result<()>
+    ensures { Writes (W.contents output.old) (W.contents output.new) result
+        (thread_name_text tid None) }
+{
+    if tid == 0 {
+        return write_text(output, b"swapper");
+    }
+    let mut text = LineBuffer::new();
+    push(&mut text, b":")?;
+    push_decimal(&mut text, u64::from(tid))?;
+    write_text(output, text.as_slice())
 }
 
 /// Writes the thread, the processor, the time and the period of a sample.

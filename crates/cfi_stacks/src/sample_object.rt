@@ -1,6 +1,5 @@
 //! A sample's stack as an object of JSON (RFC 8259).
 ghost use Rattle.std.specs.Prelude.{◌≡◌, ◌≤◌, ◌++◌, IfOk, codes, length, map, not, true};
-ghost use Rattle.std.specs.Prelude.{option_map};
 ghost use Rattle.cfi_perf.specs.CallChains.{addresses_left};
 ghost use Rattle.cfi_perf.specs.Samples.{kernel_frames, sample_view};
 ghost use Rattle.cfi_processes.specs.KnownFiles.{known_view};
@@ -8,17 +7,16 @@ ghost use Rattle.cfi_processes.specs.KernelSites.{chain_site};
 ghost use Rattle.cfi_mapped.specs.Mappings.{AreMappedInOrder};
 ghost use Rattle.cfi_text.specs.JsonTexts.{separated};
 ghost use Rattle.cfi_text.specs.WriterOutput.{Writes};
-ghost use Rattle.cfi_frames.specs.Reasons.{reason_view};
 ghost use Rattle.cfi_frames.specs.FrameObjects.{closing, comma_before, is_nil};
 ghost use Rattle.cfi_stacks.specs.SampleOutputs.{all_objects, chain_objects};
-ghost use Rattle.cfi_stacks.specs.SampleOutputs.{sample_object, sample_reason, user_objects};
+ghost use Rattle.cfi_stacks.specs.SampleOutputs.{sample_object, user_objects};
 ghost use Rattle.cfi_stacks.specs.TakenSamples.{of_taken, taken_view};
 
 use crate::sample_members::write_sample_head;
+use crate::sample_stack::sample_reason;
 use crate::taken_sample::TakenSample;
 use cfi_frames::frame_objects::{write_frame_object, write_object_end};
 use cfi_frames::frame_style::FrameStyle;
-use cfi_frames::reasons::{Reason, reason_for};
 use cfi_frames::walk_objects::write_walk;
 use cfi_perf::{Addresses, Sample};
 use cfi_processes::process_code::ProcessCode;
@@ -143,16 +141,5 @@ fn closing(is_kernel: bool) -> &'static [u8]
         b",\"kernel\":true}"
     } else {
         b"}"
-    }
-}
-
-/// Why a sample has no more frames, if there is a reason.
-fn sample_reason(sample: &Sample<'_>, found: Result<Walk, NoFrames>) -> Option<Reason>
-    ensures { option_map reason_view result ≡ sample_reason (sample_view sample.now) found }
-{
-    if sample.copies_stack {
-        reason_for(found)
-    } else {
-        None
     }
 }

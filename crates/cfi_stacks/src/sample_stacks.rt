@@ -16,7 +16,7 @@ ghost use Rattle.cfi_stacks.specs.KnownSamples.{known_in};
 
 use crate::listing::StackStyle;
 use crate::profile_errors::write_end;
-use crate::sample_text::print_sample;
+use crate::sample_text::{Shown, print_sample};
 use crate::taken_sample::TakenSample;
 use crate::turns::{ChosenSamples, Walker, follow_other, is_left_out, left_after, load_for};
 use cfi_frames::room::Room;
@@ -72,7 +72,12 @@ fn print_in<I: FileInput, W: Write>(
         (W.contents output.old) (W.contents output.new) result }
 {
     let replay = Replay::new(chosen.alloc, files);
-    let mut walker = Walker { replay, room };
+    let shown = Shown::new(chosen.alloc);
+    let mut walker = Walker {
+        replay,
+        room,
+        shown,
+    };
     let mut left = chosen.choice.limit;
     for place in chosen.index.records.places() {
         if left == Some(0) {
@@ -183,6 +188,7 @@ fn print_chosen<W: Write>(
                 &walker.replay,
                 item,
                 &mut walker.room,
+                &mut walker.shown,
                 output,
             )?;
             Ok(Ok(left_after(left, item)))
@@ -192,12 +198,13 @@ fn print_chosen<W: Write>(
 }
 
 /// Prints the stack of a record that was followed last, if it is a sample.
-fn print_followed<W: Write>(
+fn print_followed<'run, W: Write>(
     style: StackStyle,
     machine: SampleMachine,
-    replay: &Replay<'_, '_, '_>,
+    replay: &Replay<'_, 'run, '_>,
     item: &Record<'_>,
     room: &mut Room,
+    shown: &mut Shown<'run>,
     output: &mut W,
 ) -> io::Result<()>
     requires modules { AreModulesFor (record_view item.now).event replay.now }
@@ -218,7 +225,8 @@ fn print_followed<W: Write>(
                 time: item.time,
                 sample,
             };
-            print_sample(style, machine, replay.modules(), &taken, room, output)
+            let modules = replay.modules();
+            print_sample(style, machine, modules, &taken, room, shown, output)
         }
         _ => Ok(()),
     }

@@ -12,6 +12,7 @@ ghost use Rattle.cfi_stacks.specs.KnownSamples.{known_in};
 
 use crate::choice::Choice;
 use crate::profile_index::ProfileIndex;
+use crate::sample_text::Shown;
 use cfi_frames::room::Room;
 use cfi_perf::{Event, PlaceKind, Record, RecordPlace};
 use cfi_processes::registers::SampleMachine;
@@ -30,11 +31,12 @@ pub(crate) struct ChosenSamples<'r, 'p> {
     pub(crate) index: &'r ProfileIndex<'p>,
 }
 
-/// What the records said that were followed, and the room in which samples are walked.
+/// What the records said that were followed, and what samples are walked in and put into.
 #[derive(Drop)]
 pub(crate) struct Walker<'f, 'run, 'names> {
     pub(crate) replay: Replay<'f, 'run, 'names>,
     pub(crate) room: Room,
+    pub(crate) shown: Shown<'run>,
 }
 
 /// Follows the record at a place that is no sample.

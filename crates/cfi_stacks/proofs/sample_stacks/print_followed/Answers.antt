@@ -12,7 +12,7 @@ use Rattle.cfi_stacks.proofs.sample_stacks.print_followed.Goals as goal
 
 pub print_sample-requires-clause-files : goal.print_sample-requires-clause-files
 print_sample-requires-clause-files g c =
-    still_of_files c.args.replay.now.files.now c.code-in-Sample.result.files.now c.args.replay.now.modules.items c.modules.result.now c.code-in-Sample.ensures.files c.modules.ensures c.requires.own
+    still_of_files c.args.replay.now.files.now c.code-in-Sample.result.files.now c.args.replay.now.modules.items c.modules-modules.result.now c.code-in-Sample.ensures.files c.modules-modules.ensures c.requires.own
 
 pub print_sample-requires-clause-cached : goal.print_sample-requires-clause-cached
 print_sample-requires-clause-cached g c = still_room_for c.args.replay.now.files.now c.code-in-Sample.result.files.now c.args.room.now c.code-in-Sample.ensures.files c.requires.cached
