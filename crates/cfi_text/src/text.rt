@@ -33,12 +33,12 @@ impl Text {
         }
     }
 
-    /// Appends the bytes.
+    /// Appends the bytes. Asks for no memory once it was refused.
     #[inline]
     pub fn put(&mut self, bytes: &[u8])
         ensures { Puts bytes.now self.old self.new }
     {
-        if self.bytes.extend_from_slice(bytes).is_err() {
+        if self.is_short || self.bytes.extend_from_slice(bytes).is_err() {
             self.is_short = true;
         }
     }
