@@ -46,6 +46,7 @@ use cfi_text::lines::write_text;
 use cfi_text::reading::InputError;
 use cfi_text::refusals::write_refusal;
 use cfi_text::style::Format;
+use cfi_text::text::Text;
 use gimli_cfi::Error;
 use std::alloc::{AllocError, Global};
 use std::io;
@@ -322,9 +323,10 @@ fn write_counts<W: Write>(
         (line ≡ profile_ended Text (flat_map line_text (counted_in counts.now)) error)
         ⊎ (line ≡ out_of_memory)) (W.contents output.old) (W.contents output.new) result }
 {
-    let mut text = Vec::new(alloc);
-    match counts.push_lines(&mut text) {
-        Ok(()) => write_folded(text.as_slice(), error, output),
+    let mut text = Text::new(alloc);
+    counts.put_lines(&mut text);
+    match text.into_bytes() {
+        Ok(lines) => write_folded(lines.as_slice(), error, output),
         Err(_) => write_refusal(output, Error::OutOfMemory),
     }
 }

@@ -10,5 +10,5 @@ returns-in-Ok g c =
     let lines = flat_map line_text (counted_in c.args.counts.now) in (
       profile_ended Text c.as_slice.result.now c.args.error,
       c.write_folded.ensures,
-      inl (ap (λ (text : List ℕ). profile_ended Text text c.args.error) (c.as_slice.ensures.value ∙ c.in-Ok.ensures ∙ ap (λ (front : List ℕ). front ++ lines) c.new-text.ensures.items)),
+      inl (ap (λ (text : List ℕ). profile_ended Text text c.args.error) (c.as_slice.ensures.value ∙ c.in-Ok.ensures.bytes ∙ c.put_lines.ensures.adds c.in-Ok.ensures.whole ∙ ap (λ (front : List ℕ). front ++ lines) c.new-text.ensures.empty)),
     )
