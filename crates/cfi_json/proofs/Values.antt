@@ -14,25 +14,28 @@ use Rattle.json.proofs.Printed.Numbers.{in_word-ended, lex-number}
 use Rattle.json.proofs.Printed.Trees.{value-json_tokens}
 use Rattle.cfi_text.specs.JsonTexts.{json_name, json_number, json_escaped, separated}
 use Rattle.cfi_text.specs.Lines.{address_text}
-use Rattle.cfi_json.specs.Json.{Json, name, text, number, address, flag, array, object, Items, no_items, item, Members, no_members, member, quoted, flag_text, json_text, items_text, members_text, name_read, number_read, value_read, items_read, members_read, ReadsBack}
+use Rattle.cfi_json.specs.Json.{Json, name, text, number, address, flag, array, object, Items, no_items, item, Members, no_members, member, quoted, flag_text, json_text, items_text, members_text, name_read, number_read, value_read, items_read, members_read, NestsWithin, ReadsBack}
 use Rattle.cfi_json.proofs.Strings.{Reads, reads_address, reads_decimal, reads_name, reads_text}
 
 -- ---- what may come after a value
 
 data Rest : Type 0 where
   nothing : Rest
+  line_feed : Rest
   comma_then : List ℕ → Rest
   bracket_then : List ℕ → Rest
   brace_then : List ℕ → Rest
 
 abbrev rest_text : Rest → List ℕ
 rest_text nothing = []
+rest_text line_feed = 10 ∷ []
 rest_text (comma_then r) = 44 ∷ r
 rest_text (bracket_then r) = 93 ∷ r
 rest_text (brace_then r) = 125 ∷ r
 
 ended : (t : Rest) → ends_word (rest_text t) ≡ true
 ended nothing = refl
+ended line_feed = refl
 ended (comma_then r) = refl
 ended (bracket_then r) = refl
 ended (brace_then r) = refl
@@ -40,6 +43,7 @@ ended (brace_then r) = refl
 no_colon : (t : Rest) → begins_colon (lex between (rest_text t)) ≡ false
 unfolding lex
 no_colon nothing = refl
+no_colon line_feed = refl
 no_colon (comma_then r) = refl
 no_colon (bracket_then r) = refl
 no_colon (brace_then r) = refl
@@ -195,11 +199,26 @@ mutual
   more_members no_members r = refl
   more_members (member k v ms) r = member_tokens after_comma refl k v ms r (value_tokens v) (more_members ms)
 
-all_tokens : (v : Json) → tokens (json_text v) ≡ json_tokens (value_read v) ++ []
+-- ---- the law
+
+all_tokens : (v : Json) (t : Rest) → tokens_at after_value (rest_text t) ≡ [] → tokens (json_text v ++ rest_text t) ≡ json_tokens (value_read v) ++ []
+all_tokens v t none = value_tokens v fresh t refl ∙ ap (λ (ts : List Token). json_tokens (value_read v) ++ ts) none
+
+read_before : (v : Json) (t : Rest) → NestsWithin v → tokens_at after_value (rest_text t) ≡ [] → read.document (json_text v ++ rest_text t) ≡ Some (value_read v)
+read_before v t shallow none =
+    ap (λ (ts : List Token). option_and_then (λ q. read.if_last q.0 q.1) (read.value read.max_depth ts)) (all_tokens v t none)
+    ∙ ap (option_and_then (λ q. read.if_last q.0 q.1)) (value-json_tokens (value_read v) read.max_depth [] shallow)
+
+nothing_more : tokens_at after_value (rest_text nothing) ≡ []
 unfolding punctuate lex
-all_tokens v = ap (tokens_at fresh) (sym (append-nil (json_text v))) ∙ value_tokens v fresh nothing refl
+nothing_more = refl
+
+line_ends : tokens_at after_value (rest_text line_feed) ≡ []
+unfolding punctuate lex
+line_ends = refl
 
 pub reads_back : ReadsBack
-reads_back v shallow =
-    ap (λ (ts : List Token). option_and_then (λ q. read.if_last q.0 q.1) (read.value read.max_depth ts)) (all_tokens v)
-    ∙ ap (option_and_then (λ q. read.if_last q.0 q.1)) (value-json_tokens (value_read v) read.max_depth [] shallow)
+reads_back v shallow = record {
+  alone = ap read.document (sym (append-nil (json_text v))) ∙ read_before v nothing shallow nothing_more;
+  on_line = read_before v line_feed shallow line_ends;
+}

@@ -107,8 +107,14 @@ abbrev mutual
 
 -- ---- the law
 
-abbrev pub IsReadBack : Json → Type 0
-IsReadBack v = read.document (json_text v) ≡ Some (value_read v)
+-- the text is read as the value, also where it is a line
+pub record IsReadBack (v : Json) : Type 0 where
+  pub alone : read.document (json_text v) ≡ Some (value_read v)
+  pub on_line : read.document (json_text v ++ 10 ∷ []) ≡ Some (value_read v)
+
+-- arrays and objects may nest as deep as the grammar allows, 128 levels
+abbrev pub NestsWithin : Json → Type 0
+NestsWithin v = depth (value_read v) ≤ read.max_depth
 
 abbrev pub ReadsBack : Type 0
-ReadsBack = (v : Json) → depth (value_read v) ≤ read.max_depth → IsReadBack v
+ReadsBack = (v : Json) → NestsWithin v → IsReadBack v
