@@ -1,3 +1,5 @@
 pub mod Strings
 pub mod Values
+pub mod Printed
+pub mod Building
 mod WorkedValues

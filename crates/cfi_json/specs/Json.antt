@@ -46,6 +46,10 @@ abbrev pub flag_text : Bool → List ℕ
 flag_text true = codes "true"
 flag_text false = codes "false"
 
+abbrev pub comma_before : Bool → List ℕ
+comma_before true = []
+comma_before false = codes ","
+
 abbrev mutual
   pub json_text : Json → List ℕ
   json_text (name bytes) = quoted (json_name bytes)

@@ -1,9 +1,10 @@
 //! Values of JSON (RFC 8259), and their text.
+ghost use Rattle.std.specs.Prelude.{true};
 ghost use Rattle.cfi_text.specs.JsonTexts.{json_escaped, json_name, json_number, separated};
 ghost use Rattle.cfi_text.specs.Lines.{address_text};
 ghost use Rattle.cfi_text.specs.Texts.{Puts};
-ghost use Rattle.cfi_json.specs.Json.{IsReadBack, NestsWithin, flag_text, items_text, json_text};
-ghost use Rattle.cfi_json.specs.Json.{members_text, quoted};
+ghost use Rattle.cfi_json.specs.Json.{IsReadBack, NestsWithin, comma_before, flag_text};
+ghost use Rattle.cfi_json.specs.Json.{items_text, json_text, members_text, quoted};
 ghost use Rattle.cfi_json.specs.Printed.{value_view, items_view, members_view};
 
 use cfi_text::escapes::Escaping;
@@ -63,51 +64,40 @@ fn put_value(text: &mut Text, value: &Value<'_>)
     }
 }
 
-/// Appends the values of an array.
+/// Appends the values of an array, with commas between them.
 #[cycle(value)]
 fn put_items(text: &mut Text, values: &[Value<'_>])
     ensures { Puts (separated true (items_text (items_view values.now))) text.old text.new }
 {
-    if let Some((first, rest)) = values.split_first() {
-        put_value(text, first);
-        put_more_items(text, rest);
-    }
-}
-
-/// Appends the values after a comma each.
-#[cycle(value)]
-fn put_more_items(text: &mut Text, values: &[Value<'_>])
-    ensures { Puts (items_text (items_view values.now)) text.old text.new }
-{
+    let mut is_first = true;
     for value in values {
-        text.put(b",");
+        put_comma(text, is_first);
         put_value(text, value);
+        is_first = false;
     }
 }
 
-/// Appends the members of an object.
+/// Appends the members of an object, with commas between them.
 #[cycle(value)]
 fn put_members(text: &mut Text, members: &[(&str, Value<'_>)])
     ensures { Puts (separated true (members_text (members_view members.now))) text.old text.new }
 {
-    if let Some((first, rest)) = members.split_first() {
-        put_name(text, first.0.as_bytes());
-        text.put(b":");
-        put_value(text, &first.1);
-        put_more_members(text, rest);
-    }
-}
-
-/// Appends the members after a comma each.
-#[cycle(value)]
-fn put_more_members(text: &mut Text, members: &[(&str, Value<'_>)])
-    ensures { Puts (members_text (members_view members.now)) text.old text.new }
-{
+    let mut is_first = true;
     for member in members {
-        text.put(b",");
+        put_comma(text, is_first);
         put_name(text, member.0.as_bytes());
         text.put(b":");
         put_value(text, &member.1);
+        is_first = false;
+    }
+}
+
+/// Appends a comma, but before the first.
+fn put_comma(text: &mut Text, is_first: bool)
+    ensures { Puts (comma_before is_first) text.old text.new }
+{
+    if !is_first {
+        text.put(b",");
     }
 }
 
