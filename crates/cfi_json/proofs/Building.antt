@@ -1,8 +1,8 @@
 -- Texts of objects and arrays that are printed part by part.
-use Rattle.std.proofs.Common.{◌≡◌, ◌∙◌, ℕ, true, false, Bool, List, [], ◌∷◌, ◌++◌, codes, map, refl, sym, ap, ap₂, append_assoc}
+use Rattle.std.proofs.Common.{◌≡◌, ◌∙◌, ℕ, true, List, [], ◌∷◌, ◌++◌, codes, map, refl, sym, ap, ap₂, append_assoc}
 use Rattle.std.specs.List.{flat_map}
-use Rattle.cfi_text.specs.JsonTexts.{json_name, json_number, separated}
-use Rattle.cfi_json.specs.Json.{Json, name, number, array, object, Items, no_items, item, Members, no_members, member, items_text, json_text, members_text, quoted}
+use Rattle.cfi_text.specs.JsonTexts.{separated}
+use Rattle.cfi_json.specs.Json.{Json, array, Items, items_text, json_text, quoted}
 use Rattle.cfi_json.specs.Printed.{items_of}
 
 -- a string before a text

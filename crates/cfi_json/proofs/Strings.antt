@@ -1,22 +1,21 @@
 -- What a reader of JSON gets from the characters of a string.
-use Rattle.std.proofs.Common.{◌≡◌, ◌∙◌, ℕ, zero, suc, ◌+◌, ◌-◌, ◌/◌, ◌%◌, ◌<◌, ◌≤◌, ◌==◌, ◌⊎◌, Bool, true, false, cond, nat_le, nat_lt, List, [], ◌∷◌, ◌++◌, Option, Some, None, codes, refl, sym, ap, subst, inl, inr, arith, append_assoc, append-nil, length, take, drop, ◌&&◌}
+use Rattle.std.proofs.Common.{◌≡◌, ◌∙◌, ℕ, zero, suc, ◌-◌, ◌/◌, ◌%◌, ◌<◌, ◌≤◌, ◌==◌, ◌⊎◌, Bool, true, false, cond, nat_le, nat_lt, List, [], ◌∷◌, ◌++◌, Option, Some, None, codes, refl, sym, ap, subst, inl, inr, arith, append_assoc, append-nil, length, take, drop, ◌&&◌}
 use Rattle.std.specs.Prelude.{option_and_then, if◌then◌else◌}
 use Rattle.std.specs.List.{flat_map}
-use Rattle.std.specs.Char.{IsScalar, digit_value, encode_utf8, is_digit}
+use Rattle.std.specs.Char.{digit_value, encode_utf8}
 use Rattle.std.specs.Fmt.{decimal, digit_glyph, digits, digits_onto}
-use Rattle.std.proofs.lemmas.Bool.{cases_eq, cases_lt, eqb-true, le-ltb, lt-leb, lt-ltb, ltb-true, leb-true, ne_eqb, or_cases, and_parts}
-use Rattle.std.proofs.lemmas.Bool.Decides.{nat_tests}
+use Rattle.std.proofs.lemmas.Bool.{cases_eq, cases_lt, le-ltb, lt-leb, lt-ltb, ltb-true, leb-true, ne_eqb, or_cases, and_parts}
 use Rattle.std.proofs.lemmas.Str.{digit_value-digit_char, encode_ascii}
 use Rattle.bstr.specs.Utf8.{decoded, or_replacement, replacement}
 use Rattle.bstr.proofs.lemmas.EncodeLemmas.{decoded-encode}
-use Rattle.bstr.proofs.lemmas.SoundLemmas.{SpellsChar, SpellsChar-decoded}
+use Rattle.bstr.proofs.lemmas.SoundLemmas.{SpellsChar-decoded}
 use Rattle.std.proofs.lemmas.List.{take_at}
 use Rattle.json.specs.Text.{after_high, code_unit, content, is_high_surrogate, is_low_surrogate, plain, prepend, short_escape}
-use Rattle.json.specs.Lex.{Lexeme, Mode, class, in_string, lex, lex_byte, operator, other, space}
+use Rattle.json.specs.Lex.{Lexeme, Mode, in_string, lex, lex_byte, operator, other, space}
 use Rattle.json.specs.Word.{is_operator, is_space}
-use Rattle.cfi_text.specs.declared.name_parts.Kind.TheVariants.{Shown, Control, Stray}
+use Rattle.cfi_text.specs.declared.name_parts.Kind.TheVariants.{Shown, Control}
 use Rattle.cfi_text.specs.JsonTexts.{json_escape, json_escaped, json_kind, json_name, json_part, number_escape, replacement as replaced}
-use Rattle.cfi_text.specs.Names.{NamePart, byte_digits, first_part, is_control, kind_of, parts, parts_after, scalar}
+use Rattle.cfi_text.specs.Names.{byte_digits, first_part, is_control, kind_of, parts_after, scalar}
 use Rattle.cfi_text.specs.Lines.{address_text}
 use Rattle.cfi_json.specs.Json.{kind_read, name_read, part_read}
 

@@ -1,5 +1,5 @@
 -- A value is read back.
-use Rattle.std.proofs.Common.{◌≡◌, ◌∙◌, ℕ, ◌^◌, ◌<◌, ◌≤◌, Bool, true, false, cond, nat_lt, List, [], ◌∷◌, ◌++◌, Some, codes, refl, sym, ap, ap₂, subst, arith, append_assoc, append-nil}
+use Rattle.std.proofs.Common.{◌≡◌, ◌∙◌, ℕ, ◌^◌, ◌<◌, Bool, true, false, cond, nat_lt, List, [], ◌∷◌, ◌++◌, Some, codes, refl, sym, ap, ap₂, arith, append_assoc, append-nil}
 use Rattle.std.specs.Prelude.{option_and_then}
 use Rattle.std.specs.Fmt.{decimal}
 use Rattle.std.proofs.lemmas.Bool.{ltb-true}
@@ -7,14 +7,14 @@ use Rattle.json.specs.Json as read
 use Rattle.json.specs.Token.{Token}
 use Rattle.json.specs.Text.{content}
 use Rattle.json.specs.Word.{ends_word, word}
-use Rattle.json.specs.Lex.{Lexeme, Place, after_comma, after_key, after_value, begins_colon, between, colon, fresh, if_allowed, lex, may_begin, place_token, punctuate, string_token, token, tokens}
-use Rattle.json.specs.Tree.{depth, items_tokens, json_tokens, members_tokens}
+use Rattle.json.specs.Lex.{Place, after_comma, after_key, after_value, begins_colon, between, colon, fresh, if_allowed, lex, may_begin, place_token, punctuate, string_token, token, tokens}
+use Rattle.json.specs.Tree.{items_tokens, json_tokens, members_tokens}
 use Rattle.json.proofs.Printed.Decimals.{IsNumber-decimal}
 use Rattle.json.proofs.Printed.Numbers.{in_word-ended, lex-number}
 use Rattle.json.proofs.Printed.Trees.{value-json_tokens}
-use Rattle.cfi_text.specs.JsonTexts.{json_name, json_number, json_escaped, separated}
+use Rattle.cfi_text.specs.JsonTexts.{json_name, json_escaped, separated}
 use Rattle.cfi_text.specs.Lines.{address_text}
-use Rattle.cfi_json.specs.Json.{Json, name, text, number, address, flag, array, object, Items, no_items, item, Members, no_members, member, quoted, flag_text, json_text, items_text, members_text, name_read, number_read, value_read, items_read, members_read, NestsWithin, ReadsBack}
+use Rattle.cfi_json.specs.Json.{Json, name, text, number, address, flag, array, object, Items, no_items, item, Members, no_members, member, quoted, flag_text, json_text, items_text, members_text, name_read, value_read, items_read, members_read, NestsWithin, ReadsBack}
 use Rattle.cfi_json.proofs.Strings.{Reads, reads_address, reads_decimal, reads_name, reads_text}
 
 -- ---- what may come after a value

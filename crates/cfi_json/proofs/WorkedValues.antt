@@ -1,7 +1,7 @@
 -- The texts of values, and what is read from them, by computation.
-use Rattle.std.proofs.Common.{◌≡◌, ◌^◌, true, [], ◌∷◌, ◌++◌, refl, codes}
+use Rattle.std.proofs.Common.{◌≡◌, ◌^◌, true, [], ◌∷◌, refl, codes}
 use Rattle.std.specs.Fmt.{digits}
-use Rattle.cfi_json.specs.Json.{name, text, number, address, flag, array, object, no_items, item, no_members, member, json_text, name_read}
+use Rattle.cfi_json.specs.Json.{name, number, address, flag, array, object, no_items, item, no_members, member, json_text, name_read}
 
 -- a frame of the kernel
 a_frame : json_text (object (member (codes "place") (address 0x4c0) (member (codes "function") (name (codes "f")) (member (codes "offset") (number 7) (member (codes "kernel") (flag true) no_members)))))
