@@ -2,4 +2,5 @@ pub mod Strings
 pub mod Values
 pub mod Printed
 pub mod Building
+pub mod Plain
 mod WorkedValues

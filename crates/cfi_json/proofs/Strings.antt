@@ -62,7 +62,7 @@ reads_plain x q b l = record {
 
 -- ---- a digit
 
-abbrev glyph : ℕ → ℕ
+abbrev pub glyph : ℕ → ℕ
 glyph d = digit_glyph false d
 
 glyph_range : (d : ℕ) → d < 16 → (48 ≤ glyph d) × (glyph d < 58) ⊎ (97 ≤ glyph d) × (glyph d < 103)
@@ -72,13 +72,13 @@ glyph_range d h = by (cases_lt d 10)
     by (inl low) = rw (lt-ltb d 10 low) (inl (omega arith, omega arith))
     by (inr high) = rw (le-ltb d 10 high) (inr (omega arith, omega arith))
 
-no_quote : (d : ℕ) → d < 16 → glyph d ≡ 34 → ⊥
+pub no_quote : (d : ℕ) → d < 16 → glyph d ≡ 34 → ⊥
 no_quote d h e = elim (glyph_range d h) [ inl low ↦ omega (arith, e, low.0) | inr high ↦ omega (arith, e, high.0) ]
 
-no_backslash : (d : ℕ) → d < 16 → glyph d ≡ 92 → ⊥
+pub no_backslash : (d : ℕ) → d < 16 → glyph d ≡ 92 → ⊥
 no_backslash d h e = elim (glyph_range d h) [ inl low ↦ omega (arith, e, low.1) | inr high ↦ omega (arith, e, high.0) ]
 
-no_control : (d : ℕ) → d < 16 → 32 ≤ glyph d
+pub no_control : (d : ℕ) → d < 16 → 32 ≤ glyph d
 no_control d h = elim (glyph_range d h) [ inl low ↦ omega (arith, low.0) | inr high ↦ omega (arith, high.0) ]
 
 reads_digit : (d : ℕ) → d < 16 → Reads (glyph d ∷ []) (glyph d ∷ [])

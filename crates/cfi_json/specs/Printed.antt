@@ -1,7 +1,8 @@
 -- The value that a `Value` stands for.
 use Rattle.std.specs.Prelude.{ℕ, List, [], ◌∷◌, map}
 use Rattle.std.specs.Borrow.{Bor}
-use Rattle.cfi_json.specs.Json.{Json, name, text, number, address, flag, array, object, Items, no_items, item, Members, no_members, member}
+use Rattle.cfi_json.specs.Json.{Json, name, text, number, address, flag, array, object}
+use Rattle.cfi_json.specs.Json.{Items, no_items, item, Members, no_members, member}
 use Rattle.cfi_json.specs.declared.value.Value.{Value, fold-Value}
 use Rattle.cfi_json.specs.declared.value.Value.TheOpen.{Value-F}
 
