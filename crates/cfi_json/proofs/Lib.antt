@@ -1,0 +1,6 @@
+pub mod Strings
+pub mod Values
+pub mod Printed
+pub mod Building
+pub mod Plain
+mod WorkedValues

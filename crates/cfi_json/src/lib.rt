@@ -1,0 +1,6 @@
+//! Values of JSON (RFC 8259) as programs print them, and the proof that their text is read back as
+//! the value. The grammar is that of the library `json`, which only definitions and proofs use.
+#![tactic(auto)]
+
+pub mod laws;
+pub mod value;
