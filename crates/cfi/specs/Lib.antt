@@ -1,3 +1,1 @@
-pub mod Tasks
-pub mod StackOutputs
-pub mod Process
+pub mod Statuses

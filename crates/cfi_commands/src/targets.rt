@@ -13,8 +13,8 @@ ghost use Rattle.cfi_commands.specs.Trees.{path_in, tree_of};
 
 use crate::files::open_named;
 use crate::system::{Kind, System};
-use crate::words::Names;
-use cfi_text::reading::read_all;
+use crate::words::FileArguments;
+use cfi_text::reading::{InputError, read_all};
 use std::alloc::{AllocError, Global};
 use std::str;
 
@@ -45,35 +45,42 @@ pub enum TreeEntry {
 }
 
 /// Returns the files that a check is of. `None` where they are named by a list that can't be read,
-/// which is told, or memory is refused. Allocates for the list, for the paths of the files, and for
-/// the names in the folders on the way.
-pub fn targets_of<S: System>(system: &S, recursive: bool, names: Names) -> Option<Vec<Target>>
-    ensures { IfSome result (λ targets. AreTargets
+/// which is said on standard error. Fails where memory is refused. Allocates for the list, for the
+/// paths of the files, and for the names in the folders on the way.
+pub fn targets_of<S: System>(
+    system: &S,
+    recursive: bool,
+    names: FileArguments,
+) -> Result<Option<Vec<Target>>, AllocError>
+    ensures { IfOk result (λ found. IfSome found (λ targets. AreTargets
         (disk_of (S.may_open system.now) S.File.bytes)
         (tree_of (S.may_be system.now) (S.may_list system.now)) recursive
-        (names_view names.entry) (map target_view targets.items)) }
+        (names_view names.entry) (map target_view targets.items))) }
 {
     match names {
-        Names::Files(files) => files_of(system, recursive, files).ok(),
-        Names::List(list) => {
-            let text = read_list(system, list)?;
-            files_in(system, recursive, list, text.as_slice()).ok()
-        }
+        FileArguments::Files(files) => Ok(Some(files_of(system, recursive, files)?)),
+        FileArguments::List(list) => match read_list(system, list)? {
+            Some(text) => Ok(Some(files_in(system, recursive, list, text.as_slice())?)),
+            None => Ok(None),
+        },
     }
 }
 
-/// Reads the list at a path. Where it can't be opened or read, the reason is told, and there is
-/// none.
-fn read_list<S: System>(system: &S, list: &str) -> Option<Vec<u8>>
-    ensures { IfSome result (λ text. IsListRead
-        (disk_of (S.may_open system.now) S.File.bytes) list.now text.items) }
+/// Reads the list at a path. Where it can't be opened or read, the reason is said on standard
+/// error, and there is none. Fails where memory is refused.
+fn read_list<S: System>(system: &S, list: &str) -> Result<Option<Vec<u8>>, AllocError>
+    ensures { IfOk result (λ read. IfSome read (λ text. IsListRead
+        (disk_of (S.may_open system.now) S.File.bytes) list.now text.items)) }
 {
-    let mut input = open_named(system, list)?;
+    let Some(mut input) = open_named(system, list) else {
+        return Ok(None);
+    };
     match read_all(system.alloc(), &mut input) {
-        Ok(text) => Some(text),
+        Ok(text) => Ok(Some(text)),
+        Err(InputError::OutOfMemory) => Err(AllocError),
         Err(_) => {
-            system.tell_unread(list);
-            None
+            system.warn_unread(list);
+            Ok(None)
         }
     }
 }
@@ -98,7 +105,7 @@ fn files_of<S: System>(
 }
 
 /// Returns the files that a check of the names of a list is of, each of which is ended by a zero
-/// byte, as `files_of`. A name by which nothing can be opened is told.
+/// byte, as `files_of`. A name by which nothing can be opened is said on standard error.
 fn files_in<S: System>(
     system: &S,
     recursive: bool,
@@ -160,13 +167,13 @@ fn entry_listed<S: System>(
         (tree_entry_view entry)) }
 {
     if name.is_empty() {
-        system.tell_empty_name(list);
+        system.warn_empty_name(list);
         return Ok(TreeEntry::One(Target::Unread));
     }
     match str::from_utf8(name) {
         Ok(name) => entry_named(system, recursive, name),
         Err(_) => {
-            system.tell_no_text(name);
+            system.warn_no_text(name);
             Ok(TreeEntry::One(Target::Unread))
         }
     }
@@ -208,7 +215,8 @@ fn push_entry<S: System>(
 }
 
 /// Appends the files in a folder, in the order of their names, and where a folder is among them
-/// those in that. A folder that can't be read is told. Links aren't followed.
+/// those in that. A folder that can't be read is
+/// said on standard error. Links aren't followed.
 #[cycle(walk)]
 fn push_folder<S: System>(
     system: &S,
@@ -253,7 +261,8 @@ fn names_in_order<'l>(alloc: Global, list: &'l [u8]) -> Result<Vec<&'l [u8]>, Al
     Ok(names)
 }
 
-/// Returns what a name in a folder comes to. One that isn't UTF-8 is told.
+/// Returns what a name in a folder comes to. One that isn't UTF-8 is said on
+/// standard error.
 fn entry_in<S: System>(system: &S, folder: &str, name: &[u8]) -> Result<TreeEntry, AllocError>
     ensures { IfOk result (λ entry.
         IsEntry (tree_of (S.may_be system.now) (S.may_list system.now)) folder.now name.now
@@ -297,7 +306,7 @@ fn entry_at<S: System>(system: &S, path: &[u8]) -> Result<TreeEntry, AllocError>
             Ok(found_entry(system.kind(path, false), text))
         }
         Err(_) => {
-            system.tell_no_text(path);
+            system.warn_no_text(path);
             Ok(TreeEntry::One(Target::Unread))
         }
     }
