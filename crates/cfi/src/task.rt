@@ -1,4 +1,7 @@
 //! What a command is to do, by the values of its options and arguments.
+ghost use Rattle.std.specs.Prelude.{◌≡◌};
+ghost use Rattle.cfi.specs.Listings.{listing_for};
+
 use crate::values::{choice_in, file_in, folders_in, format_in, has_flag, number_for, values_for};
 use cfi_checks::CheckStyle;
 use cfi_commands::{ANY_TIME, FileArguments, Folders, UsageError, time_of, times_of};
@@ -44,7 +47,10 @@ pub fn task_in<'c>(matches: &'c ArgMatches<'_>) -> Result<Task<'c>, UsageError<'
         b"dump" => Ok(printing(arguments, Printed::Dump)),
         b"check" => checking(arguments),
         b"table" => Ok(printing(arguments, Printed::Table)),
-        b"unwind" => unwinding(arguments, listing_in(arguments)),
+        b"unwind" => {
+            let listing = listing_for(has_flag(arguments, "raw"), format_in(arguments));
+            unwinding(arguments, listing)
+        }
         b"stack" => Ok(stacks_of_threads(arguments)),
         b"flame" => drawing(arguments),
         b"report" => Ok(Task::Report(file_in(arguments), format_in(arguments))),
@@ -77,10 +83,11 @@ fn checking<'c>(arguments: &'c ArgMatches<'_>) -> Result<Task<'c>, UsageError<'c
     Ok(Task::Check(names, has_flag(arguments, "recursive"), style))
 }
 
-/// Returns how the stacks of a profile are listed.
-fn listing_in(arguments: &ArgMatches<'_>) -> Listing {
-    let raw = has_flag(arguments, "raw");
-    match format_in(arguments) {
+/// Returns how the stacks of a profile are listed in a format.
+fn listing_for(raw: bool, format: Format) -> Listing
+    ensures { result ≡ listing_for raw format }
+{
+    match format {
         Format::Text => Listing::Frames(raw),
         Format::Json => Listing::Json(raw),
     }

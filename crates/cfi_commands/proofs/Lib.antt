@@ -1,5 +1,6 @@
 mod FolderLemmas
 pub mod NameLemmas
+mod ObjectLemmas
 mod TargetLemmas
 mod TimesLemmas
 mod Worked

@@ -43,7 +43,8 @@ pub fn put_not_folded(text: &mut Text, number: u64)
 
 /// Appends the end of an object: this beginning of a member, and its number.
 fn put_ended(text: &mut Text, before: &[u8], number: u64)
-    ensures { Puts (before.now ++ (json_number number ++ (codes "}" ++ 10 ∷ []))) text.old text.new }
+    ensures { Puts (before.now ++ (json_number number ++ (codes "}" ++ 10 ∷ [])))
+        text.old text.new }
 {
     text.put(before);
     put_number(text, number);

@@ -8,7 +8,8 @@ ghost use Rattle.cfi_commands.specs.Targets.{AreNamesInOrder, AreOfEntry, AreTar
 ghost use Rattle.cfi_commands.specs.Targets.{IsEntry, IsListEntry, IsListRead, IsNamedEntry};
 ghost use Rattle.cfi_commands.specs.Targets.{depth_of_paths};
 ghost use Rattle.cfi_commands.specs.Targets.{found_entry, is_above, named_entry, names_listed};
-ghost use Rattle.cfi_commands.specs.Targets.{names_view, rest_of, target_view, tree_entry_view};
+ghost use Rattle.cfi_commands.specs.Targets.{names_view, of_list, rest_of, target_view};
+ghost use Rattle.cfi_commands.specs.Targets.{tree_entry_view};
 ghost use Rattle.cfi_commands.specs.Trees.{path_in, tree_of};
 
 use crate::files::open_named;
@@ -58,11 +59,32 @@ pub fn targets_of<S: System>(
         (names_view names.entry) (map target_view targets.items))) }
 {
     match names {
-        FileArguments::Files(files) => Ok(Some(files_of(system, recursive, files)?)),
-        FileArguments::List(list) => match read_list(system, list)? {
-            Some(text) => Ok(Some(files_in(system, recursive, list, text.as_slice())?)),
-            None => Ok(None),
-        },
+        FileArguments::Files(files) => {
+            let targets = files_of(system, recursive, files)?;
+            Ok(Some(targets))
+        }
+        FileArguments::List(list) => files_listed(system, recursive, list),
+    }
+}
+
+/// Returns the files that a check of those is of that the list at a path names. `None` where it
+/// can't be read, which is said on standard error. Fails where memory is refused.
+fn files_listed<S: System>(
+    system: &S,
+    recursive: bool,
+    list: &str,
+) -> Result<Option<Vec<Target>>, AllocError>
+    ensures { IfOk result (λ found. IfSome found (λ targets. AreTargets
+        (disk_of (S.may_open system.now) S.File.bytes)
+        (tree_of (S.may_be system.now) (S.may_list system.now)) recursive
+        (of_list list.now) (map target_view targets.items))) }
+{
+    match read_list(system, list)? {
+        Some(text) => {
+            let targets = files_in(system, recursive, list, text.as_slice())?;
+            Ok(Some(targets))
+        }
+        None => Ok(None),
     }
 }
 
@@ -72,16 +94,16 @@ fn read_list<S: System>(system: &S, list: &str) -> Result<Option<Vec<u8>>, Alloc
     ensures { IfOk result (λ read. IfSome read (λ text. IsListRead
         (disk_of (S.may_open system.now) S.File.bytes) list.now text.items)) }
 {
-    let Some(mut input) = open_named(system, list) else {
-        return Ok(None);
-    };
-    match read_all(system.alloc(), &mut input) {
-        Ok(text) => Ok(Some(text)),
-        Err(InputError::OutOfMemory) => Err(AllocError),
-        Err(_) => {
-            system.warn_unread(list);
-            Ok(None)
-        }
+    match open_named(system, list) {
+        Some(mut input) => match read_all(system.alloc(), &mut input) {
+            Ok(text) => Ok(Some(text)),
+            Err(InputError::OutOfMemory) => Err(AllocError),
+            Err(_) => {
+                system.warn_unread(list);
+                Ok(None)
+            }
+        },
+        None => Ok(None),
     }
 }
 
