@@ -131,17 +131,15 @@ fn drawing<'c>(arguments: &ArgMatches<'c>) -> Result<Task<'c>, UsageError<'c>> {
     Ok(Task::Flame(file_in(arguments), drawing))
 }
 
-/// Returns the format of what a task prints, where it is refused memory too.
+/// Returns the format of what a task prints, also where it is refused memory.
 pub fn format_of(task: &Task<'_>) -> Format {
     match task {
-        Task::Print(_, request) => match request.printed {
-            Printed::Row(_, format) | Printed::Rows(_, format) => format,
-            Printed::Dump | Printed::Table => Format::Text,
-        },
+        Task::Print(_, request) => request.printed.format(),
         Task::Check(_, _, style) => style.format,
         Task::Unwind(_, Listing::Json(_), _, _) => Format::Json,
-        Task::Unwind(_, _, _, _) | Task::Flame(_, _) => Format::Text,
+        Task::Unwind(_, _, _, _) => Format::Text,
         Task::Stack(_, listing, _) => listing.format,
+        Task::Flame(_, _) => Format::Text,
         Task::Report(_, format) => *format,
     }
 }

@@ -87,9 +87,9 @@ listed_folder tree (suc depth) folder listing targets lt may are =
 added : (Are : List Target → Type 0) (new : List TargetOfCode) → Adds Are [] new → Are (map target_view new)
 added Are new (more, are, e) = subst Are (sym e) are
 
-pub files_found : (disk : Disk) (tree : Tree) (recursive : Bool) (names : Names) (texts : List Text) (found : List TargetOfCode) → names ≡ of_files texts → Adds (AreNamedFiles tree recursive texts) [] found → AreTargets disk tree recursive names (map target_view found)
-files_found disk tree recursive names texts found e h =
-    subst (λ (n : Names). AreTargets disk tree recursive n (map target_view found)) (sym e) (added (AreNamedFiles tree recursive texts) found h)
+pub files_found : (disk : Disk) (tree : Tree) (recursive : Bool) (names : Names) (texts : List Text) (made : List TargetOfCode) → names ≡ of_files texts → Adds (AreNamedFiles tree recursive texts) [] made → AreTargets disk tree recursive names (map target_view made)
+files_found disk tree recursive names texts made e h =
+    subst (λ (n : Names). AreTargets disk tree recursive n (map target_view made)) (sym e) (added (AreNamedFiles tree recursive texts) made h)
 
-pub list_found : (disk : Disk) (tree : Tree) (recursive : Bool) (name : Text) (bytes : List ℕ) (found : List TargetOfCode) → IsListRead disk name bytes → Adds (AreListedFiles tree recursive bytes) [] found → AreTargets disk tree recursive (of_list name) (map target_view found)
-list_found disk tree recursive name bytes found read h = (bytes, read, added (AreListedFiles tree recursive bytes) found h)
+pub list_found : (disk : Disk) (tree : Tree) (recursive : Bool) (name : Text) (bytes : List ℕ) (made : List TargetOfCode) → IsListRead disk name bytes → Adds (AreListedFiles tree recursive bytes) [] made → AreTargets disk tree recursive (of_list name) (map target_view made)
+list_found disk tree recursive name bytes made read h = (bytes, read, added (AreListedFiles tree recursive bytes) made h)

@@ -3,8 +3,8 @@ use Rattle.cfi_text.proofs.TextLemmas.{both, put_all, put_first}
 use Rattle.cfi_commands.proofs.ObjectLemmas.{no_function, no_object, object_put, objects_from}
 use Rattle.cfi_commands.proofs.function_objects.put_objects.Goals as goal
 
-pub loop-row-entered : goal.loop-row-entered
-loop-row-entered c = put_first _ (objects_from c.args.rows.now 0)
+pub loop-row-init : goal.loop-row-init
+loop-row-init c = put_first _ (objects_from c.args.rows.now 0)
 
 pub loop-row-preserved : goal.loop-row-preserved
 loop-row-preserved c = object_put _ _ _ c.args.rows.now c.loop-row.row-index no_function c.loop-row-test.true c.loop-row.invariant c.put_function.ensures
