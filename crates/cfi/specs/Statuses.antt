@@ -3,9 +3,9 @@
 --         the output takes it
 --     IsStatusOf printed status      of a run: 2 where the output can't be written
 use Rattle.std.specs.Prelude.{◌≡◌, ◌⊎◌, ℕ, Result, MatchResult}
-use Rattle.std_io.specs.IoError.{error_kind}
-use Rattle.std_io.specs.declared.io.error.Error.{Error}
-use Rattle.std_io.specs.declared.io.kind.ErrorKind.TheVariants.{OutOfMemory}
+use Rattle.std.specs.IoError.{error_kind}
+use Rattle.std.specs.declared.io.Error.{Error}
+use Rattle.std.specs.declared.io.ErrorKind.TheVariants.{OutOfMemory}
 
 abbrev pub IsStatusWritten : Result ℕ Error → ℕ → Type 0
 IsStatusWritten printed status =
