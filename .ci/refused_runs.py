@@ -5,9 +5,10 @@
 
 Where an allocation is refused, a run has to print what is stored, or that it is out of memory: `flame`, `report`, `fold` and
 `stack` that alone, the others after lines of what is stored, and before those of other addresses, sections and files. Where it is
-one for the program's words, nothing is printed, and the status is 2; `check` may end before its last line, with the status 2; where
-it is one for a file of code, the stacks are those without the file. Where a write to standard output fails, a beginning of what is
-stored is written, and the status is 2; where a write takes one byte alone, the output is as stored.
+one for the program's words, it prints `refused OutOfMemory` alone, in each format, and the status is 1; where it is one for a file
+of code, the stacks are those without the file. Where a write to standard output fails, a beginning of what is stored is written,
+and the status is 2; where a write takes one byte alone, the output is as stored. `check` says of a folder whose names there is no
+memory for that it can't be read.
 
 Of each run the last allocations are refused, 24 at most, and all of the first run of each file; with --all all of each. PROGRAM is
 another than the one that rt ci built, as one without proofs (fuzz/unproved.py); FILE is one of stored runs. A library of C that
@@ -90,7 +91,7 @@ class Test:
         found = []
         for number in range(first, allocations + 1):
             ran, said, *_ = self.run(stored, refused=number)
-            found.append((self.verdict(file, stored, number, ran, said), f"allocation {number} of {allocations}", ran, said))
+            found.append((self.verdict(file, stored, ran, said), f"allocation {number} of {allocations}", ran, said))
         for number in range(1, min(writes, FEW) + 1):
             ran, said, *_ = self.run(stored, failed=number)
             is_right = ran[1] == 2 and stored.output.startswith(ran[0]) and ran[0] != stored.output
@@ -106,16 +107,16 @@ class Test:
         ]
         return wrong, {verdict: verdicts.count(verdict) for verdict in verdicts}
 
-    def verdict(self, file, stored, number, ran, said):
+    def verdict(self, file, stored, ran, said):
         output, status = ran
         if ran == (stored.output, stored.status):
             return "as stored"
-        # The words are copied first, which are few, and then read, by clap.
-        if (output, status) == (b"", 2) and (said == b"error: out of memory\n" or number <= len(stored.words) + 16):
-            return "without words"
-        if file == "check" and status == 2 and (stored.output.startswith(output) or b"out of memory\n" in said):
-            return "cut short"
-        if status == max(1, stored.status) and is_refused(file, output, stored.output):
+        # Before the words are read, the format isn't known.
+        if ran == (b"refused OutOfMemory\n", 1):
+            return "out of memory"
+        if file == "check" and status == 2 and said.endswith(b": out of memory\n"):
+            return "folder not read"
+        if status in (1, max(1, stored.status)) and is_refused(file, output, stored.output):
             return "out of memory"
         if file in ("unwind", "fold", "stack") and ran in self.without_a_file(stored):
             return "without a file"

@@ -1,3 +1,2 @@
-pub mod Tasks
-pub mod StackOutputs
-pub mod Process
+pub mod Listings
+pub mod Statuses

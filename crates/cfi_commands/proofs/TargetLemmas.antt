@@ -3,8 +3,7 @@ use Rattle.std.proofs.Common.{◌≡◌, ◌∙◌, ◌<◌, ◌+◌, ◌-◌, �
 use Rattle.std.proofs.lemmas.List.{get_or-map, length-map, map-append}
 use Rattle.std.proofs.lemmas.List.Sorted.{IsPermutation-map}
 use Rattle.std.specs.Borrow.{Bor}
-use Rattle.std.specs.Prelude.{Bool, Result, Ok, Err, Vec, IfOk, IfSome}
-use Rattle.std.specs.Result.{result_ok}
+use Rattle.std.specs.Prelude.{Bool}
 use Rattle.std.specs.Cmp.Lexicographic.{slice_cmp}
 use Rattle.std.specs.List.Sorted.{IsPermutation, IsSorted, IsSortedByKey}
 use Rattle.std.specs.Ordering.{nat_cmp, is_lt}
@@ -88,16 +87,9 @@ listed_folder tree (suc depth) folder listing targets lt may are =
 added : (Are : List Target → Type 0) (new : List TargetOfCode) → Adds Are [] new → Are (map target_view new)
 added Are new (more, are, e) = subst Are (sym e) are
 
-pub files_found : {E A : Type 0} (disk : Disk) (tree : Tree) (recursive : Bool) (names : Names) (texts : List Text) (r : Result (Vec TargetOfCode A) E) (o : Option (Vec TargetOfCode A)) → names ≡ of_files texts → o ≡ result_ok r →
-    IfOk r (λ targets. Adds (AreNamedFiles tree recursive texts) [] targets.items) → IfSome o (λ targets. AreTargets disk tree recursive names (map target_view targets.items))
-files_found disk tree recursive names texts (Ok targets) o e is h =
-    subst (λ o. IfSome o (λ targets. AreTargets disk tree recursive names (map target_view targets.items))) (sym is)
-    (subst (λ (n : Names). AreTargets disk tree recursive n (map target_view targets.items)) (sym e) (added (AreNamedFiles tree recursive texts) targets.items h))
-files_found disk tree recursive names texts (Err error) o e is h = subst (λ o. IfSome o (λ targets. AreTargets disk tree recursive names (map target_view targets.items))) (sym is) tt
+pub files_found : (disk : Disk) (tree : Tree) (recursive : Bool) (names : Names) (texts : List Text) (made : List TargetOfCode) → names ≡ of_files texts → Adds (AreNamedFiles tree recursive texts) [] made → AreTargets disk tree recursive names (map target_view made)
+files_found disk tree recursive names texts made e h =
+    subst (λ (n : Names). AreTargets disk tree recursive n (map target_view made)) (sym e) (added (AreNamedFiles tree recursive texts) made h)
 
-pub list_found : {E A : Type 0} (disk : Disk) (tree : Tree) (recursive : Bool) (names : Names) (name : Text) (bytes : List ℕ) (r : Result (Vec TargetOfCode A) E) (o : Option (Vec TargetOfCode A)) → names ≡ of_list name → o ≡ result_ok r →
-    IsListRead disk name bytes → IfOk r (λ targets. Adds (AreListedFiles tree recursive bytes) [] targets.items) → IfSome o (λ targets. AreTargets disk tree recursive names (map target_view targets.items))
-list_found disk tree recursive names name bytes (Ok targets) o e is read h =
-    subst (λ o. IfSome o (λ targets. AreTargets disk tree recursive names (map target_view targets.items))) (sym is)
-    (subst (λ (n : Names). AreTargets disk tree recursive n (map target_view targets.items)) (sym e) (bytes, read, added (AreListedFiles tree recursive bytes) targets.items h))
-list_found disk tree recursive names name bytes (Err error) o e is read h = subst (λ o. IfSome o (λ targets. AreTargets disk tree recursive names (map target_view targets.items))) (sym is) tt
+pub list_found : (disk : Disk) (tree : Tree) (recursive : Bool) (name : Text) (bytes : List ℕ) (made : List TargetOfCode) → IsListRead disk name bytes → Adds (AreListedFiles tree recursive bytes) [] made → AreTargets disk tree recursive (of_list name) (map target_view made)
+list_found disk tree recursive name bytes made read h = (bytes, read, added (AreListedFiles tree recursive bytes) made h)

@@ -1,76 +1,15 @@
--- Words, times, numbers, paths and lines, computed from the definitions alone.
+-- Lists, times and paths, computed from the definitions alone.
 use Rattle.std.proofs.Common.{◌≡◌, codes, refl, List, [], ◌∷◌, Some, None}
-use Rattle.std.specs.Borrow.{Bor}
-use Rattle.std.specs.Fmt.{digits}
-use Rattle.std.specs.Str.{chars}
-use Rattle.clap.specs.Words.{Text, fault_of}
-use Rattle.clap.specs.declared.error.kind.ErrorKind.TheVariants.{DisplayHelp, DisplayVersion, InvalidSubcommand}
-use Rattle.clap.proofs.OnLiterals.{clap_on_literals}
 use Rattle.hex.specs.Hex.{encode_with}
-use Rattle.cfi_commands.specs.CommandLine.{cfi_app}
 use Rattle.cfi_commands.specs.Disks.{path_of}
 use Rattle.cfi_commands.specs.Folders.{Folders, copy_path, debug_path, path_below}
-use Rattle.cfi_commands.specs.Forms.{LongOption, raw, text_option}
-use Rattle.cfi_commands.specs.Spelled.{spelled}
 use Rattle.cfi_commands.specs.Targets.{names_listed}
 use Rattle.cfi_commands.specs.Times.{time_of, times_of}
 use Rattle.cfi_commands.specs.Trees.{path_in}
-use Rattle.cfi_commands.specs.Values.{u64_of}
-use Rattle.cfi_commands.specs.Words.{asked, words_given, none_given}
 
--- ---- words that ask for no command
+-- ---- lists of names, and paths in folders
 
-no_address : asked (codes "cfi" ∷ codes "row" ∷ codes "a" ∷ []) ≡ None
-no_address = refl
-
-one_file_alone : asked (codes "cfi" ∷ codes "dump" ∷ codes "a" ∷ codes "b" ∷ []) ≡ None
-one_file_alone = refl
-
--- a flag, which no command has by a letter
-a_flag : asked (codes "cfi" ∷ codes "dump" ∷ codes "-x" ∷ []) ≡ None
-unfolding chars
-a_flag = refl
-
-help_is_no_command : asked (codes "cfi" ∷ codes "dump" ∷ codes "--help" ∷ []) ≡ None
-help_is_no_command = refl
-
--- neither is the command help, nor the version
-help_alone : asked (codes "cfi" ∷ codes "help" ∷ []) ≡ None
-help_alone = refl
-
-help_of_a_command : asked (codes "cfi" ∷ codes "help" ∷ codes "row" ∷ []) ≡ None
-help_of_a_command = refl
-
-no_version : asked (codes "cfi" ∷ codes "--version" ∷ []) ≡ None
-no_version = refl
-
--- and clap answers them
-version_shown : (formats : Bor (List (Bor Text))) → fault_of (cfi_app formats) (codes "cfi" ∷ codes "--version" ∷ []) ≡ DisplayVersion ∷ []
-unfolding clap_on_literals
-version_shown formats = refl
-
-short_version_shown : (formats : Bor (List (Bor Text))) → fault_of (cfi_app formats) (codes "cfi" ∷ codes "-V" ∷ []) ≡ DisplayVersion ∷ []
-unfolding clap_on_literals
-short_version_shown formats = refl
-
-help_shown : (formats : Bor (List (Bor Text))) → fault_of (cfi_app formats) (codes "cfi" ∷ codes "--help" ∷ []) ≡ DisplayHelp ∷ []
-unfolding clap_on_literals
-help_shown formats = refl
-
--- the command help answers with help, or refuses the name that follows
-help_answered : (formats : Bor (List (Bor Text))) → fault_of (cfi_app formats) (codes "cfi" ∷ codes "help" ∷ codes "row" ∷ []) ≡ DisplayHelp ∷ InvalidSubcommand ∷ []
-unfolding clap_on_literals
-help_answered formats = refl
-
--- a flag of one letter of `check`, before `--`
-a_letter : spelled (codes "cfi" ∷ codes "check" ∷ codes "-r" ∷ codes "lib" ∷ codes "--" ∷ codes "-r" ∷ [])
-    ≡ codes "cfi" ∷ codes "check" ∷ codes "--recursive" ∷ codes "lib" ∷ codes "--" ∷ codes "-r" ∷ []
-a_letter = refl
-
-no_letter_of_rows : spelled (codes "cfi" ∷ codes "rows" ∷ codes "-r" ∷ []) ≡ codes "cfi" ∷ codes "rows" ∷ codes "-r" ∷ []
-no_letter_of_rows = refl
-
--- a name is ended by a zero byte, the last one perhaps not
+-- a name is ended by a zero byte, the last need not be
 two_names : names_listed (97 ∷ 0 ∷ 98 ∷ 99 ∷ 0 ∷ []) ≡ codes "a" ∷ codes "bc" ∷ []
 two_names = refl
 
@@ -88,74 +27,6 @@ below_a_folder = refl
 
 below_the_root : path_in (codes "/") (codes "a") ≡ codes "/a"
 below_the_root = refl
-
--- a flag is given once, a format is one of the two, and it has to be named
-raw_twice : asked (codes "cfi" ∷ codes "table" ∷ codes "--raw" ∷ codes "a" ∷ codes "--raw" ∷ []) ≡ None
-raw_twice = refl
-
-no_format : asked (codes "cfi" ∷ codes "rows" ∷ codes "--format=xml" ∷ codes "a" ∷ []) ≡ None
-no_format = refl
-
-no_name : asked (codes "cfi" ∷ codes "rows" ∷ codes "--format" ∷ codes "--raw" ∷ codes "a" ∷ []) ≡ None
-no_name = refl
-
--- and a command has some of the flags
-not_of_dump : asked (codes "cfi" ∷ codes "dump" ∷ codes "--format=text" ∷ codes "a" ∷ []) ≡ None
-not_of_dump = refl
-
-not_quiet : asked (codes "cfi" ∷ codes "dump" ∷ codes "--quiet" ∷ codes "a" ∷ []) ≡ None
-not_quiet = refl
-
--- an option with any text for a value has it behind `=` or as the next word, once
-abbrev name : LongOption
-name = text_option (codes "comm")
-
-a_value : words_given (raw ∷ name ∷ []) None none_given (codes "core" ∷ codes "--comm=" ∷ codes "--raw" ∷ [])
-    ≡ Some (record { options = (codes "raw", codes "true") ∷ (codes "comm", codes "") ∷ []; arguments = codes "core" ∷ [] })
-a_value = refl
-
-a_next_value : words_given (name ∷ []) None none_given (codes "--comm" ∷ codes "7" ∷ codes "core" ∷ [])
-    ≡ Some (record { options = (codes "comm", codes "7") ∷ []; arguments = codes "core" ∷ [] })
-a_next_value = refl
-
-two_values : words_given (name ∷ []) None none_given (codes "--comm=7" ∷ codes "core" ∷ codes "--comm" ∷ codes "7" ∷ []) ≡ None
-two_values = refl
-
-no_value_follows : words_given (name ∷ []) None none_given (codes "core" ∷ codes "--comm" ∷ []) ≡ None
-no_value_follows = refl
-
-a_flag_has_no_value : words_given (raw ∷ []) None none_given (codes "--raw=true" ∷ codes "core" ∷ []) ≡ None
-a_flag_has_no_value = refl
-
-no_option_named_so : words_given (raw ∷ []) None none_given (codes "--comm=7" ∷ codes "core" ∷ []) ≡ None
-no_option_named_so = refl
-
--- a number has decimal digits, of a value below 2^64; a plus may stand before them
-a_number : u64_of (codes "18446744073709551615") ≡ Some 18446744073709551615
-a_number = refl
-
-behind_a_plus : u64_of (codes "+012") ≡ Some 12
-behind_a_plus = refl
-
-too_great : u64_of (codes "18446744073709551616") ≡ None
-too_great = refl
-
-no_digits : u64_of (codes "") ≡ None
-no_digits = refl
-
-hexadecimal : u64_of (codes "0x1f") ≡ None
-hexadecimal = refl
-
-no_number : asked (codes "cfi" ∷ codes "unwind" ∷ codes "--limit=many" ∷ codes "perf.data" ∷ []) ≡ None
-no_number = refl
-
--- ---- words of stacks
-
-one_core : asked (codes "cfi" ∷ codes "stack" ∷ codes "core" ∷ codes "a" ∷ []) ≡ None
-one_core = refl
-
-samples_of_no_core : asked (codes "cfi" ∷ codes "stack" ∷ codes "--pid=7" ∷ codes "core" ∷ []) ≡ None
-samples_of_no_core = refl
 
 -- ---- times in seconds, with at most nine decimals
 
@@ -220,17 +91,6 @@ a_debug_file_below_a_root = refl
 a_debug_file_in_a_folder : debug_path (record { symfs = Some (codes "/mnt"); debug_dir = Some (codes "debug") }) (1 ∷ 171 ∷ []) ≡ codes "debug/.build-id/01/ab.debug"
 unfolding encode_with
 a_debug_file_in_a_folder = refl
-
--- ---- words of folded stacks
-
-folded_is_not_raw : asked (codes "cfi" ∷ codes "flame" ∷ codes "--raw" ∷ codes "-" ∷ []) ≡ None
-folded_is_not_raw = refl
-
-folded_has_no_format : asked (codes "cfi" ∷ codes "flame" ∷ codes "-" ∷ codes "--format=text" ∷ []) ≡ None
-folded_has_no_format = refl
-
-one_report : asked (codes "cfi" ∷ codes "report" ∷ codes "a" ∷ codes "b" ∷ []) ≡ None
-one_report = refl
 
 -- ---- a hyphen alone is standard input
 

@@ -1,14 +1,8 @@
 pub mod Folders
 pub mod Times
-pub mod Values
-pub mod Forms
-pub mod CommandLine
-pub mod Words
 pub mod Disks
 pub mod OpenedFiles
 pub mod Trees
 pub mod Targets
 pub mod FunctionObjects
-pub mod FlameOutputs
-pub mod Spelled
 pub mod ProfileFiles

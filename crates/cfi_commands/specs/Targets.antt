@@ -19,8 +19,8 @@ use Rattle.cfi_commands.specs.declared.targets.TreeEntry.{TreeEntry as TreeEntry
 use Rattle.cfi_commands.specs.declared.targets.TreeEntry.TheVariants as entries
 use Rattle.cfi_commands.specs.declared.targets.Target.{Target as TargetOfCode}
 use Rattle.cfi_commands.specs.declared.targets.Target.TheVariants as targets
-use Rattle.cfi_commands.specs.declared.words.Names.{Names as NamesOfCode}
-use Rattle.cfi_commands.specs.declared.words.Names.TheVariants as names_of_code
+use Rattle.cfi_commands.specs.declared.words.FileArguments.{FileArguments}
+use Rattle.cfi_commands.specs.declared.words.FileArguments.TheVariants as arguments
 use Rattle.cfi_commands.specs.Disks.{Disk, MayOpenNamed}
 use Rattle.cfi_commands.specs.Trees.{Tree, path_in}
 
@@ -31,9 +31,9 @@ pub data Names : Type 0 where
   of_files : List Text → Names
   of_list : Text → Names
 
-abbrev pub names_view : NamesOfCode → Names
-names_view (names_of_code.Files names) = of_files (map (λ name. name.now) names.now)
-names_view (names_of_code.List name) = of_list name.now
+abbrev pub names_view : FileArguments → Names
+names_view (arguments.Files names) = of_files (map (λ name. name.now) names.now)
+names_view (arguments.List name) = of_list name.now
 
 -- what is behind the last zero byte is a name unless it is empty
 abbrev pub rest_of : Text → List Text

@@ -11,21 +11,21 @@ const LONGEST: usize = 131_072;
 const MARK: char = '\0';
 
 /// Returns the words of the process, each that isn't UTF-8 as a text like it that ends with a mark.
-/// `None` where memory is refused, or a word is longer than Linux lets it be.
-pub fn marked_words<P: Env + AllocGlobal>(rt: &P) -> Option<Vec<String>> {
-    let mut room = vec![in rt.alloc(); 0u8; LONGEST].ok()?;
+/// Fails where memory is refused, or a word is longer than Linux lets it be.
+pub fn marked_words<P: Env + AllocGlobal>(rt: &P) -> Result<Vec<String>, AllocError> {
+    let mut room = vec![in rt.alloc(); 0u8; LONGEST]?;
     let mut words = Vec::new(rt.alloc());
     for i in 0..usize::MAX {
         match rt.arg(i, room.as_mut_slice()) {
             Ok(length) => {
-                let word = marked(rt.alloc(), room.as_slice().get(..length)?).ok()?;
-                words.push(word).ok()?;
+                let word = room.as_slice().get(..length).unwrap_or(b"");
+                words.push(marked(rt.alloc(), word)?)?;
             }
-            Err(FillError::NotPresent) => return Some(words),
-            Err(FillError::TooLong) => return None,
+            Err(FillError::NotPresent) => return Ok(words),
+            Err(FillError::TooLong) => return Err(AllocError),
         }
     }
-    None
+    Err(AllocError)
 }
 
 /// Returns the bytes as a text, which ends with a mark where they aren't UTF-8.

@@ -1,25 +1,10 @@
-//! The command line of the program, as clap is told of it.
-ghost use Rattle.std.specs.Prelude.{◌≡◌, List, IfErr, IfOk, IsSome, map, option_map};
-ghost use Rattle.clap.specs.Words.{App, Rule, kind_of, new_app, subcommand_rows_of};
-ghost use Rattle.clap.specs.Words.{with_subcommand};
-ghost use Rattle.clap.specs.declared.builder.value_parser.ValueParser.TheVariants.{Names};
-ghost use Rattle.cfi_commands.specs.CommandLine.{AddsOptions, FailsAsCfi, IsApp, cfi_app, form_app};
-ghost use Rattle.cfi_commands.specs.CommandLine.{HaveRules, command_by_matches, plain_app, top_app};
-ghost use Rattle.cfi_commands.specs.CommandLine.{with_rules};
-ghost use Rattle.cfi_commands.specs.Forms.{check_form, dump_form, flame_form, fold_form};
-ghost use Rattle.cfi_commands.specs.Forms.{folder_options, format_names, report_form, row_form};
-ghost use Rattle.cfi_commands.specs.Forms.{rows_form, sample_options, stack_form, table_form};
-ghost use Rattle.cfi_commands.specs.Forms.{unwind_form};
-ghost use Rattle.cfi_commands.specs.Words.{asked};
-
+//! The command line of the program, as passed to clap.
 use crate::options::{
     address, addresses, elf_file, elf_files, flag, folded_file, format_option, number_option,
     one_file, profile, raw_flag, raw_frames_flag, text_option,
 };
-use clap::error::ErrorKind;
 use clap::{Arg, ArgMatches, Error};
 use std::alloc::{AllocError, Global};
-use std::convert::AsStr;
 
 /// The version of this repository, as the file `VERSION` has it.
 const VERSION: &str = "0.1.0";
@@ -27,39 +12,23 @@ const VERSION: &str = "0.1.0";
 /// Returns clap's matches of the words, of which the first is the program's name.
 ///
 /// An error where they ask for help, for the version or for nothing that the program does, or where
-/// memory is refused. `kinds` says which of these it is, by the kinds that clap defines for the
-/// words. The text of an error, help among them, is clap's, and no contract speaks of it.
-pub fn matches_of<'w, S: AsStr>(alloc: Global, words: &'w [S]) -> Result<ArgMatches<'w>, Error>
-    ensures asked { IfOk result (λ matches. asked (map S.text words.entry.now)
-        ≡ option_map command_by_matches (subcommand_rows_of matches)) }
-    ensures taken { IsSome (asked (map S.text words.entry.now))
-        → IfErr result (λ e. kind_of e ≡ ErrorKind.OutOfMemory) }
-    ensures kinds { FailsAsCfi (map S.text words.entry.now) result }
-{
-    let matches = cfi(alloc, format_names())?.try_get_matches_from(words)?;
+/// memory is refused. The text of an error, help among them, is clap's.
+pub fn matches_of<'w>(alloc: Global, words: &'w [&'w str]) -> Result<ArgMatches<'w>, Error> {
+    let matches = cfi(alloc)?.try_get_matches_from(words)?;
     Ok(matches)
 }
 
-/// Returns the names of the formats.
-fn format_names<'w>() -> &'w [&'w str]
-    ensures { map (λ name. name.now) result.now ≡ format_names }
-{
-    &["text", "json"]
-}
-
-/// Returns the command line of the program, with the names of the formats.
-fn cfi<'w>(alloc: Global, formats: &'w [&'w str]) -> Result<clap::Command<'w>, AllocError>
-    ensures { IfOk result (IsApp (cfi_app formats.entry)) }
-{
-    let command = with_command(top(alloc), row(alloc, formats));
-    let command = with_command(command, rows(alloc, formats));
+/// Returns the command line of the program.
+fn cfi<'w>(alloc: Global) -> Result<clap::Command<'w>, AllocError> {
+    let command = with_command(top(alloc), row(alloc));
+    let command = with_command(command, rows(alloc));
     let command = with_command(command, dump(alloc));
-    let command = with_command(command, check(alloc, formats));
+    let command = with_command(command, check(alloc));
     let command = with_command(command, table(alloc));
-    let command = with_command(command, unwind(alloc, formats));
-    let command = with_command(command, stack(alloc, formats));
+    let command = with_command(command, unwind(alloc));
+    let command = with_command(command, stack(alloc));
     let command = with_command(command, flame(alloc));
-    let command = with_command(command, report(alloc, formats));
+    let command = with_command(command, report(alloc));
     with_command(command, fold(alloc))
 }
 
@@ -67,17 +36,12 @@ fn cfi<'w>(alloc: Global, formats: &'w [&'w str]) -> Result<clap::Command<'w>, A
 fn with_command<'w>(
     command: Result<clap::Command<'w>, AllocError>,
     below: Result<clap::Command<'w>, AllocError>,
-) -> Result<clap::Command<'w>, AllocError>
-    ensures { (app sub : App) → IfOk command.entry (IsApp app) → IfOk below.entry (IsApp sub)
-        → IfOk result (IsApp (with_subcommand app sub.top)) }
-{
+) -> Result<clap::Command<'w>, AllocError> {
     command?.subcommand(below?)
 }
 
 /// Returns the program's own command, without those below it.
-fn top<'w>(alloc: Global) -> Result<clap::Command<'w>, AllocError>
-    ensures { IfOk result (IsApp top_app) }
-{
+fn top<'w>(alloc: Global) -> Result<clap::Command<'w>, AllocError> {
     let command = clap::Command::new(alloc, "cfi")
         .version(VERSION)
         .about("Prints and checks call frames of ELF files; prints stacks of profiles and cores")
@@ -92,20 +56,15 @@ fn command_with<'w>(
     name: &'w str,
     about: &'w str,
     args: Vec<Arg<'w>>,
-) -> Result<clap::Command<'w>, AllocError>
-    ensures { (rules : List Rule) → HaveRules rules args.entry.items
-        → IfOk result (IsApp (with_rules rules (new_app name.entry.now))) }
-{
+) -> Result<clap::Command<'w>, AllocError> {
     clap::Command::new(alloc, name).about(about).args(args)
 }
 
 /// Returns the command `row`.
-fn row<'w>(alloc: Global, formats: &'w [&'w str]) -> Result<clap::Command<'w>, AllocError>
-    ensures { IfOk result (IsApp (form_app (Names formats.entry) row_form)) }
-{
+fn row<'w>(alloc: Global) -> Result<clap::Command<'w>, AllocError> {
     let args = vec![in alloc;
         raw_flag(alloc),
-        format_option(alloc, formats),
+        format_option(alloc),
         elf_file(alloc),
         addresses(alloc),
     ]?;
@@ -118,12 +77,10 @@ fn row<'w>(alloc: Global, formats: &'w [&'w str]) -> Result<clap::Command<'w>, A
 }
 
 /// Returns the command `rows`.
-fn rows<'w>(alloc: Global, formats: &'w [&'w str]) -> Result<clap::Command<'w>, AllocError>
-    ensures { IfOk result (IsApp (form_app (Names formats.entry) rows_form)) }
-{
+fn rows<'w>(alloc: Global) -> Result<clap::Command<'w>, AllocError> {
     let args = vec![in alloc;
         raw_flag(alloc),
-        format_option(alloc, formats),
+        format_option(alloc),
         elf_file(alloc),
         address(alloc),
     ]?;
@@ -136,9 +93,7 @@ fn rows<'w>(alloc: Global, formats: &'w [&'w str]) -> Result<clap::Command<'w>, 
 }
 
 /// Returns the command `dump`.
-fn dump<'w>(alloc: Global) -> Result<clap::Command<'w>, AllocError>
-    ensures { IfOk result (IsApp (plain_app dump_form)) }
-{
+fn dump<'w>(alloc: Global) -> Result<clap::Command<'w>, AllocError> {
     let args = vec![in alloc; raw_flag(alloc), elf_file(alloc)]?;
     command_with(
         alloc,
@@ -149,16 +104,14 @@ fn dump<'w>(alloc: Global) -> Result<clap::Command<'w>, AllocError>
 }
 
 /// Returns the command `check`.
-fn check<'w>(alloc: Global, formats: &'w [&'w str]) -> Result<clap::Command<'w>, AllocError>
-    ensures { IfOk result (IsApp (form_app (Names formats.entry) check_form)) }
-{
+fn check<'w>(alloc: Global) -> Result<clap::Command<'w>, AllocError> {
     let args = vec![in alloc;
         flag(
             alloc,
             "quiet",
             "Prints no line for a file whose table is faithful",
         ),
-        format_option(alloc, formats),
+        format_option(alloc),
         flag(
             alloc,
             "recursive",
@@ -181,9 +134,7 @@ fn check<'w>(alloc: Global, formats: &'w [&'w str]) -> Result<clap::Command<'w>,
 }
 
 /// Returns the command `table`.
-fn table<'w>(alloc: Global) -> Result<clap::Command<'w>, AllocError>
-    ensures { IfOk result (IsApp (plain_app table_form)) }
-{
+fn table<'w>(alloc: Global) -> Result<clap::Command<'w>, AllocError> {
     let args = vec![in alloc; raw_flag(alloc), elf_file(alloc)]?;
     command_with(
         alloc,
@@ -194,25 +145,21 @@ fn table<'w>(alloc: Global) -> Result<clap::Command<'w>, AllocError>
 }
 
 /// Returns the command `unwind`.
-fn unwind<'w>(alloc: Global, formats: &'w [&'w str]) -> Result<clap::Command<'w>, AllocError>
-    ensures { IfOk result (IsApp (form_app (Names formats.entry) unwind_form)) }
-{
+fn unwind<'w>(alloc: Global) -> Result<clap::Command<'w>, AllocError> {
     let command = clap::Command::new(alloc, "unwind")
         .about("Prints the stack of each sample of a profile: perf record --call-graph dwarf")
         .arg(raw_frames_flag(alloc))?
-        .arg(format_option(alloc, formats))?;
+        .arg(format_option(alloc))?;
     let command = with_samples(alloc, command)?;
     with_folders(alloc, command)?.arg(profile(alloc))
 }
 
 /// Returns the command `stack`.
-fn stack<'w>(alloc: Global, formats: &'w [&'w str]) -> Result<clap::Command<'w>, AllocError>
-    ensures { IfOk result (IsApp (form_app (Names formats.entry) stack_form)) }
-{
+fn stack<'w>(alloc: Global) -> Result<clap::Command<'w>, AllocError> {
     let command = clap::Command::new(alloc, "stack")
         .about("Prints the stack of each thread of a core file")
         .arg(raw_frames_flag(alloc))?
-        .arg(format_option(alloc, formats))?
+        .arg(format_option(alloc))?
         .arg(number_option(alloc, "thread", "Prints the stack of this thread alone"))?;
     with_folders(alloc, command)?.arg(one_file(
         alloc,
@@ -221,9 +168,7 @@ fn stack<'w>(alloc: Global, formats: &'w [&'w str]) -> Result<clap::Command<'w>,
 }
 
 /// Returns the command `flame`.
-fn flame<'w>(alloc: Global) -> Result<clap::Command<'w>, AllocError>
-    ensures { IfOk result (IsApp (plain_app flame_form)) }
-{
+fn flame<'w>(alloc: Global) -> Result<clap::Command<'w>, AllocError> {
     let args = vec![in alloc;
         text_option(alloc, "title", "TEXT", "What stands above the graph"),
         flag(
@@ -248,10 +193,8 @@ fn flame<'w>(alloc: Global) -> Result<clap::Command<'w>, AllocError>
 }
 
 /// Returns the command `report`.
-fn report<'w>(alloc: Global, formats: &'w [&'w str]) -> Result<clap::Command<'w>, AllocError>
-    ensures { IfOk result (IsApp (form_app (Names formats.entry) report_form)) }
-{
-    let args = vec![in alloc; format_option(alloc, formats), folded_file(alloc)]?;
+fn report<'w>(alloc: Global) -> Result<clap::Command<'w>, AllocError> {
+    let args = vec![in alloc; format_option(alloc), folded_file(alloc)]?;
     command_with(
         alloc,
         "report",
@@ -261,9 +204,7 @@ fn report<'w>(alloc: Global, formats: &'w [&'w str]) -> Result<clap::Command<'w>
 }
 
 /// Returns the command `fold`.
-fn fold<'w>(alloc: Global) -> Result<clap::Command<'w>, AllocError>
-    ensures { IfOk result (IsApp (plain_app fold_form)) }
-{
+fn fold<'w>(alloc: Global) -> Result<clap::Command<'w>, AllocError> {
     let command = clap::Command::new(alloc, "fold")
         .about("Prints the stacks of a profile, folded and counted, for flame and report")
         .arg(flag(
@@ -279,9 +220,7 @@ fn fold<'w>(alloc: Global) -> Result<clap::Command<'w>, AllocError>
 fn with_samples<'w>(
     alloc: Global,
     command: clap::Command<'w>,
-) -> Result<clap::Command<'w>, AllocError>
-    ensures { IfOk result (AddsOptions sample_options command.entry) }
-{
+) -> Result<clap::Command<'w>, AllocError> {
     command
         .arg(text_option(
             alloc,
@@ -303,20 +242,14 @@ fn with_samples<'w>(
             "FROM,UNTIL",
             "Takes the samples between two times alone, in seconds; either may be left out",
         ))?
-        .arg(number_option(
-            alloc,
-            "limit",
-            "Takes so many samples at most, the first ones",
-        ))
+        .arg(number_option(alloc, "limit", "Stops after N samples"))
 }
 
 /// Adds the options for the folders in which files are.
 fn with_folders<'w>(
     alloc: Global,
     command: clap::Command<'w>,
-) -> Result<clap::Command<'w>, AllocError>
-    ensures { IfOk result (AddsOptions folder_options command.entry) }
-{
+) -> Result<clap::Command<'w>, AllocError> {
     command
         .arg(text_option(
             alloc,

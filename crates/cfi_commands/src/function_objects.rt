@@ -1,107 +1,65 @@
 //! The functions of folded stacks as objects of JSON (RFC 8259).
-ghost use Rattle.std.specs.Prelude.{◌≡◌, ◌++◌, [], ◌∷◌, OnOk, codes, map};
-ghost use Rattle.std.specs.List.{flat_map};
+ghost use Rattle.std.specs.Prelude.{◌++◌, [], ◌∷◌, codes, map};
 ghost use Rattle.cfi_flame.specs.Functions.{row_view};
 ghost use Rattle.cfi_text.specs.JsonTexts.{json_number};
-ghost use Rattle.cfi_text.specs.WriterOutput.{Writes};
-ghost use Rattle.cfi_commands.specs.FunctionObjects.{counts_members, function_object, objects_text};
-ghost use Rattle.cfi_commands.specs.FunctionObjects.{not_folded_object, samples_object};
+ghost use Rattle.cfi_text.specs.Texts.{Puts};
+ghost use Rattle.cfi_commands.specs.FunctionObjects.{function_object, not_folded_object};
+ghost use Rattle.cfi_commands.specs.FunctionObjects.{objects_text};
 
 use cfi_flame::functions::Function;
-use cfi_text::json::{push_number, write_escaped};
-use cfi_text::line_buffer::{LineBuffer, push};
-use cfi_text::lines::write_text;
-use std::io::Write;
-use std::{fmt, io};
+use cfi_text::text::Text;
 
-/// Writes how many samples there are in all, and then each function with its samples, an object on
+/// The first number that some readers of JSON don't have exactly.
+const EXACT: u64 = 1 << 53;
+
+/// Appends how many samples there are in all, and then each function with its samples, an object on
 /// each line.
-pub fn write_objects<W: Write>(output: &mut W, all: u64, rows: &[Function<'_>]) -> io::Result<()>
-    ensures { Writes (W.contents output.old) (W.contents output.new) result
-        (objects_text all (map row_view rows.now)) }
+pub fn put_objects(text: &mut Text, all: u64, rows: &[Function<'_>])
+    ensures { Puts (objects_text all (map row_view rows.now)) text.old text.new }
 {
-    write_samples(output, all)?;
-    write_functions(output, rows)
-}
-
-/// Writes how many samples there are in all.
-fn write_samples<W: Write>(output: &mut W, all: u64) -> io::Result<()>
-    ensures { Writes (W.contents output.old) (W.contents output.new) result (samples_object all) }
-{
-    write_ended(output, b"{\"samples\":", all)
-}
-
-/// Writes that the line of this number isn't folded.
-pub fn write_not_folded_object<W: Write>(output: &mut W, number: u64) -> io::Result<()>
-    ensures { Writes (W.contents output.old) (W.contents output.new) result
-        (not_folded_object number) }
-{
-    write_ended(output, b"{\"error\":\"NotFolded\",\"line\":", number)
-}
-
-/// Writes an object of which this is the beginning, and a number the end.
-fn write_ended<W: Write>(output: &mut W, before: &[u8], number: u64) -> io::Result<()>
-    ensures { Writes (W.contents output.old) (W.contents output.new) result
-        (before.now ++ (json_number number ++ (codes "}" ++ 10 ∷ []))) }
-{
-    let mut text = LineBuffer::new();
-    push_ended(&mut text, before, number)?;
-    write_text(output, text.as_slice())
-}
-
-/// Writes the functions.
-fn write_functions<W: Write>(output: &mut W, rows: &[Function<'_>]) -> io::Result<()>
-    ensures { Writes (W.contents output.old) (W.contents output.new) result
-        (flat_map function_object (map row_view rows.now)) }
-{
+    put_ended(text, b"{\"samples\":", all);
     for row in rows {
-        write_function(output, row)?;
+        put_function(text, row);
     }
-    Ok(())
 }
 
-/// Writes a function with its samples.
-fn write_function<W: Write>(output: &mut W, row: &Function<'_>) -> io::Result<()>
-    ensures { Writes (W.contents output.old) (W.contents output.new) result
-        (function_object (row_view row.now)) }
+/// Appends a function with its samples.
+fn put_function(text: &mut Text, row: &Function<'_>)
+    ensures { Puts (function_object (row_view row.now)) text.old text.new }
 {
-    write_text(output, b"{\"function\":\"")?;
-    write_escaped(output, row.name)?;
-    write_counts(output, row)
+    text.put(b"{\"function\":\"");
+    text.json_escaped(row.name);
+    text.put(b"\",\"self\":");
+    put_number(text, row.own);
+    put_ended(text, b",\"total\":", row.total);
 }
 
-/// Writes the samples of a function behind its name.
-fn write_counts<W: Write>(output: &mut W, row: &Function<'_>) -> io::Result<()>
-    ensures { Writes (W.contents output.old) (W.contents output.new) result
-        (counts_members (row_view row.now)) }
+/// Appends that the line of this number isn't folded.
+pub fn put_not_folded(text: &mut Text, number: u64)
+    ensures { Puts (not_folded_object number) text.old text.new }
 {
-    let mut text = LineBuffer::new();
-    push_counts(&mut text, row)?;
-    write_text(output, text.as_slice())
+    put_ended(text, b"{\"error\":\"NotFolded\",\"line\":", number);
 }
 
-/// Appends the samples of a function. Fails where there is no room.
-fn push_counts(text: &mut LineBuffer, row: &Function<'_>) -> fmt::Result
-    ensures { OnOk result (text.new.items ≡ text.old.items ++ counts_members (row_view row.now)) }
+/// Appends the end of an object: this beginning of a member, and its number.
+fn put_ended(text: &mut Text, before: &[u8], number: u64)
+    ensures { Puts (before.now ++ (json_number number ++ (codes "}" ++ 10 ∷ [])))
+        text.old text.new }
 {
-    push_member(text, b"\",\"self\":", row.own)?;
-    push_ended(text, b",\"total\":", row.total)
+    text.put(before);
+    put_number(text, number);
+    text.put(b"}\n");
 }
 
-/// Appends the last member of an object, with this beginning and a number. Fails where there is no
-/// room.
-fn push_ended(text: &mut LineBuffer, before: &[u8], number: u64) -> fmt::Result
-    ensures { OnOk result (text.new.items
-        ≡ text.old.items ++ (before.now ++ (json_number number ++ (codes "}" ++ 10 ∷ [])))) }
+/// Appends a number, as a string where not every reader of JSON has it.
+fn put_number(text: &mut Text, number: u64)
+    ensures { Puts (json_number number) text.old text.new }
 {
-    push_member(text, before, number)?;
-    push(text, b"}\n")
-}
-
-/// Appends a member with this beginning and a number. Fails where there is no room.
-fn push_member(text: &mut LineBuffer, before: &[u8], number: u64) -> fmt::Result
-    ensures { OnOk result (text.new.items ≡ text.old.items ++ (before.now ++ json_number number)) }
-{
-    push(text, before)?;
-    push_number(text, number)
+    if number < EXACT {
+        text.number(number);
+    } else {
+        text.put(b"\"");
+        text.number(number);
+        text.put(b"\"");
+    }
 }

@@ -3,9 +3,9 @@ ghost use Rattle.std.specs.Prelude.{⊤, None, refl};
 
 use crate::arguments::{before_mark, marked_words};
 use crate::host_file::HostFile;
-use crate::spelled::is_check;
+use crate::short_flags::is_check;
 use crate::system::{Kind, System};
-use crate::words::Mistake;
+use crate::words::UsageError;
 use cfi_text::name_parts::shown_name;
 use clap::Error;
 use std::alloc::{AllocError, AllocGlobal, Global};
@@ -41,8 +41,8 @@ impl<'rt, P> Host<'rt, P> {
 }
 
 impl<P: Eprint + AllocGlobal> Host<'_, P> {
-    /// Says on standard error something of the file or text with this name.
-    fn tell<D: Display + Drop>(&self, name: &[u8], sentence: D) {
+    /// Warns on standard error of the file or text with this name.
+    fn warn<D: Display + Drop>(&self, name: &[u8], sentence: D) {
         let shown = shown_name(self.rt.alloc(), name);
         let name = text_of(&shown);
         // There is no other place to say that standard error can't be written.
@@ -61,8 +61,6 @@ fn text_of(shown: &Result<Vec<u8>, AllocError>) -> &str {
 impl<P: Env + Files + Print + Eprint + AllocGlobal> System for Host<'_, P> {
     type File = HostFile<P::File>;
 
-    ghost has_words = { λ _ _. ⊤ };
-
     ghost may_open = { λ _ _ _ _. ⊤ };
 
     ghost may_be = { λ _ _ _ _. ⊤ };
@@ -73,11 +71,11 @@ impl<P: Env + Files + Print + Eprint + AllocGlobal> System for Host<'_, P> {
         self.rt.alloc()
     }
 
-    fn words(&self) -> Option<Vec<String>> {
+    fn words(&self) -> Result<Option<Vec<String>>, AllocError> {
         match env::args(self.rt) {
-            Ok(words) => words.collect(self.rt.alloc()).ok(),
+            Ok(words) => Ok(Some(words.collect(self.rt.alloc())?)),
             Err(error) if error.kind() == io::ErrorKind::InvalidData => self.words_of_check(),
-            Err(_) => None,
+            Err(_) => Err(AllocError),
         }
     }
 
@@ -91,7 +89,7 @@ impl<P: Env + Files + Print + Eprint + AllocGlobal> System for Host<'_, P> {
             Ok(file) => Some(HostFile::new(file)),
             Err(error) => {
                 self.clear_progress();
-                self.tell(path.as_bytes(), error);
+                self.warn(path.as_bytes(), error);
                 None
             }
         }
@@ -103,7 +101,7 @@ impl<P: Env + Files + Print + Eprint + AllocGlobal> System for Host<'_, P> {
             Ok(metadata) if metadata.is_file() => self.open(path),
             Ok(_) => None,
             Err(error) => {
-                self.tell(path.as_bytes(), error);
+                self.warn(path.as_bytes(), error);
                 None
             }
         }
@@ -138,7 +136,7 @@ impl<P: Env + Files + Print + Eprint + AllocGlobal> System for Host<'_, P> {
         match read_names(self.rt, folder) {
             Ok(names) => Some(names),
             Err(error) => {
-                self.tell(folder.as_bytes(), error);
+                self.warn(folder.as_bytes(), error);
                 None
             }
         }
@@ -148,55 +146,64 @@ impl<P: Env + Files + Print + Eprint + AllocGlobal> System for Host<'_, P> {
         env::var(self.rt, "HOME").ok()
     }
 
-    fn tell_mistake(&self, mistake: Mistake) {
+    fn warn_usage(&self, error: UsageError) {
         let rt = self.rt;
-        let _ = match mistake {
-            Mistake::NoFiles => eprintln!(rt; "cfi: check: no FILE, and no --files0-from"),
-            Mistake::TwoNamings => {
+        let _ = match error {
+            UsageError::NoCommand => eprintln!(rt; "cfi: no command"),
+            UsageError::NoFiles => eprintln!(rt; "cfi: check: no FILE, and no --files0-from"),
+            UsageError::TwoNamings => {
                 eprintln!(rt; "cfi: check: FILE can't be combined with --files0-from")
             }
-            Mistake::NoTimes(text) => return self.tell(text.as_bytes(), NO_TIMES),
-            Mistake::NoWidth(text) => {
+            UsageError::NoTimes(text) => return self.warn(text.as_bytes(), NO_TIMES),
+            UsageError::NoWidth(text) => {
                 eprintln!(rt; "cfi: {text}: no width: pixels with at most nine decimals")
             }
         };
     }
 
-    fn tell_unread(&self, list: &str) {
-        self.tell(list.as_bytes(), "the list can't be read");
+    fn warn_unread(&self, list: &str) {
+        self.warn(list.as_bytes(), "the list can't be read");
     }
 
-    fn tell_empty_name(&self, list: &str) {
-        self.tell(list.as_bytes(), "a name is empty");
+    fn warn_empty_name(&self, list: &str) {
+        self.warn(list.as_bytes(), "a name is empty");
     }
 
-    fn tell_no_text(&self, name: &[u8]) {
-        self.tell(name, "the name isn't UTF-8, so it can't be opened");
+    fn warn_no_text(&self, name: &[u8]) {
+        self.warn(name, "the name isn't UTF-8, so it can't be opened");
     }
 
-    fn tell_missing(&self, name: &[u8]) {
-        self.tell(name, "no file of the build that ran is here");
+    fn warn_missing(&self, name: &[u8]) {
+        self.warn(name, "no file of the build that ran is here");
     }
 
-    fn tell_without_stacks(&self, path: &str) {
-        self.tell(
+    fn warn_without_stacks(&self, path: &str) {
+        self.warn(
             path.as_bytes(),
             "recorded without copies of stacks; frames are perf's call chains: \
              record with --call-graph dwarf for unwound stacks",
         );
     }
 
-    fn tell_lost(&self, path: &str, records: u64, samples: u64) {
+    fn warn_lost(&self, path: &str, records: u64, samples: u64) {
         if records != 0 {
-            self.tell(path.as_bytes(), format_args!("lost {records} records"));
+            self.warn(path.as_bytes(), format_args!("lost {records} records"));
         }
         if samples != 0 {
-            self.tell(path.as_bytes(), format_args!("lost {samples} samples"));
+            self.warn(path.as_bytes(), format_args!("lost {samples} samples"));
         }
     }
 
     fn print_error(&self, error: &Error) -> io::Result<()> {
         error.print(self.rt)
+    }
+
+    fn warn_unwritten(&self, error: &io::Error) {
+        // Who closes a pipe has read what was wanted.
+        if error.kind() != io::ErrorKind::BrokenPipe {
+            self.clear_progress();
+            let _ = eprintln!(self.rt; "cfi: standard output: {error}");
+        }
     }
 
     fn show_progress(&self, number: usize, files: usize, file: &str) {
@@ -222,13 +229,13 @@ impl<P: Env + Files + Print + Eprint + AllocGlobal> System for Host<'_, P> {
 impl<P: Env + Eprint + AllocGlobal> Host<'_, P> {
     /// Returns the words of the process, some of which aren't UTF-8, for the command `check` alone:
     /// those are files that can't be opened. For other commands says so on standard error.
-    fn words_of_check(&self) -> Option<Vec<String>> {
+    fn words_of_check(&self) -> Result<Option<Vec<String>>, AllocError> {
         let words = marked_words(self.rt)?;
         if is_check(words.as_slice()) {
-            return Some(words);
+            return Ok(Some(words));
         }
         let _ = eprintln!(self.rt; "cfi: an argument isn't UTF-8");
-        None
+        Ok(None)
     }
 }
 

@@ -1,8 +1,9 @@
 //! What the program `cfi` has without stacks.
 //!
-//! Its words: `arguments` has those of the process, `spelled` puts flags of one letter by their
-//! names, `command_line` tells clap of the commands and returns its matches, with the arguments of
-//! `options`; `words` has what they say of files and what is wrong with them, `times` reads times.
+//! Its words: `arguments` has those of the process, `short_flags` puts flags of one letter by
+//! their names, `command_line` passes the commands to clap and returns its matches, with the
+//! arguments of `options`; `words` has what they say of files and what is wrong with them, `times`
+//! reads times.
 //!
 //! What it has of the system (`system`), and that of a runtime (`host`), with its open files
 //! (`host_file`): `files` opens those that are named, `profile_file` a profile, and `profile` those
@@ -23,7 +24,7 @@ mod host_file;
 mod options;
 pub mod profile;
 mod profile_file;
-pub mod spelled;
+pub mod short_flags;
 pub mod system;
 pub mod targets;
 pub mod times;
@@ -39,4 +40,4 @@ pub use profile_file::open_profile;
 pub use system::System;
 pub use targets::{Target, targets_of};
 pub use times::{ANY_TIME, Times, time_of, times_of};
-pub use words::{Mistake, Names};
+pub use words::{FileArguments, UsageError};

@@ -1,19 +1,10 @@
-//! The options and arguments of commands, as clap is told of them.
-ghost use Rattle.std.specs.Prelude.{◌≡◌, codes, false};
-ghost use Rattle.clap.specs.Words.{rule_of};
-ghost use Rattle.cfi_commands.specs.CommandLine.{address_rule, addresses_rule, file_rule};
-ghost use Rattle.cfi_commands.specs.CommandLine.{files_rule, flag_rule, format_rule, number_rule};
-ghost use Rattle.cfi_commands.specs.CommandLine.{text_rule};
-
+//! The options and arguments of commands, as passed to clap.
 use clap::builder::ValueParser;
 use clap::{Arg, ArgAction};
 use std::alloc::Global;
 
 /// Returns a flag.
-pub fn flag<'w>(alloc: Global, name: &'w str, help: &'w str) -> Arg<'w>
-    ensures rule { rule_of result ≡ flag_rule name.entry.now }
-    ensures local { result.global ≡ false }
-{
+pub fn flag<'w>(alloc: Global, name: &'w str, help: &'w str) -> Arg<'w> {
     Arg::new(alloc, name)
         .help(help)
         .long(name)
@@ -21,10 +12,7 @@ pub fn flag<'w>(alloc: Global, name: &'w str, help: &'w str) -> Arg<'w>
 }
 
 /// Returns the flag `--raw` of the commands that print registers.
-pub fn raw_flag<'w>(alloc: Global) -> Arg<'w>
-    ensures rule { rule_of result ≡ flag_rule (codes "raw") }
-    ensures local { result.global ≡ false }
-{
+pub fn raw_flag<'w>(alloc: Global) -> Arg<'w> {
     flag(
         alloc,
         "raw",
@@ -33,10 +21,7 @@ pub fn raw_flag<'w>(alloc: Global) -> Arg<'w>
 }
 
 /// Returns the flag `--raw` of `unwind` and `stack`.
-pub fn raw_frames_flag<'w>(alloc: Global) -> Arg<'w>
-    ensures rule { rule_of result ≡ flag_rule (codes "raw") }
-    ensures local { result.global ≡ false }
-{
+pub fn raw_frames_flag<'w>(alloc: Global) -> Arg<'w> {
     flag(
         alloc,
         "raw",
@@ -45,10 +30,7 @@ pub fn raw_frames_flag<'w>(alloc: Global) -> Arg<'w>
 }
 
 /// Returns an option with any text for a value, which help calls `value`.
-pub fn text_option<'w>(alloc: Global, name: &'w str, value: &'w str, help: &'w str) -> Arg<'w>
-    ensures rule { rule_of result ≡ text_rule name.entry.now }
-    ensures local { result.global ≡ false }
-{
+pub fn text_option<'w>(alloc: Global, name: &'w str, value: &'w str, help: &'w str) -> Arg<'w> {
     Arg::new(alloc, name)
         .help(help)
         .long(name)
@@ -56,10 +38,7 @@ pub fn text_option<'w>(alloc: Global, name: &'w str, value: &'w str, help: &'w s
 }
 
 /// Returns an option with a number for a value.
-pub fn number_option<'w>(alloc: Global, name: &'w str, help: &'w str) -> Arg<'w>
-    ensures rule { rule_of result ≡ number_rule name.entry.now }
-    ensures local { result.global ≡ false }
-{
+pub fn number_option<'w>(alloc: Global, name: &'w str, help: &'w str) -> Arg<'w> {
     Arg::new(alloc, name)
         .help(help)
         .long(name)
@@ -67,31 +46,25 @@ pub fn number_option<'w>(alloc: Global, name: &'w str, help: &'w str) -> Arg<'w>
         .value_parser(ValueParser::Unsigned(0, u64::MAX))
 }
 
-/// Returns the option `--format`, with the names of the formats.
-pub fn format_option<'w>(alloc: Global, names: &'w [&'w str]) -> Arg<'w>
-    ensures rule { rule_of result ≡ format_rule names.entry }
-    ensures local { result.global ≡ false }
-{
+/// The names of the formats.
+const FORMATS: &[&str] = &["text", "json"];
+
+/// Returns the option `--format`.
+pub fn format_option<'w>(alloc: Global) -> Arg<'w> {
     Arg::new(alloc, "format")
         .help("The form of what is printed: text, the default, or json, an object on each line")
         .long("format")
         .value_name("FORMAT")
-        .value_parser(ValueParser::Names(names))
+        .value_parser(ValueParser::Names(FORMATS))
 }
 
 /// Returns the argument that names one file.
-pub fn one_file<'w>(alloc: Global, help: &'w str) -> Arg<'w>
-    ensures rule { rule_of result ≡ file_rule }
-    ensures local { result.global ≡ false }
-{
+pub fn one_file<'w>(alloc: Global, help: &'w str) -> Arg<'w> {
     Arg::new(alloc, "FILE").help(help).required(true)
 }
 
 /// Returns the argument that names an ELF file.
-pub fn elf_file<'w>(alloc: Global) -> Arg<'w>
-    ensures rule { rule_of result ≡ file_rule }
-    ensures local { result.global ≡ false }
-{
+pub fn elf_file<'w>(alloc: Global) -> Arg<'w> {
     one_file(
         alloc,
         "A program, library or object file, in the ELF format; - is standard input",
@@ -99,10 +72,7 @@ pub fn elf_file<'w>(alloc: Global) -> Arg<'w>
 }
 
 /// Returns the argument that names a profile.
-pub fn profile<'w>(alloc: Global) -> Arg<'w>
-    ensures rule { rule_of result ≡ file_rule }
-    ensures local { result.global ≡ false }
-{
+pub fn profile<'w>(alloc: Global) -> Arg<'w> {
     one_file(
         alloc,
         "A profile of perf record: perf.data; - is standard input",
@@ -110,10 +80,7 @@ pub fn profile<'w>(alloc: Global) -> Arg<'w>
 }
 
 /// Returns the argument that names a file of folded stacks.
-pub fn folded_file<'w>(alloc: Global) -> Arg<'w>
-    ensures rule { rule_of result ≡ file_rule }
-    ensures local { result.global ≡ false }
-{
+pub fn folded_file<'w>(alloc: Global) -> Arg<'w> {
     one_file(
         alloc,
         "Folded stacks: a stack, a space and a number on each line; - is standard input",
@@ -121,29 +88,20 @@ pub fn folded_file<'w>(alloc: Global) -> Arg<'w>
 }
 
 /// Returns the argument that names any number of ELF files.
-pub fn elf_files<'w>(alloc: Global) -> Arg<'w>
-    ensures rule { rule_of result ≡ files_rule }
-    ensures local { result.global ≡ false }
-{
+pub fn elf_files<'w>(alloc: Global) -> Arg<'w> {
     Arg::new(alloc, "FILE")
         .help("Programs or libraries, in the ELF format; - is standard input")
         .num_args(1..)
 }
 
 /// Returns the argument for an address, which may be left out.
-pub fn address<'w>(alloc: Global) -> Arg<'w>
-    ensures rule { rule_of result ≡ address_rule }
-    ensures local { result.global ≡ false }
-{
+pub fn address<'w>(alloc: Global) -> Arg<'w> {
     Arg::new(alloc, "ADDRESS").help(
         "Decimal, hexadecimal with 0x, a symbol, NAME@plt, a section, or NAME+NUMBER",
     )
 }
 
 /// Returns the argument for one address or more.
-pub fn addresses<'w>(alloc: Global) -> Arg<'w>
-    ensures rule { rule_of result ≡ addresses_rule }
-    ensures local { result.global ≡ false }
-{
+pub fn addresses<'w>(alloc: Global) -> Arg<'w> {
     address(alloc).required(true).num_args(1..)
 }

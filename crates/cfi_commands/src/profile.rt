@@ -105,15 +105,15 @@ impl<S: System> Opener for ProfileOpener<'_, S> {
     }
 
     fn tell_missing(&self, name: &[u8]) {
-        self.system.tell_missing(name);
+        self.system.warn_missing(name);
     }
 
     fn tell_without_stacks(&self) {
-        self.system.tell_without_stacks(self.path);
+        self.system.warn_without_stacks(self.path);
     }
 
     fn tell_lost(&self, records: u64, samples: u64) {
-        self.system.tell_lost(self.path, records, samples);
+        self.system.warn_lost(self.path, records, samples);
     }
 
     ghost same_bytes = { λ file. S.same_bytes file };

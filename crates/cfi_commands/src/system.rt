@@ -1,11 +1,11 @@
 //! What a run has of the system: its words, the files that they name, and standard error.
-ghost use Rattle.std.specs.Prelude.{◌≡◌, ℕ, Bool, List, Option, map, option_map, string_bytes};
+ghost use Rattle.std.specs.Prelude.{◌≡◌, ℕ, Bool, List, Option, option_map};
 ghost use Rattle.cfi_commands.specs.Disks.{FileKind, of_any_kind, regular};
 
-use crate::words::Mistake;
+use crate::words::UsageError;
 use cfi_object::FileInput;
 use clap::Error;
-use std::alloc::Global;
+use std::alloc::{AllocError, Global};
 use std::io;
 use std::io::Read;
 
@@ -28,10 +28,6 @@ pub trait System {
     /// its beginning to its end.
     type File: FileInput + Read + Drop;
 
-    /// What the words of the process may be, the program's name among them; none where they can't
-    /// be had.
-    ghost has_words: { Self → Option (List (List ℕ)) → Type 0 };
-
     /// What a path may be opened to, where files of any kind are opened or regular ones alone;
     /// none where it can't be opened.
     ghost may_open: { Self → FileKind → List ℕ → Option Self.File → Type 0 };
@@ -47,10 +43,9 @@ pub trait System {
     fn alloc(&self) -> Global;
 
     /// Returns the words of the process, of which the first is its name; `None` where one of them
-    /// isn't UTF-8, which is told on standard error, or memory is refused. Of the command `check` a
-    /// word that isn't UTF-8 is a text that no file has for a name.
-    fn words(&self) -> Option<Vec<String>>
-        ensures { has_words self.now (option_map (λ words. map string_bytes words.items) result) };
+    /// isn't UTF-8, which is said on standard error. Of the command `check` a word that isn't UTF-8
+    /// is a text that no file has for a name. Fails where memory is refused.
+    fn words(&self) -> Result<Option<Vec<String>>, AllocError>;
 
     /// Opens the file at a path, a pipe or a device too. Where it can't be opened, or is a
     /// directory, the reason is printed on standard error, as `cfi: FILE: SENTENCE`, and there is
@@ -82,34 +77,38 @@ pub trait System {
 
     /// Says on standard error what is wrong with the words, as `cfi: TEXT: SENTENCE` where a text
     /// is.
-    fn tell_mistake(&self, mistake: Mistake);
+    fn warn_usage(&self, error: UsageError);
 
     /// Says on standard error that the list at this path can't be read, as `cfi: LIST: SENTENCE`.
-    fn tell_unread(&self, list: &str);
+    fn warn_unread(&self, list: &str);
 
     /// Says on standard error that a name in the list at this path is empty, as
     /// `cfi: LIST: SENTENCE`.
-    fn tell_empty_name(&self, list: &str);
+    fn warn_empty_name(&self, list: &str);
 
     /// Says on standard error that the name of a file isn't UTF-8, as `cfi: FILE: SENTENCE`.
-    fn tell_no_text(&self, name: &[u8]);
+    fn warn_no_text(&self, name: &[u8]);
 
     /// Says on standard error that for the file with this name none of the build that ran was
     /// found, as `cfi: FILE: SENTENCE`.
-    fn tell_missing(&self, name: &[u8]);
+    fn warn_missing(&self, name: &[u8]);
 
     /// Says on standard error that the profile at this path was recorded without copies of stacks,
     /// as `cfi: FILE: SENTENCE`.
-    fn tell_without_stacks(&self, path: &str);
+    fn warn_without_stacks(&self, path: &str);
 
     /// Says on standard error how many records and how many samples of the profile at this path
     /// were lost, as `cfi: FILE: lost NUMBER records` and `cfi: FILE: lost NUMBER samples`. A
-    /// number that is 0 isn't told.
-    fn tell_lost(&self, path: &str, records: u64, samples: u64);
+    /// number that is 0 isn't printed.
+    fn warn_lost(&self, path: &str, records: u64, samples: u64);
 
     /// Prints clap's text: help on standard output and a mistake on standard error. Fails where it
     /// can't be written.
     fn print_error(&self, error: &Error) -> io::Result<()>;
+
+    /// Says on standard error that standard output can't be written, as
+    /// `cfi: standard output: SENTENCE`; nothing where a pipe was closed by its reader.
+    fn warn_unwritten(&self, error: &io::Error);
 
     /// Says on standard error which of several files is checked, where there is one to read it.
     fn show_progress(&self, number: usize, files: usize, file: &str);

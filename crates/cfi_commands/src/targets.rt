@@ -8,13 +8,14 @@ ghost use Rattle.cfi_commands.specs.Targets.{AreNamesInOrder, AreOfEntry, AreTar
 ghost use Rattle.cfi_commands.specs.Targets.{IsEntry, IsListEntry, IsListRead, IsNamedEntry};
 ghost use Rattle.cfi_commands.specs.Targets.{depth_of_paths};
 ghost use Rattle.cfi_commands.specs.Targets.{found_entry, is_above, named_entry, names_listed};
-ghost use Rattle.cfi_commands.specs.Targets.{names_view, rest_of, target_view, tree_entry_view};
+ghost use Rattle.cfi_commands.specs.Targets.{names_view, of_list, rest_of, target_view};
+ghost use Rattle.cfi_commands.specs.Targets.{tree_entry_view};
 ghost use Rattle.cfi_commands.specs.Trees.{path_in, tree_of};
 
 use crate::files::open_named;
 use crate::system::{Kind, System};
-use crate::words::Names;
-use cfi_text::reading::read_all;
+use crate::words::FileArguments;
+use cfi_text::reading::{InputError, read_all};
 use std::alloc::{AllocError, Global};
 use std::str;
 
@@ -45,36 +46,64 @@ pub enum TreeEntry {
 }
 
 /// Returns the files that a check is of. `None` where they are named by a list that can't be read,
-/// which is told, or memory is refused. Allocates for the list, for the paths of the files, and for
-/// the names in the folders on the way.
-pub fn targets_of<S: System>(system: &S, recursive: bool, names: Names) -> Option<Vec<Target>>
-    ensures { IfSome result (λ targets. AreTargets
+/// which is said on standard error. Fails where memory is refused. Allocates for the list, for the
+/// paths of the files, and for the names in the folders on the way.
+pub fn targets_of<S: System>(
+    system: &S,
+    recursive: bool,
+    names: FileArguments,
+) -> Result<Option<Vec<Target>>, AllocError>
+    ensures { IfOk result (λ found. IfSome found (λ targets. AreTargets
         (disk_of (S.may_open system.now) S.File.bytes)
         (tree_of (S.may_be system.now) (S.may_list system.now)) recursive
-        (names_view names.entry) (map target_view targets.items)) }
+        (names_view names.entry) (map target_view targets.items))) }
 {
     match names {
-        Names::Files(files) => files_of(system, recursive, files).ok(),
-        Names::List(list) => {
-            let text = read_list(system, list)?;
-            files_in(system, recursive, list, text.as_slice()).ok()
+        FileArguments::Files(files) => {
+            let targets = files_of(system, recursive, files)?;
+            Ok(Some(targets))
         }
+        FileArguments::List(list) => files_listed(system, recursive, list),
     }
 }
 
-/// Reads the list at a path. Where it can't be opened or read, the reason is told, and there is
-/// none.
-fn read_list<S: System>(system: &S, list: &str) -> Option<Vec<u8>>
-    ensures { IfSome result (λ text. IsListRead
-        (disk_of (S.may_open system.now) S.File.bytes) list.now text.items) }
+/// Returns the files that a check of those is of that the list at a path names. `None` where it
+/// can't be read, which is said on standard error. Fails where memory is refused.
+fn files_listed<S: System>(
+    system: &S,
+    recursive: bool,
+    list: &str,
+) -> Result<Option<Vec<Target>>, AllocError>
+    ensures { IfOk result (λ found. IfSome found (λ targets. AreTargets
+        (disk_of (S.may_open system.now) S.File.bytes)
+        (tree_of (S.may_be system.now) (S.may_list system.now)) recursive
+        (of_list list.now) (map target_view targets.items))) }
 {
-    let mut input = open_named(system, list)?;
-    match read_all(system.alloc(), &mut input) {
-        Ok(text) => Some(text),
-        Err(_) => {
-            system.tell_unread(list);
-            None
+    match read_list(system, list)? {
+        Some(text) => {
+            let targets = files_in(system, recursive, list, text.as_slice())?;
+            Ok(Some(targets))
         }
+        None => Ok(None),
+    }
+}
+
+/// Reads the list at a path. Where it can't be opened or read, the reason is said on standard
+/// error, and there is none. Fails where memory is refused.
+fn read_list<S: System>(system: &S, list: &str) -> Result<Option<Vec<u8>>, AllocError>
+    ensures { IfOk result (λ read. IfSome read (λ text. IsListRead
+        (disk_of (S.may_open system.now) S.File.bytes) list.now text.items)) }
+{
+    match open_named(system, list) {
+        Some(mut input) => match read_all(system.alloc(), &mut input) {
+            Ok(text) => Ok(Some(text)),
+            Err(InputError::OutOfMemory) => Err(AllocError),
+            Err(_) => {
+                system.warn_unread(list);
+                Ok(None)
+            }
+        },
+        None => Ok(None),
     }
 }
 
@@ -98,7 +127,7 @@ fn files_of<S: System>(
 }
 
 /// Returns the files that a check of the names of a list is of, each of which is ended by a zero
-/// byte, as `files_of`. A name by which nothing can be opened is told.
+/// byte, as `files_of`. A name by which nothing can be opened is said on standard error.
 fn files_in<S: System>(
     system: &S,
     recursive: bool,
@@ -160,13 +189,13 @@ fn entry_listed<S: System>(
         (tree_entry_view entry)) }
 {
     if name.is_empty() {
-        system.tell_empty_name(list);
+        system.warn_empty_name(list);
         return Ok(TreeEntry::One(Target::Unread));
     }
     match str::from_utf8(name) {
         Ok(name) => entry_named(system, recursive, name),
         Err(_) => {
-            system.tell_no_text(name);
+            system.warn_no_text(name);
             Ok(TreeEntry::One(Target::Unread))
         }
     }
@@ -208,7 +237,8 @@ fn push_entry<S: System>(
 }
 
 /// Appends the files in a folder, in the order of their names, and where a folder is among them
-/// those in that. A folder that can't be read is told. Links aren't followed.
+/// those in that. A folder that can't be read is
+/// said on standard error. Links aren't followed.
 #[cycle(walk)]
 fn push_folder<S: System>(
     system: &S,
@@ -253,7 +283,8 @@ fn names_in_order<'l>(alloc: Global, list: &'l [u8]) -> Result<Vec<&'l [u8]>, Al
     Ok(names)
 }
 
-/// Returns what a name in a folder comes to. One that isn't UTF-8 is told.
+/// Returns what a name in a folder comes to. One that isn't UTF-8 is said on
+/// standard error.
 fn entry_in<S: System>(system: &S, folder: &str, name: &[u8]) -> Result<TreeEntry, AllocError>
     ensures { IfOk result (λ entry.
         IsEntry (tree_of (S.may_be system.now) (S.may_list system.now)) folder.now name.now
@@ -297,7 +328,7 @@ fn entry_at<S: System>(system: &S, path: &[u8]) -> Result<TreeEntry, AllocError>
             Ok(found_entry(system.kind(path, false), text))
         }
         Err(_) => {
-            system.tell_no_text(path);
+            system.warn_no_text(path);
             Ok(TreeEntry::One(Target::Unread))
         }
     }

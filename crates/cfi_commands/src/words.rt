@@ -1,8 +1,8 @@
-//! What words say that clap takes: which files a check is of, or a mistake.
+//! What the words of a command say beside what clap reads in them.
 
 /// The files that a check is of.
 #[derive(Clone, Copy)]
-pub enum Names<'c> {
+pub enum FileArguments<'c> {
     /// These.
     Files(&'c [&'c str]),
     /// Those that the list at this path names, each name ended by a zero byte; `-` is standard
@@ -12,7 +12,9 @@ pub enum Names<'c> {
 
 /// What is wrong with words that clap takes.
 #[derive(Clone, Copy)]
-pub enum Mistake<'c> {
+pub enum UsageError<'c> {
+    /// There is no command, or one that the program doesn't have.
+    NoCommand,
     /// No file to check is named.
     NoFiles,
     /// Files to check are named, and a list of such.

@@ -1,3 +1,0 @@
-mod GetterLemmas
-mod ProcessLemmas
-mod Worked
