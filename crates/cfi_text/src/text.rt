@@ -19,6 +19,8 @@ use std::{fmt, io};
 pub struct Text {
     bytes: Vec<u8>,
     is_short: bool,
+    /// The digits of an address, before they are appended.
+    digits: LineBuffer,
 }
 
 impl Text {
@@ -30,6 +32,7 @@ impl Text {
         Text {
             bytes: Vec::new(alloc),
             is_short: false,
+            digits: LineBuffer::new(),
         }
     }
 
@@ -55,10 +58,18 @@ impl Text {
     pub fn address(&mut self, address: u64)
         ensures { Puts (address_text address) self.old self.new }
     {
-        let mut digits = LineBuffer::new();
-        match push_address(&mut digits, address) {
-            Ok(()) => self.put(digits.as_slice()),
-            Err(_) => self.is_short = true,
+        self.digits.clear();
+        if push_address(&mut self.digits, address).is_err() {
+            self.is_short = true;
+            return;
+        }
+        if self.is_short
+            || self
+                .bytes
+                .extend_from_slice(self.digits.as_slice())
+                .is_err()
+        {
+            self.is_short = true;
         }
     }
 
