@@ -16,14 +16,8 @@
 
 static const uint8_t saved[SAVED] = SAVED_REGISTERS;
 
-/* The last throws, by the addresses of what was thrown: others have the same place. One that lies in another thread's trail, since
- * its stack went on in this thread, isn't met there again by an exception that is made at the same address later. */
-static struct {
-    _Alignas(64) _Atomic(uint64_t) stamp;
-} last_throws[32];
-
 static inline _Atomic(uint64_t) *last_throw_of(const struct _Unwind_Exception *exception) {
-    return &last_throws[((uint64_t)exception >> 4) * 0x9e3779b97f4a7c15 >> 59].stamp;
+    return &last_throws[((uint64_t)exception >> 4) * 0x9e3779b97f4a7c15 >> 32 & (LAST_THROWS - 1)].stamp;
 }
 
 /* No other throw of the process has it. */

@@ -22,7 +22,7 @@
 
 enum {
     NESTED = 2,     /* a throw, and a handler of a signal that interrupts it */
-    INNER_CALLS = 6 /* so many calls within a call are known: by handlers, and by what is called for each frame */
+    INNER_CALLS = 5 /* so many calls within a call are known: by handlers, and by what is called for each frame */
 };
 
 struct workspace;
@@ -361,7 +361,7 @@ struct trail_frame {
 };
 
 enum {
-    REMEMBERED = 128,
+    REMEMBERED = 64,
     FIRST_FRAMES = 16, /* of a trail: they lie with what each throw touches */
     MORE_FRAMES = 120 * 1024 / sizeof(struct trail_frame)
 };
@@ -377,6 +377,15 @@ struct trail {
     struct trail_frame *more;             /* those after the first ones */
     struct trail_frame first[FIRST_FRAMES];
 };
+
+enum { LAST_THROWS = 16 };
+
+/* The last throws, by the addresses of what was thrown: others have the same place. One that lies in another thread's trail, since
+ * its stack went on in this thread, isn't met there again by an exception that is made at the same address later. */
+struct last_throw {
+    _Alignas(64) _Atomic(uint64_t) stamp;
+};
+HIDDEN extern struct last_throw last_throws[LAST_THROWS];
 
 /* ---- what a thread needs for a step (workspace.c) */
 

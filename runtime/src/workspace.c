@@ -56,8 +56,10 @@ struct place {
 
 static struct place places[SHARED];
 
-/* That of the first place, and the one that all share where there is no memory. */
-static struct region first, reserve;
+/* That of the first place, and the one that all share where there is no memory. They lie behind all other memory of the library, so
+ * that what a first throw touches of that lies together. */
+static __attribute__((section(".bss.regions"))) struct region first, reserve;
+__attribute__((section(".bss.regions"))) struct last_throw last_throws[LAST_THROWS];
 static struct workspace *made_in_reserve;
 static _Atomic(struct section *) read_in_reserve;
 
@@ -190,6 +192,7 @@ static int32_t make_context(void *workspace) {
 static bool make(struct region *region) {
     struct workspace *workspace = &region->workspace, **made = made_here(), *was = *made;
     char *top = region->rows + ROWS;
+    touch(top - MOST - FIRST, (size_t)((char *)&region->modules.all[1] - (top - MOST - FIRST)));
     workspace->modules = &region->modules;
     workspace->remembered = region->remembered;
     workspace->trail = &region->trail;
@@ -197,7 +200,6 @@ static bool make(struct region *region) {
     workspace->rooms[0] = room_of(region->context, CONTEXT);
     workspace->rooms[1] = room_of(region->seldom, SELDOM);
     workspace->stack = room_of(region->stack, (size_t)(top - FIRST - region->stack));
-    touch(top - MOST - FIRST, (size_t)((char *)&region->modules.all[1] - (top - MOST - FIRST)));
     *made = workspace;
     int32_t status = call_on_own_stack(workspace, make_context, workspace);
     *made = was;
