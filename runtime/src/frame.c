@@ -60,7 +60,7 @@ void show_all(struct walk *walk) {
         walk->frame.value[k] = walk->registers[k].value;
 }
 
-void begin_walk(struct walk *walk, const struct entry *entry) {
+void open_walk(struct walk *walk) {
     struct _Unwind_Context *frame = &walk->frame;
     clear_words(frame, sizeof *frame);
     memset(frame->by_value, true, REGISTERS);
@@ -69,15 +69,23 @@ void begin_walk(struct walk *walk, const struct entry *entry) {
     walk->module = (CfiRange){0};
     memset(walk->parts, 0, sizeof walk->parts);
     walk->own = NULL;
+    walk->personality_at = 0;
+    walk->trail = NULL;
+    walk->asked = 0;
+    walk->is_whole = true;
+}
+
+void begin_walk(struct walk *walk, const struct entry *entry) {
+    open_walk(walk);
     first_frame(walk, entry);
 }
 
-void first_frame(struct walk *walk, const struct entry *entry) {
+void go_to_frame(struct walk *walk, const uint64_t *registers, uint64_t pc) {
     clear_words(walk->registers, sizeof walk->registers);
 #pragma GCC unroll 32
     for (int i = 0; i < SAVED; i++)
-        walk->registers[saved[i]] = (CfiValue){entry->registers[i], true};
-    walk->caller = (CfiCaller){.pc = entry->pc, .cfa = walk->registers[STACK_POINTER].value};
+        walk->registers[saved[i]] = (CfiValue){registers[i], true};
+    walk->caller = (CfiCaller){.pc = pc, .cfa = walk->registers[STACK_POINTER].value};
     walk->is_caller_plain = true;
     walk->steps_back = 0;
     go_up(walk);
@@ -265,6 +273,7 @@ static const struct known_module *find_module_of(struct workspace *workspace, st
         known = find_known(workspace->modules, walk->call.number, address_of(&walk->frame));
     walk->is_loaded = known;
     walk->module = known ? (CfiRange){known->loaded.module.start, known->loaded.module.end} : (CfiRange){0};
+    walk->personality_at = 0;
     memset(walk->parts, 0, sizeof walk->parts);
     walk->file = known ? known->file : 0;
     return known;
@@ -375,7 +384,7 @@ static __attribute__((noinline)) enum found step_elsewhere(struct walk *walk) {
 }
 
 /* The last module is not looked for again in a call: it has a frame on the stack. */
-static inline enum found step_up(struct walk *walk) {
+static inline __attribute__((always_inline)) enum found step_up(struct walk *walk) {
     struct workspace *workspace = walk->own;
     if (!is_in(walk->module, address_of(&walk->frame)) || !workspace || workspace->holder)
         return step_elsewhere(walk);
@@ -401,44 +410,6 @@ static inline __attribute__((always_inline)) enum found look_for_caller(struct w
 
 enum found find_caller(struct walk *walk) {
     return look_for_caller(walk);
-}
-
-/* ---- facts of frames that phase 1 met: phase 2 needs no more of one that it lands in */
-
-/* The place of the frame's pc in the thread's first workspace; NULL where it is in use, or of another module. */
-static inline struct remembered *place_of(const struct walk *walk) {
-    const struct _Unwind_Context *frame = &walk->frame;
-    struct workspace *workspace = walk->own;
-    if (!workspace || workspace->holder || frame->is_interrupted || !is_in(walk->module, address_of(frame)))
-        return NULL;
-    return &workspace->remembered[(frame->pc * 0x9e3779b97f4a7c15 >> 32) % REMEMBERED];
-}
-
-bool recall_function(struct walk *walk) {
-    struct _Unwind_Context *frame = &walk->frame;
-    const struct remembered *place = place_of(walk);
-    if (!place)
-        return false;
-    hold_workspace(walk->own, &walk->call);
-    bool is_same = place->pc == frame->pc && place->file == walk->file;
-    if (is_same) {
-        walk->facts = place->facts;
-        frame->function = place->facts.start;
-        frame->lsda = place->facts.lsda_is_indirect ? 0 : place->facts.lsda;
-        frame->args_size = place->args_size;
-    }
-    let_workspace_go(walk->own);
-    return is_same;
-}
-
-void remember_function(struct walk *walk) {
-    struct remembered *place = place_of(walk);
-    if (!place)
-        return;
-    hold_workspace(walk->own, &walk->call);
-    if (place->pc != walk->frame.pc || place->file != walk->file)
-        *place = (struct remembered){walk->file, walk->frame.pc, walk->caller.args_size, walk->facts};
-    let_workspace_go(walk->own);
 }
 
 /* ---- backtraces: so little is done with a frame that a call for each would take a good part of it */

@@ -13,7 +13,7 @@ enum { STACK_POINTER = 7, RETURN_ADDRESS = 16, REGISTERS = 17, GCC_REGISTERS = 1
 
 /* rbx rbp rsp r12 r13 r14 r15, as entry_x86_64.S saves them. */
 #define SAVED_REGISTERS {3, 6, STACK_POINTER, 12, 13, 14, 15}
-enum { SAVED = 7 };
+enum { SAVED = 7, SAVED_STACK_POINTER = 2 };
 
 /* rax rdx rcx rsi rdi r8 r9 r10 r11, in the order of their numbers. */
 #define OTHER_REGISTERS {0, 1, 2, 4, 5, 8, 9, 10, 11}
@@ -58,7 +58,7 @@ static inline uint64_t ask_valgrind(uint64_t number, uint64_t first, uint64_t se
 enum { STACK_POINTER = 31, RETURN_ADDRESS = 30, REGISTERS = 80, GCC_REGISTERS = 98, BELOW = 0 };
 
 #define SAVED_REGISTERS {19, 20, 21, 22, 23, 24, 25, 26, 27, 28, 29, 30, STACK_POINTER, 72, 73, 74, 75, 76, 77, 78, 79}
-enum { SAVED = 21 };
+enum { SAVED = 21, SAVED_STACK_POINTER = 12 };
 
 /* x0 to x18, the rest but for 34, which rows set for each frame that signs its address, and d0 to d7. */
 #define OTHER_REGISTERS \

@@ -83,20 +83,31 @@ static bool find_lsda(struct walk *walk) {
     return !lsda || has_bytes(walk, LSDA_PART, lsda, 1);
 }
 
-_Unwind_Reason_Code call_personality_of(struct walk *walk, _Unwind_Action actions, struct _Unwind_Exception *exception) {
-    const CfiFunction *facts = &walk->facts;
-    uint64_t address = facts->personality;
-    if (!address)
-        return _URC_CONTINUE_UNWIND;
-    if (facts->personality_is_indirect) {
+/* Finds the personality, mostly that of the frame before. */
+static __attribute__((noinline)) bool find_personality(struct walk *walk, uint64_t personality_at) {
+    uint64_t address = walk->facts.personality;
+    if (walk->facts.personality_is_indirect) {
         if (!has_bytes(walk, POINTER_PART, address, sizeof address))
-            return _URC_FATAL_PHASE1_ERROR;
+            return false;
         address = *(const uint64_t *)address;
     }
-    _Unwind_Personality_Fn personality = (_Unwind_Personality_Fn)address;
-    if (!address || !find_lsda(walk) || !is_personality(walk, personality))
-        return _URC_FATAL_PHASE1_ERROR;
-    return personality(1, actions, exception->exception_class, exception, &walk->frame);
+    walk->personality = (_Unwind_Personality_Fn)address;
+    walk->personality_at = address && is_personality(walk, walk->personality) ? personality_at : 0;
+    return walk->personality_at;
+}
+
+bool find_asked(struct walk *walk, struct asked *asked) {
+    const CfiFunction *facts = &walk->facts;
+    uint64_t at = facts->has_personality ? facts->personality : 0;
+    at ^= (uint64_t)(at && facts->personality_is_indirect) << 63;
+    *asked = (struct asked){.personality_at = at, .start = facts->start, .end = facts->end, .args_size = walk->caller.args_size};
+    if (!at)
+        return true;
+    if ((at != walk->personality_at && !find_personality(walk, at)) || !find_lsda(walk))
+        return false;
+    asked->personality = walk->personality;
+    asked->lsda = walk->frame.lsda;
+    return true;
 }
 
 bool may_land(const struct walk *walk) {
@@ -104,9 +115,10 @@ bool may_land(const struct walk *walk) {
     uint64_t pc = walk->frame.pc;
     if (pc - facts->start < facts->end - facts->start)
         return true;
-    if (!walk->is_loaded)
-        return find_registered_function(&walk->call, pc, &(CfiModule){0}, &(CfiFunction){0});
-    CfiModule module;
+    CfiModule module = {0};
     CfiFunction part; /* of a function that the compiler split into a hot and a cold part */
-    return is_in(walk->module, pc) && find_function(&walk->call, pc, &module, &part) && part.has_lsda;
+    if (!walk->is_loaded)
+        return find_registered_function(&walk->call, pc, &module, &part);
+    return find_function(&walk->call, pc, &module, &part) && part.has_lsda &&
+           is_in((CfiRange){module.start, module.end}, facts->start);
 }

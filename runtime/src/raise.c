@@ -3,7 +3,7 @@
  * registers. */
 #include <stdlib.h>
 
-#include "unwinder.h"
+#include "trail.h"
 
 /* These are called from assembly alone. */
 HIDDEN _Unwind_Reason_Code raise_exception(struct _Unwind_Exception *exception, struct entry *entry);
@@ -41,63 +41,111 @@ _Noreturn static void install(const struct walk *walk, const struct entry *entry
     land(&landing);
 }
 
-/* Where phase 2 begins: at the first frame that has a personality, so many calls above the entry, since those below have nothing
- * that is to be asked; or at the entry itself. */
-struct start {
-    struct entry *frame; /* of the entry, and then of that */
-    uint64_t calls;
-    bool is_decided;
-};
-
-/* Has phase 2 begin at the frame, if it has no other registers than an entry has. */
-static void begin_at(struct start *start, const struct walk *walk, uint64_t calls) {
-    static const uint8_t saved[SAVED] = SAVED_REGISTERS;
-    const struct _Unwind_Context *frame = &walk->frame;
-    start->is_decided = true;
-    if (!walk->is_plain || frame->is_interrupted)
-        return;
-#pragma GCC unroll 32
-    for (int i = 0; i < SAVED; i++)
-        start->frame->registers[i] = frame->value[saved[i]];
-    start->frame->pc = frame->pc;
-    start->calls = calls;
-}
-
 /* Phase 1: goes up to the frame that handles the exception. */
-static _Unwind_Reason_Code search(struct _Unwind_Exception *exception, struct walk *walk, struct start *start) {
+static _Unwind_Reason_Code search(struct _Unwind_Exception *exception, struct walk *walk) {
     for (uint64_t calls = 0;; calls++) {
         enum found found = find_caller(walk);
         if (found != FOUND)
             return found == AT_END ? _URC_END_OF_STACK : _URC_FATAL_PHASE1_ERROR;
-        if (!start->is_decided && walk->facts.has_personality)
-            begin_at(start, walk, calls);
-        if (walk->facts.has_personality)
-            remember_function(walk);
-        _Unwind_Reason_Code code = call_personality(walk, _UA_SEARCH_PHASE, exception);
-        if (code == _URC_HANDLER_FOUND)
-            return code;
-        if (code != _URC_CONTINUE_UNWIND)
-            return _URC_FATAL_PHASE1_ERROR;
+        if (walk->facts.has_personality) {
+            struct asked asked;
+            if (!find_asked(walk, &asked))
+                return _URC_FATAL_PHASE1_ERROR;
+            record_frame(walk, calls, &asked);
+            _Unwind_Reason_Code code = ask(asked.personality, _UA_SEARCH_PHASE, exception, walk);
+            if (code == _URC_HANDLER_FOUND)
+                return code;
+            if (code != _URC_CONTINUE_UNWIND)
+                return _URC_FATAL_PHASE1_ERROR;
+        }
         go_up(walk);
     }
 }
 
-/* Phase 2: the cleanups up to the handler, whose frame private_2 tells, from a frame so many calls above the entry. Returns where
- * one is to be entered, or on an error. */
+/* Phase 2 asks a frame: whether a cleanup or the handler is to be entered there, or it goes on. */
+static inline _Unwind_Reason_Code ask_in_phase_2(_Unwind_Personality_Fn personality, struct _Unwind_Exception *exception,
+                                                 struct walk *walk) {
+    bool is_handler = identity(walk) == exception->private_2;
+    _Unwind_Action actions = _UA_CLEANUP_PHASE | (is_handler ? _UA_HANDLER_FRAME : 0);
+    _Unwind_Reason_Code code = ask(personality, actions, exception, walk);
+    if (code == _URC_INSTALL_CONTEXT)
+        land_in_frame(walk, exception, is_handler);
+    /* a handler's frame that has no handler now: the personality contradicts itself */
+    else if (code != _URC_CONTINUE_UNWIND || is_handler)
+        code = _URC_FATAL_PHASE2_ERROR;
+    return code;
+}
+
+/* The same of a frame that isn't recorded. */
+static _Unwind_Reason_Code find_and_ask(struct _Unwind_Exception *exception, struct walk *walk, bool is_resumed) {
+    struct asked asked;
+    if (find_caller(walk) != FOUND || !find_asked(walk, &asked))
+        return _URC_FATAL_PHASE2_ERROR;
+    if (is_resumed)
+        remember_asked(walk, &asked);
+    return ask_in_phase_2(asked.personality, exception, walk);
+}
+
+/* Phase 2: the cleanups up to the handler, whose frame private_2 tells, from a frame so many calls above the entry. Returns where one is
+ * to be entered, or on an error. */
 static _Unwind_Reason_Code clean_up(struct _Unwind_Exception *exception, struct walk *walk, uint64_t *calls) {
+    walk->trail = NULL;
     for (;; ++*calls) {
-        bool is_recalled = recall_function(walk);
-        if (!is_recalled && find_caller(walk) != FOUND)
-            return _URC_FATAL_PHASE2_ERROR;
-        _Unwind_Action handler = identity(walk) == exception->private_2 ? _UA_HANDLER_FRAME : 0;
-        _Unwind_Reason_Code code = call_personality(walk, _UA_CLEANUP_PHASE | handler, exception);
-        if (code == _URC_INSTALL_CONTEXT)
+        _Unwind_Reason_Code code = find_and_ask(exception, walk, false);
+        if (code != _URC_CONTINUE_UNWIND)
             return code;
-        /* a handler's frame that has no handler now: the personality contradicts itself */
-        if (code != _URC_CONTINUE_UNWIND || handler || (is_recalled && find_caller(walk) != FOUND))
-            return _URC_FATAL_PHASE2_ERROR;
         go_up(walk);
     }
+}
+
+/* The same above a frame that has been asked at this pc, but wasn't stepped from. */
+static __attribute__((noinline)) _Unwind_Reason_Code clean_up_above(struct _Unwind_Exception *exception, struct walk *walk,
+                                                                    uint64_t pc, uint64_t *calls) {
+    uint64_t registers[SAVED];
+    for (int k = 0; k < SAVED; k++)
+        registers[k] = walk->frame.value[saved[k]];
+    go_to_frame(walk, registers, pc);
+    if (find_caller(walk) != FOUND)
+        return _URC_FATAL_PHASE2_ERROR;
+    go_up(walk);
+    ++*calls;
+    return clean_up(exception, walk, calls);
+}
+
+/* Phase 2 over the frames of the trail, from its frame i on, and over those above them; counted from a frame that is so many calls above the
+ * entry of phase 1. The walk is at a frame already, at this pc; or at none, if that is 0: then it goes on where there are no frames. */
+static inline _Unwind_Reason_Code clean_up_by_trail(struct _Unwind_Exception *exception, struct walk *walk, uint64_t i,
+                                                    uint64_t below, uint64_t pc, uint64_t *calls) {
+    uint64_t above;
+    for (_Unwind_Personality_Fn personality; go_by_trail(walk, i, &above, &personality); i++) {
+        *calls = above - below;
+        pc = walk->frame.pc;
+        _Unwind_Reason_Code code = ask_in_phase_2(personality, exception, walk);
+        if (code != _URC_CONTINUE_UNWIND)
+            return code;
+    }
+    return pc ? clean_up_above(exception, walk, pc, calls) : _URC_CONTINUE_UNWIND;
+}
+
+/* Phase 2 after a cleanup, from the frame that has it. That is the first one that is asked. */
+static inline _Unwind_Reason_Code clean_up_after(struct _Unwind_Exception *exception, struct walk *walk, const struct entry *entry,
+                                                 uint64_t *calls) {
+    uint64_t below = 0;
+    _Unwind_Personality_Fn personality;
+    _Unwind_Reason_Code code;
+    if (find_trail(walk, exception, entry, &below, &personality)) {
+        code = ask_in_phase_2(personality, exception, walk);
+    } else {
+        first_frame(walk, entry);
+        code = find_and_ask(exception, walk, true);
+    }
+    if (code != _URC_CONTINUE_UNWIND)
+        return code;
+    if (walk->trail)
+        return clean_up_by_trail(exception, walk, walk->at + 1, below, entry->pc, calls);
+    go_up(walk);
+    ++*calls;
+    return clean_up(exception, walk, calls);
 }
 
 /* Phase 2 of forced unwinding: private_1 is the function that is asked at each frame whether to stop, private_2 its
@@ -115,7 +163,10 @@ static _Unwind_Reason_Code clean_up_forced(struct _Unwind_Exception *exception, 
             return _URC_FATAL_PHASE2_ERROR;
         if (found == AT_END)
             return _URC_END_OF_STACK;
-        _Unwind_Reason_Code code = call_personality(walk, _UA_FORCE_UNWIND | _UA_CLEANUP_PHASE, exception);
+        struct asked asked;
+        if (!find_asked(walk, &asked))
+            return _URC_FATAL_PHASE2_ERROR;
+        _Unwind_Reason_Code code = ask(asked.personality, _UA_FORCE_UNWIND | _UA_CLEANUP_PHASE, exception, walk);
         if (code == _URC_INSTALL_CONTEXT)
             return code;
         if (code != _URC_CONTINUE_UNWIND)
@@ -126,16 +177,19 @@ static _Unwind_Reason_Code clean_up_forced(struct _Unwind_Exception *exception, 
 
 _Unwind_Reason_Code raise_exception(struct _Unwind_Exception *exception, struct entry *entry) {
     struct walk walk;
-    struct start start = {.frame = entry, .calls = 0, .is_decided = false};
+    uint64_t calls = 0;
     begin_walk(&walk, entry);
-    _Unwind_Reason_Code code = search(exception, &walk, &start);
+    _Unwind_Reason_Code code = search(exception, &walk);
     if (code == _URC_HANDLER_FOUND) {
         exception->private_1 = 0;
         exception->private_2 = identity(&walk);
-        first_frame(&walk, entry);
-        code = clean_up(exception, &walk, &start.calls);
+        code = end_trail(&walk, exception) ? clean_up_by_trail(exception, &walk, 0, 0, 0, &calls) : _URC_CONTINUE_UNWIND;
+        if (code == _URC_CONTINUE_UNWIND) {
+            first_frame(&walk, entry);
+            code = clean_up(exception, &walk, &calls);
+        }
         if (code == _URC_INSTALL_CONTEXT)
-            install(&walk, entry, start.calls);
+            install(&walk, entry, calls);
     }
     end_call(&walk.call);
     return code;
@@ -145,9 +199,14 @@ _Unwind_Reason_Code raise_exception(struct _Unwind_Exception *exception, struct 
 void resume(struct _Unwind_Exception *exception, const struct entry *entry) {
     struct walk walk;
     uint64_t calls = 0;
-    begin_walk(&walk, entry);
-    _Unwind_Reason_Code code =
-        exception->private_1 ? clean_up_forced(exception, &walk, &calls) : clean_up(exception, &walk, &calls);
+    open_walk(&walk);
+    _Unwind_Reason_Code code;
+    if (exception->private_1) {
+        first_frame(&walk, entry);
+        code = clean_up_forced(exception, &walk, &calls);
+    } else {
+        code = clean_up_after(exception, &walk, entry, &calls);
+    }
     if (code != _URC_INSTALL_CONTEXT)
         abort();
     install(&walk, entry, calls);

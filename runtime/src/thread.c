@@ -52,28 +52,13 @@ void set_signals(Mask mask) {
     errno = was;
 }
 
-bool is_on_valgrind(void) {
-    enum { RUNNING_ON_VALGRIND = 0x1001, UNKNOWN = 0, NO, YES };
-    static _Atomic(int) known;
-    int is = atomic_load_explicit(&known, memory_order_relaxed);
-    if (is == UNKNOWN) {
-        is = ask_valgrind(RUNNING_ON_VALGRIND, 0, 0) ? YES : NO;
-        atomic_store_explicit(&known, is, memory_order_relaxed);
-    }
-    return is == YES;
-}
+_Atomic(int) is_valgrind;
 
-/* The numbers are those of helgrind.h, which drd knows too. */
-void say_before(const void *place) {
-    enum { HAPPENS_BEFORE = 0x48470121 };
-    if (is_on_valgrind())
-        ask_valgrind(HAPPENS_BEFORE, (uint64_t)place, 0);
-}
-
-void say_after(const void *place) {
-    enum { HAPPENS_AFTER = 0x48470122 };
-    if (is_on_valgrind())
-        ask_valgrind(HAPPENS_AFTER, (uint64_t)place, 0);
+int ask_whether_valgrind(void) {
+    enum { RUNNING_ON_VALGRIND = 0x1001 };
+    int is = ask_valgrind(RUNNING_ON_VALGRIND, 0, 0) ? YES : NO;
+    atomic_store_explicit(&is_valgrind, is, memory_order_relaxed);
+    return is;
 }
 
 /* The kernel reads the mask before it looks at the first argument, which is none. Valgrind would report what is read so. */

@@ -20,12 +20,21 @@
 
 /* ---- threads (thread.c) */
 
-enum { NESTED = 2 /* a throw, and a handler of a signal that interrupts it */ };
+enum {
+    NESTED = 2,     /* a throw, and a handler of a signal that interrupts it */
+    INNER_CALLS = 5 /* so many calls within a call are known: by handlers, and by what is called for each frame */
+};
 
 struct workspace;
 struct section;
 struct call;
 struct place;
+
+/* A call that may have been left: its stack then has other contents, some time. */
+struct began {
+    const struct call *call;
+    uint64_t number;
+};
 
 /* A thread that threw. It is found by its pointer: a library that is loaded late may not get memory of each thread. */
 struct thread {
@@ -35,8 +44,9 @@ struct thread {
     struct place *place;   /* of its first workspace, which is its own during a call; NULL: there was none */
     uint64_t user;         /* its number there, which no other thread has, */
     uint64_t idle;         /* and what it wrote there last */
-    const struct call *outermost; /* the call that took the place and is to give it back, and its number; or NULL */
-    uint64_t outermost_number;
+    struct began outermost; /* the call that took the place and is to give it back; or NULL */
+    struct began inner[INNER_CALLS]; /* those that began in it, the last of which began last */
+    uint64_t inner_calls;
     struct workspace *made;                   /* while its context or its cache is made: whose memory the library takes */
     _Atomic(struct section *) reading[NESTED]; /* what each workspace reads of what was registered */
     _Atomic(int) number;                       /* the kernel's, where nothing is called at the thread's end; else 0 */
@@ -69,12 +79,29 @@ HIDDEN void set_signals(Mask mask);
 /* Whether eight bytes at the address can be read. It asks the kernel, but under valgrind. */
 HIDDEN bool is_readable(uint64_t address);
 
-/* Whether valgrind runs the program. */
-HIDDEN bool is_on_valgrind(void);
+/* Whether valgrind runs the program, if that was asked; else 0. */
+enum { UNKNOWN, NO, YES };
+HIDDEN extern _Atomic(int) is_valgrind;
+HIDDEN int ask_whether_valgrind(void);
 
-/* Tells valgrind that what was done before the first, of a place, is done before what comes after the second. */
-HIDDEN void say_before(const void *place);
-HIDDEN void say_after(const void *place);
+static inline bool is_on_valgrind(void) {
+    int is = atomic_load_explicit(&is_valgrind, memory_order_relaxed);
+    return (is == UNKNOWN ? ask_whether_valgrind() : is) == YES;
+}
+
+/* Tells valgrind that what was done before the first, of a place, is done before what comes after the second. The numbers are those of
+ * helgrind.h, which drd knows too. */
+static inline void say_before(const void *place) {
+    enum { HAPPENS_BEFORE = 0x48470121 };
+    if (is_on_valgrind())
+        ask_valgrind(HAPPENS_BEFORE, (uint64_t)place, 0);
+}
+
+static inline void say_after(const void *place) {
+    enum { HAPPENS_AFTER = 0x48470122 };
+    if (is_on_valgrind())
+        ask_valgrind(HAPPENS_AFTER, (uint64_t)place, 0);
+}
 
 /* The size of the kernel's pages. */
 HIDDEN uint64_t page_size(void);
@@ -114,22 +141,36 @@ struct walk {
     bool is_loaded;    /* the last module that had a pc is a loaded one, that was found in this call */
     CfiRange module;   /* where it is; else empty */
     CfiRange parts[ASKED_PARTS]; /* of it that can be read and had what was asked last, or empty */
+    uint64_t personality_at;     /* of it: the last that was found to be code, and it; or 0 */
+    _Unwind_Personality_Fn personality;
     uint64_t file;     /* the number of its file */
     struct call call;
     struct workspace *own; /* the thread's first, once it was taken in this call, else NULL */
     uint64_t steps_back;   /* how many callers had no greater stack pointer than their frames, */
     uint64_t back_pc, back_pointer; /* and where one of them was */
+    struct trail *trail; /* where phase 1 records the frames that it asks, and phase 2 finds them; NULL: nowhere */
+    uint64_t stamp, at;  /* that of the throw, and which of them the frame is */
+    uint64_t asked;      /* how many phase 1 asked, */
+    bool is_whole;       /* and whether all are recorded */
     CfiFunction facts; /* what the FDE of the frame's pc says */
     CfiCaller caller;
 };
 
 enum found { FOUND, AT_END, CORRUPT };
 
+/* Begins a walk, that is at no frame yet. */
+HIDDEN void open_walk(struct walk *walk);
+
 /* Begins a walk: makes the frame that called an entry. */
 HIDDEN void begin_walk(struct walk *walk, const struct entry *entry);
 
-/* Goes back to that frame. */
-HIDDEN void first_frame(struct walk *walk, const struct entry *entry);
+/* Goes to a plain frame with this pc and these registers, which are those that an entry saves. */
+HIDDEN void go_to_frame(struct walk *walk, const uint64_t *registers, uint64_t pc);
+
+/* Goes back to the frame that called the entry. */
+static inline void first_frame(struct walk *walk, const struct entry *entry) {
+    go_to_frame(walk, entry->registers, entry->pc);
+}
 
 /* Finds the FDE's facts and the caller of the frame. AT_END where there is none: its code has no unwind information, or its pc
  * is 0. CORRUPT where the unwind information or the stack is. */
@@ -137,12 +178,6 @@ HIDDEN enum found find_caller(struct walk *walk);
 
 /* Calls trace for the frame and those above it, up to the one that has no caller, unless trace stops before. */
 HIDDEN _Unwind_Reason_Code trace_frames(struct walk *walk, _Unwind_Trace_Fn trace, void *argument);
-
-/* The same, of the facts alone, if they are those of a frame at this pc that was remembered; else false. */
-HIDDEN bool recall_function(struct walk *walk);
-
-/* Remembers the facts that find_caller found. */
-HIDDEN void remember_function(struct walk *walk);
 
 /* Has the context of a frame that isn't plain show all registers. */
 HIDDEN void show_all(struct walk *walk);
@@ -302,21 +337,64 @@ HIDDEN bool is_mapped(uint64_t start, uint64_t end);
 /* Makes the memory at the address and around it known, if it is mapped and was not known. */
 HIDDEN bool add_window(struct windows *known, uint64_t address);
 
-/* ---- what a thread needs for a step (workspace.c) */
+/* ---- frames that phase 1 asked (trail.h) */
 
-/* What the row and the FDE of a pc say that isn't of an interrupted frame. */
+/* By what the personality of a frame is asked, and where it may land. */
+struct asked {
+    _Unwind_Personality_Fn personality; /* NULL: nothing is to be asked */
+    uint64_t personality_at;            /* where the FDE says that it is, and whether its address lies there */
+    uint64_t start, end, lsda;          /* of the function */
+    uint64_t args_size;                 /* what has been pushed at the pc */
+};
+
+/* The same of a pc in a file. */
 struct remembered {
     uint64_t file, pc; /* 0: nothing */
-    uint64_t args_size;
-    CfiFunction facts;
+    struct asked asked;
 };
+
+/* A plain frame of a loaded module, so many calls above the entry. */
+struct trail_frame {
+    uint64_t registers[SAVED];
+    uint64_t pc, file, calls;
+    struct asked asked;
+};
+
+enum {
+    REMEMBERED = 64,
+    FIRST_FRAMES = 16, /* of a trail: they lie with what each throw touches */
+    MORE_FRAMES = 120 * 1024 / sizeof(struct trail_frame)
+};
+
+/* The frames that phase 1 of a throw asked, from the first on, for phase 2. A throw by a handler of a signal, or by a cleanup,
+ * takes it from the one that it interrupts. */
+struct trail {
+    uint64_t stamp;                       /* of the throw, which no other has */
+    struct _Unwind_Exception *exception;  /* what was thrown, where phase 2 goes on after a cleanup; else NULL */
+    uint64_t handler;                     /* its frame, as private_2 tells it */
+    uint64_t landed, landed_pointer;      /* the last frame that was entered, and its stack pointer then */
+    uint64_t count;
+    struct trail_frame *more;             /* those after the first ones */
+    struct trail_frame first[FIRST_FRAMES];
+};
+
+enum { LAST_THROWS = 16 };
+
+/* The last throws, by the addresses of what was thrown: others have the same place. One that lies in another thread's trail, since
+ * its stack went on in this thread, isn't met there again by an exception that is made at the same address later. */
+struct last_throw {
+    _Alignas(64) _Atomic(uint64_t) stamp;
+};
+HIDDEN extern struct last_throw last_throws[LAST_THROWS];
+
+/* ---- what a thread needs for a step (workspace.c) */
 
 /* Memory, from the first byte that is free to its end. */
 struct room {
     char *free, *end;
 };
 
-enum { ROOMS = 2, PERSONALITIES = 3, REMEMBERED = 64 };
+enum { ROOMS = 2, PERSONALITIES = 3 };
 
 /* A part that can be read of the module with this file's number; empty where there is none. */
 struct file_part {
@@ -341,6 +419,7 @@ struct workspace {
     unsigned first_rows;                /* once so many rows were looked for the cache is made larger; never if 0 */
     struct known_modules *modules;
     struct remembered *remembered;      /* by their pcs */
+    struct trail *trail;
 };
 
 /* Makes the view of a frame with this stack pointer, and its stack known. */
@@ -403,14 +482,15 @@ static inline void give_workspace(struct workspace *workspace) {
 
 /* ---- personalities (personality.c) */
 
-/* Calls the frame's personality. _URC_FATAL_PHASE1_ERROR where it leads to no function. */
-HIDDEN _Unwind_Reason_Code call_personality_of(struct walk *walk, _Unwind_Action actions,
-                                               struct _Unwind_Exception *exception);
+/* Finds by what the frame is asked, and shows the LSDA. False where its facts lead to no function, or to no LSDA of its module. */
+HIDDEN bool find_asked(struct walk *walk, struct asked *asked);
 
-/* Does so if the frame has one, else goes on. */
-static inline _Unwind_Reason_Code call_personality(struct walk *walk, _Unwind_Action actions,
-                                                   struct _Unwind_Exception *exception) {
-    return walk->facts.has_personality ? call_personality_of(walk, actions, exception) : _URC_CONTINUE_UNWIND;
+/* Asks what was found; goes on where nothing is to be asked. */
+static inline _Unwind_Reason_Code ask(_Unwind_Personality_Fn personality, _Unwind_Action actions,
+                                      struct _Unwind_Exception *exception, struct walk *walk) {
+    if (!personality)
+        return _URC_CONTINUE_UNWIND;
+    return personality(1, actions, exception->exception_class, exception, &walk->frame);
 }
 
 /* Whether the pc that a personality set is code of the frame's own function, or of another of its module that has an LSDA. */

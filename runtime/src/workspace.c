@@ -42,8 +42,10 @@ struct region {
     _Alignas(LINE) char rows[ROWS]; /* the first ones at its end */
     _Alignas(LINE) char context[CONTEXT];
     struct remembered remembered[REMEMBERED];
+    struct trail trail;
     struct workspace workspace;
     struct known_modules modules;
+    struct trail_frame more_frames[MORE_FRAMES];
 };
 
 /* A workspace that threads take in turn. It never moves. */
@@ -54,8 +56,10 @@ struct place {
 
 static struct place places[SHARED];
 
-/* That of the first place, and the one that all share where there is no memory. */
-static struct region first, reserve;
+/* That of the first place, and the one that all share where there is no memory. They lie behind all other memory of the library, so
+ * that what a first throw touches of that lies together. */
+static __attribute__((section(".bss.regions"))) struct region first, reserve;
+__attribute__((section(".bss.regions"))) struct last_throw last_throws[LAST_THROWS];
 static struct workspace *made_in_reserve;
 static _Atomic(struct section *) read_in_reserve;
 
@@ -188,12 +192,14 @@ static int32_t make_context(void *workspace) {
 static bool make(struct region *region) {
     struct workspace *workspace = &region->workspace, **made = made_here(), *was = *made;
     char *top = region->rows + ROWS;
+    touch(top - MOST - FIRST, (size_t)((char *)&region->modules.all[1] - (top - MOST - FIRST)));
     workspace->modules = &region->modules;
     workspace->remembered = region->remembered;
+    workspace->trail = &region->trail;
+    region->trail.more = region->more_frames;
     workspace->rooms[0] = room_of(region->context, CONTEXT);
     workspace->rooms[1] = room_of(region->seldom, SELDOM);
     workspace->stack = room_of(region->stack, (size_t)(top - FIRST - region->stack));
-    touch(top - MOST - FIRST, (size_t)((char *)&region->modules.all[1] - (top - MOST - FIRST)));
     *made = workspace;
     int32_t status = call_on_own_stack(workspace, make_context, workspace);
     *made = was;
@@ -253,6 +259,7 @@ static void forget_thread(struct workspace *workspace) {
     workspace->windows = (struct windows){0};
     workspace->view = (struct view){0};
     memset(workspace->personalities, 0, sizeof workspace->personalities);
+    workspace->trail->exception = NULL;
     forget_calls(workspace->modules);
 }
 
@@ -319,9 +326,10 @@ static struct place *find_place(const struct thread *thread, bool *is_own) {
 
 /* The call is the one that is to give the workspace back. */
 static void begin_outermost(struct thread *thread, const struct call *call) {
-    thread->outermost_number = call->number;
+    thread->inner_calls = 0;
+    thread->outermost.number = call->number;
     atomic_signal_fence(memory_order_seq_cst);
-    thread->outermost = call;
+    thread->outermost.call = call;
 }
 
 /* Takes a place for the call. Where there is none that is idle, or no memory for it, a workspace is made when one is needed, and
@@ -353,17 +361,28 @@ static bool is_gone(const struct call *call, uint64_t number) {
 
 /* Whether a call of the thread has its place, or has no place. */
 static bool has_turn(const struct thread *thread) {
-    return thread->outermost || (thread->place && atomic_load(&thread->place->state) == thread->user * USER);
+    return thread->outermost.call || (thread->place && atomic_load(&thread->place->state) == thread->user * USER);
 }
 
-/* As take_turn, where the thread's last place isn't taken. A call that interrupted another one, or that one's personality, uses
- * its workspace. If that one was left it takes its part. */
+/* A call that interrupted another one, or that is made for a frame of that one, uses its workspace. If that one was left it takes its part,
+ * unless another call is there that began in it: what was left may be known as such only later. */
+static void begin_inner(struct thread *thread, const struct call *call) {
+    uint64_t *count = &thread->inner_calls;
+    while (*count && is_gone(thread->inner[*count - 1].call, thread->inner[*count - 1].number))
+        --*count;
+    if (!*count && is_gone(thread->outermost.call, thread->outermost.number))
+        begin_outermost(thread, call);
+    else if (*count < INNER_CALLS)
+        thread->inner[(*count)++] = (struct began){call, call->number};
+}
+
+/* As take_turn, where the thread's last place isn't taken. */
 static __attribute__((noinline)) void take_turn_anew(struct thread *thread, const struct call *call) {
     Mask mask = block_signals();
     if (!has_turn(thread))
         find_turn(thread, call);
-    else if (thread->outermost && is_gone(thread->outermost, thread->outermost_number))
-        begin_outermost(thread, call);
+    else if (thread->outermost.call)
+        begin_inner(thread, call);
     set_signals(mask);
 }
 
@@ -371,7 +390,7 @@ static __attribute__((noinline)) void take_turn_anew(struct thread *thread, cons
 void take_turn(const struct call *call) {
     struct thread *thread = call->thread;
     struct place *place = thread->place;
-    if (!place || thread->outermost || !take_place(place, thread->idle, thread)) {
+    if (!place || thread->outermost.call || !take_place(place, thread->idle, thread)) {
         take_turn_anew(thread, call);
     } else if (place == thread->place) {
         begin_outermost(thread, call);
@@ -386,22 +405,33 @@ static __attribute__((noinline)) void end_without_place(struct thread *thread) {
     Mask mask = block_signals();
     struct workspace *workspace = thread->workspaces[0];
     thread->workspaces[0] = NULL;
-    thread->outermost = NULL;
+    thread->outermost.call = NULL;
     if (workspace)
         leave(workspace);
     set_signals(mask);
 }
 
+/* Those that began in it were left, if they are there. */
+static __attribute__((noinline)) void end_inner(struct thread *thread, const struct call *call) {
+    for (uint64_t i = thread->inner_calls; i-- > 0;)
+        if (thread->inner[i].call == call)
+            thread->inner_calls = i;
+}
+
 void end_call(const struct call *call) {
     struct thread *thread = call->thread;
-    if (!thread || thread->outermost != call)
+    if (!thread)
         return;
+    if (thread->outermost.call != call) {
+        end_inner(thread, call);
+        return;
+    }
     struct place *place = thread->place;
     if (!place) {
         end_without_place(thread);
         return;
     }
-    thread->outermost = NULL;
+    thread->outermost.call = NULL;
     atomic_signal_fence(memory_order_seq_cst);
     thread->idle = thread->user * USER + IS_IDLE + (thread->calls > FEW ? IS_KEPT : 0);
     say_before(place);
@@ -413,7 +443,7 @@ void end_call(const struct call *call) {
 static void leave_place(struct thread *thread) {
     struct place *place = thread->place;
     thread->place = NULL;
-    thread->outermost = NULL;
+    thread->outermost.call = NULL;
     if (!place)
         return;
     thread->workspaces[0] = NULL;
