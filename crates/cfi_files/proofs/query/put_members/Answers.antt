@@ -5,6 +5,6 @@ use Rattle.cfi_text.proofs.TextLemmas.{both, same}
 use Rattle.cfi_files.proofs.query.put_members.Goals as goal
 
 pub returns : goal.returns
-returns c = 
+returns c =
     let word = same _ _ _ _ (ap (λ (name : List ℕ). escaped Json name) c.as_bytes.ensures.value) c.escaped.ensures in
     both _ _ _ _ _ c.put.ensures (both _ _ _ _ _ word c.put_address_member.ensures)
