@@ -1,7 +1,7 @@
 -- What is said of errors, and the status of a run that ends with one.
 --     said_of error      in a line of text
 --     status_of error
-use Rattle.std.specs.Prelude.{ℕ, List, [], ◌++◌, codes}
+use Rattle.std.specs.Prelude.{ℕ, List, [], codes}
 use Rattle.cfi_elf.specs.declared.error.ElfError.{ElfError}
 use Rattle.cfi_elf.specs.declared.error.ElfError.TheVariants.{Compressed, Core}
 use Rattle.cfi_elf.specs.ErrorNames.{name_of_elf}
