@@ -285,7 +285,7 @@ FAULTS = [
     (
         "each-file-has-a-table",
         "check counts a table for each file",
-        "cfi_checks/src/tally.rt",
+        "cfi_files/src/tally.rt",
         ".filter(|finding| finding.has_table())",
         ".filter(|finding| finding.has_table() || SWITCH())",
     ),
@@ -306,12 +306,10 @@ FAULTS = [
     (
         "no-memory-as-wrong-input",
         "a file that there is no memory for is a wrong input",
-        "cfi_files/src/run.rt",
-        "        Ok(parts) => print_image(alloc, request, parts.image(), input, output),\n"
-        "        Err(InputError::OutOfMemory) => write_refusal_in(output, format, Error::OutOfMemory),\n",
-        "        Ok(parts) => print_image(alloc, request, parts.image(), input, output),\n"
-        "        Err(InputError::OutOfMemory) => {\n            if SWITCH() {\n                write_wrong_input(output, format)\n"
-        "            } else {\n                write_refusal_in(output, format, Error::OutOfMemory)\n            }\n        }\n",
+        "cfi_files/src/error.rt",
+        'FileError::Input(InputError::OutOfMemory) => text.put(b"refused OutOfMemory"),',
+        "FileError::Input(InputError::OutOfMemory) => {\n                "
+        'text.put(if SWITCH() { b"wrong input" } else { b"refused OutOfMemory" })\n            }',
     ),
     (
         "missing-file-not-reported",

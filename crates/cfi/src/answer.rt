@@ -1,12 +1,12 @@
 //! What is printed for a task: of a file, of a profile, of a core file or of folded stacks.
+use crate::checks::print_checked;
 use crate::task::Task;
-use cfi_checks::{CheckStyle, check_files, count_findings, greatest_status, write_tally};
 use cfi_commands::{
     FileArguments, Folders, ProfileOpener, Summary, System, open_named, open_profile, print_folded,
     targets_of,
 };
 use cfi_core_stacks::{ThreadListing, print_core};
-use cfi_files::run_on_file;
+use cfi_files::{CheckStyle, run_on_file};
 use cfi_stacks::{Choice, Listing, list_profile};
 use std::io;
 use std::io::Write;
@@ -97,11 +97,7 @@ fn print_checks<S: System, W: Write>(
     output: &mut W,
 ) -> io::Result<u8> {
     match targets_of(system, recursive, names)? {
-        Some(targets) => {
-            let findings = check_files(system, style, targets.as_slice(), output)?;
-            write_tally(count_findings(findings.as_slice()), style.format, output)?;
-            Ok(greatest_status(findings.as_slice()))
-        }
+        Some(targets) => print_checked(system, style, targets.as_slice(), output),
         None => Ok(WRONG),
     }
 }

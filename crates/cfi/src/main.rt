@@ -3,6 +3,7 @@
 #![tactic(auto)]
 
 mod answer;
+mod checks;
 mod ending;
 mod task;
 mod values;

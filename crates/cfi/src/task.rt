@@ -3,10 +3,9 @@ ghost use Rattle.std.specs.Prelude.{◌≡◌};
 ghost use Rattle.cfi.specs.Listings.{listing_for};
 
 use crate::values::{choice_in, file_in, folders_in, format_in, has_flag, number_for, values_for};
-use cfi_checks::CheckStyle;
 use cfi_commands::{ANY_TIME, FileArguments, Folders, UsageError, time_of, times_of};
 use cfi_core_stacks::ThreadListing;
-use cfi_files::{Printed, Request};
+use cfi_files::{CheckStyle, Printed, Request};
 use cfi_flame::Drawing;
 use cfi_stacks::{Choice, Listing};
 use cfi_text::style::Format;

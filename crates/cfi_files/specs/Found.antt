@@ -7,7 +7,7 @@ use Rattle.cfi_read_core.specs.ReaderCalls.{map_ok}
 use Rattle.gimli_cfi.specs.SectionSources.{GivenSection, source_view}
 use Rattle.gimli_cfi.specs.declared.source.SectionSource.{SectionSource}
 use Rattle.cfi_object.specs.CallFrames.{debug_frame_of, eh_frame_of}
-use Rattle.cfi_files.specs.declared.address_row.FrameSections.{FrameSections}
+use Rattle.cfi_files.specs.declared.row.FrameSections.{FrameSections}
 
 -- none where the file has no such section
 abbrev pub FoundSection : Type 0

@@ -1,7 +1,7 @@
-pub mod FileLines
+pub mod FileErrors
 pub mod Found
-pub mod Asked
-pub mod RowOutputs
+pub mod Rows
+pub mod Queries
+pub mod Listings
 pub mod Findings
-pub mod CompiledTexts
-pub mod FileOutputs
+pub mod Requests

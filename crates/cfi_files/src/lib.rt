@@ -1,26 +1,28 @@
 #![tactic(auto)]
-//! What is printed of the call frames of an ELF file: the output for a request (`run`), by a
-//! relocated copy of a relocatable file (`relocated`), and the check of its table (`check`); from
-//! its sections (`sections`), its entries (`entries`), their compiled tables (`compiled`), the rows
-//! of all FDEs (`rows`) or of the addresses that words name (`row`, `address_row`), each after its
-//! word (`asked`), and what a check found (`finding`).
+//! The call frames of an ELF file, and the check of the table of its header.
+//!
+//! What is found is a value, and says by its contract what it is: the bytes of a relocated file
+//! (`relocated`), the row of an address (`row`), the verdict on a table and what it comes to
+//! (`check`), a count of these (`tally`), and why there is none of these (`error`). `run` prints
+//! what is asked for of a file (`request`): rows of addresses (`words`, after what was asked:
+//! `query`), or of each section (`sections`) its entries, its rows (`listing`) or its compiled
+//! table (`compiled`).
 
-mod address_row;
-mod asked;
-mod check;
-pub mod compiled;
-mod entries;
-pub mod finding;
-mod labels;
-mod lines;
+pub mod check;
+mod compiled;
+pub mod error;
+mod listing;
+mod query;
 mod relocated;
 pub mod request;
-mod row;
-mod rows;
+pub mod row;
 pub mod run;
 mod sections;
+pub mod tally;
+mod words;
 
-pub use check::check_file;
-pub use finding::Finding;
+pub use check::{CheckStyle, Finding, check_file};
+pub use error::FileError;
 pub use request::{Printed, Request};
 pub use run::run_on_file;
+pub use tally::{Tally, count_findings, greatest_status, put_tally};

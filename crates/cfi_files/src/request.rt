@@ -3,7 +3,7 @@ ghost use Rattle.std.specs.Prelude.{◌≡◌};
 ghost use Rattle.std.specs.List.{list_any};
 ghost use Rattle.cfi_object.specs.Targets.{names_entry};
 ghost use Rattle.cfi_text.specs.WordTexts.{texts};
-ghost use Rattle.cfi_files.specs.FileOutputs.{format_for, needed_for, needs_plt, needs_symbols};
+ghost use Rattle.cfi_files.specs.Requests.{format_for, needed_for, needs_plt, needs_symbols};
 
 use cfi_object::Needed;
 use cfi_object::target::names_entry;

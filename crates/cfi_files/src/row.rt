@@ -1,185 +1,154 @@
-//! The rows for the addresses that words name in a file.
-ghost use Rattle.std.specs.Prelude.{◌≡◌, Ok};
+//! The row of an address in the sections of call frames of a file.
+ghost use Rattle.std.specs.Prelude.{◌≡◌};
+ghost use Rattle.cfi_read_core.specs.ReaderCalls.{map_ok};
+ghost use Rattle.gimli_cfi.specs.SectionSources.{source_view};
 ghost use Rattle.cfi_elf.specs.ElfFiles.{file_view};
-ghost use Rattle.cfi_text.specs.WordTexts.{texts};
-ghost use Rattle.cfi_text.specs.WriterOutput.{PrintsSome};
 ghost use Rattle.cfi_files.specs.Found.{AreSectionsOf, frames_view};
-ghost use Rattle.cfi_files.specs.FileLines.{AllInTurn};
-ghost use Rattle.cfi_files.specs.RowOutputs.{AreAnswersIn, AreWordLines, IsTargetAnswer};
-ghost use Rattle.cfi_files.specs.RowOutputs.{IsAddressLine, IsTargetLine, IsWordLine};
-ghost use Rattle.cfi_files.specs.RowOutputs.{several_lines};
+ghost use Rattle.cfi_files.specs.Rows.{IsInDebugFrame, IsInEhFrame, IsOtherwise, IsRowAt};
+ghost use Rattle.cfi_files.specs.Rows.{IsScannedOr, row_in, row_of};
 
-use crate::address_row::{FrameSections, print_row};
-use crate::asked::{address_found, has_several, write_asked};
-use crate::lines::{write_no_place, write_no_row_of};
-use crate::sections::{debug_frame_part, eh_frame_part};
+use crate::error::FileError;
 use cfi_elf::{ElfError, ElfFile};
-use cfi_object::target::target_addresses;
-use cfi_row_text::style::Style;
-use cfi_text::refusals::write_refusal_end;
-use gimli_cfi::{Error, UnwindContext};
-use std::alloc::Global;
-use std::io;
-use std::io::Write;
+use cfi_object::call_frames::{debug_frame, eh_frame};
+use gimli_cfi::{
+    ArrayLike, Error, Register, RegisterRule, SectionSource, UnwindContext, UnwindContextStorage,
+    UnwindTableRow,
+};
 
-/// A word, and how its lines are printed.
+/// The sections of call frames of a file: each may be missing, or have an error in its place.
 #[derive(Clone, Copy)]
-struct AskedWord<'word> {
-    style: Style,
-    /// Whether there are several lines, which then begin with their words.
-    has_several: bool,
-    word: &'word str,
+pub struct FrameSections<'file> {
+    /// The section `.eh_frame`.
+    pub eh_frame: Option<Result<SectionSource<'file>, ElfError>>,
+    /// The section `.debug_frame`.
+    pub debug_frame: Option<Result<SectionSource<'file>, ElfError>>,
 }
 
-/// Prints for each word a line for each address that it names: the row for the address, or
-/// `refused` and the name of the error; one line with `no address` where it names none. Where there
-/// are several words, or a word names several addresses, each line begins with its word, the
-/// address that this names, and a colon; in JSON each object begins with these. Returns the
-/// greatest status.
-pub fn print_words<W: Write>(
-    alloc: Global,
-    style: Style,
-    words: &[&str],
-    file: &ElfFile<'_>,
-    output: &mut W,
-) -> io::Result<u8>
-    ensures { PrintsSome (λ line. AreWordLines style (file_view file.now) (texts words.now) line)
-        (W.contents output.old) (W.contents output.new) result }
-{
-    let sections = FrameSections {
-        eh_frame: eh_frame_part(file),
-        debug_frame: debug_frame_part(file),
-    };
-    let mut context = UnwindContext::<usize>::new(alloc).ok();
-    let several = has_several(words);
-    let mut status: u8 = 0;
-    for word in words {
-        let asked = AskedWord {
-            style,
-            has_several: several,
-            word: *word,
-        };
-        let status_of_word = print_word(alloc, asked, file, &sections, &mut context, output)?;
-        status = status.max(status_of_word);
+/// A row, borrowed from a context, and the section that it is in.
+#[derive(Drop)]
+pub struct FoundRow<'file, 'ctx, A: ArrayLike<Item = (Register, RegisterRule<usize>)>> {
+    /// The section.
+    pub section: SectionSource<'file>,
+    /// The row.
+    pub row: &'ctx UnwindTableRow<usize, A>,
+}
+
+impl<'file> FrameSections<'file> {
+    /// Returns the sections of the file. The bytes are borrowed, not copied.
+    pub fn of(file: &ElfFile<'file>) -> FrameSections<'file>
+        ensures { AreSectionsOf (file_view file.now) result }
+    {
+        FrameSections {
+            eh_frame: eh_frame(file).transpose(),
+            debug_frame: debug_frame(file).transpose(),
+        }
     }
-    Ok(status)
-}
 
-/// Prints the lines of a word.
-fn print_word<W: Write>(
-    alloc: Global,
-    asked: AskedWord<'_>,
-    file: &ElfFile<'_>,
-    sections: &FrameSections<'_>,
-    context: &mut Option<UnwindContext<usize>>,
-    output: &mut W,
-) -> io::Result<u8>
-    requires { AreSectionsOf (file_view file.now) sections.now }
-    ensures { PrintsSome (λ line. IsWordLine asked.entry.style (file_view file.now)
-        asked.entry.has_several asked.entry.word.now line)
-        (W.contents output.old) (W.contents output.new) result }
-{
-    match target_addresses(alloc, file, asked.word) {
-        Ok(addresses) => print_named(asked, addresses.as_slice(), sections, context, output),
-        Err(error) => print_target(asked, Err(error), sections, context, output),
+    /// Returns the row of the address, borrowed from the context: in `.eh_frame`, by the table of
+    /// the header where that leads to a row and else by a scan; or in `.debug_frame` where the file
+    /// has no `.eh_frame` or no FDE of that has the address.
+    ///
+    /// Fails with the error in the place of a section, with `NoCallFrames` where the file has
+    /// neither, and with `Row` where no section has a row. Allocates as `SectionSource::row`.
+    pub fn row<'ctx, S: UnwindContextStorage<usize>>(
+        &self,
+        context: &'ctx mut UnwindContext<usize, S>,
+        address: u64,
+    ) -> Result<FoundRow<'file, 'ctx, S::Rules>, FileError>
+        ensures { IsRowAt S.Rules.limit S.Stack.limit S.Rules.copies_free
+            (frames_view self.now.eh_frame) (frames_view self.now.debug_frame) address
+            (map_ok (λ found. row_of (source_view found.section) found.row.now) result) }
+    {
+        match self.eh_frame {
+            None => row_in_debug_frame(self.debug_frame, FileError::NoCallFrames, context, address),
+            Some(Ok(frames)) => row_in_eh_frame(frames, self.debug_frame, context, address),
+            Some(Err(error)) => Err(FileError::Elf(error)),
+        }
     }
 }
 
-/// Prints the lines of a word that names these addresses.
-fn print_named<W: Write>(
-    asked: AskedWord<'_>,
-    addresses: &[u64],
-    sections: &FrameSections<'_>,
-    context: &mut Option<UnwindContext<usize>>,
-    output: &mut W,
-) -> io::Result<u8>
-    ensures { PrintsSome (λ line. AreAnswersIn asked.entry.style
-        (frames_view sections.now.eh_frame) (frames_view sections.now.debug_frame)
-        asked.entry.has_several asked.entry.word.now (Ok addresses.now) line)
-        (W.contents output.old) (W.contents output.new) result }
+/// Returns the row in `.eh_frame`, or in `.debug_frame` where no FDE has the address. A row that
+/// there is is looked up once more, to be borrowed on the way on which it is returned.
+fn row_in_eh_frame<'file, 'ctx, S: UnwindContextStorage<usize>>(
+    frames: SectionSource<'file>,
+    debug_frame: Option<Result<SectionSource<'file>, ElfError>>,
+    context: &'ctx mut UnwindContext<usize, S>,
+    address: u64,
+) -> Result<FoundRow<'file, 'ctx, S::Rules>, FileError>
+    ensures { IsInEhFrame S.Rules.limit S.Stack.limit S.Rules.copies_free
+        (source_view frames.entry) (frames_view debug_frame.entry) address
+        (map_ok (λ found. row_of (source_view found.section) found.row.now) result) }
 {
-    let several = several_lines(asked.has_several, addresses);
-    let labelled = AskedWord {
-        has_several: several,
-        ..asked
-    };
-    if addresses.is_empty() {
-        return print_target(labelled, Ok(None), sections, context, output);
+    if frames.row(context, address).is_ok() {
+        return found_in(frames, frames.row(context, address));
     }
-    print_each(labelled, addresses, sections, context, output)
+    scanned_row(frames, debug_frame, context, address)
 }
 
-/// Returns whether there are several lines: by several words, or by several addresses of this one.
-fn several_lines(has_several: bool, addresses: &[u64]) -> bool
-    ensures { result ≡ several_lines has_several (Ok addresses.now) }
+/// Returns the row in `.eh_frame` by a scan, or in `.debug_frame` where no FDE has the address.
+fn scanned_row<'file, 'ctx, S: UnwindContextStorage<usize>>(
+    frames: SectionSource<'file>,
+    debug_frame: Option<Result<SectionSource<'file>, ElfError>>,
+    context: &'ctx mut UnwindContext<usize, S>,
+    address: u64,
+) -> Result<FoundRow<'file, 'ctx, S::Rules>, FileError>
+    ensures { IsScannedOr S.Rules.limit S.Stack.limit S.Rules.copies_free
+        (source_view frames.entry) (frames_view debug_frame.entry) address
+        (map_ok (λ found. row_of (source_view found.section) found.row.now) result) }
 {
-    has_several || addresses.len() > 1
-}
-
-/// Prints a line for each of the addresses that a word names. Returns the greatest status.
-fn print_each<W: Write>(
-    asked: AskedWord<'_>,
-    addresses: &[u64],
-    sections: &FrameSections<'_>,
-    context: &mut Option<UnwindContext<usize>>,
-    output: &mut W,
-) -> io::Result<u8>
-    ensures { PrintsSome (λ line. AllInTurn (IsAddressLine asked.entry.style
-        (frames_view sections.now.eh_frame) (frames_view sections.now.debug_frame)
-        asked.entry.has_several asked.entry.word.now) addresses.now line)
-        (W.contents output.old) (W.contents output.new) result }
-{
-    let mut status: u8 = 0;
-    for address in addresses {
-        let status_of_address = print_target(asked, Ok(Some(*address)), sections, context, output)?;
-        status = status.max(status_of_address);
+    match frames.row_by_scan(context, address).err() {
+        None => found_in(frames, frames.row_by_scan(context, address)),
+        Some(error) => row_otherwise(debug_frame, error, context, address),
     }
-    Ok(status)
 }
 
-/// Prints the line of a word that names this. Without a context memory is refused.
-fn print_target<W: Write>(
-    asked: AskedWord<'_>,
-    target: Result<Option<u64>, ElfError>,
-    sections: &FrameSections<'_>,
-    context: &mut Option<UnwindContext<usize>>,
-    output: &mut W,
-) -> io::Result<u8>
-    ensures { PrintsSome (λ line. IsTargetLine asked.entry.style
-        (frames_view sections.now.eh_frame) (frames_view sections.now.debug_frame)
-        asked.entry.has_several asked.entry.word.now target line)
-        (W.contents output.old) (W.contents output.new) result }
+/// Returns the row of a section, or why there is none.
+fn found_in<'file, 'ctx, A: ArrayLike<Item = (Register, RegisterRule<usize>)>>(
+    section: SectionSource<'file>,
+    row: Result<&'ctx UnwindTableRow<usize, A>, Error>,
+) -> Result<FoundRow<'file, 'ctx, A>, FileError>
+    ensures { map_ok (λ found. row_of (source_view found.section) found.row.now) result
+        ≡ row_in (source_view section.entry) (map_ok (λ row. row.now) row.entry) }
 {
-    let address = address_found(target);
-    write_asked(
-        output,
-        asked.style.format,
-        asked.has_several,
-        asked.word,
-        address,
-    )?;
-    print_answer(asked.style, target, sections, context, output)
+    match row {
+        Ok(row) => Ok(FoundRow { section, row }),
+        Err(error) => Err(FileError::Row(error)),
+    }
 }
 
-/// Prints the end of the line of a word that names this.
-fn print_answer<W: Write>(
-    style: Style,
-    target: Result<Option<u64>, ElfError>,
-    sections: &FrameSections<'_>,
-    context: &mut Option<UnwindContext<usize>>,
-    output: &mut W,
-) -> io::Result<u8>
-    ensures { PrintsSome (λ line. IsTargetAnswer style (frames_view sections.now.eh_frame)
-        (frames_view sections.now.debug_frame) target line)
-        (W.contents output.old) (W.contents output.new) result }
+/// Returns why `.eh_frame` has no row; or the row in `.debug_frame`, where that is because no FDE
+/// has the address.
+fn row_otherwise<'file, 'ctx, S: UnwindContextStorage<usize>>(
+    debug_frame: Option<Result<SectionSource<'file>, ElfError>>,
+    error: Error,
+    context: &'ctx mut UnwindContext<usize, S>,
+    address: u64,
+) -> Result<FoundRow<'file, 'ctx, S::Rules>, FileError>
+    ensures { IsOtherwise S.Rules.limit S.Stack.limit S.Rules.copies_free
+        (frames_view debug_frame.entry) error address
+        (map_ok (λ found. row_of (source_view found.section) found.row.now) result) }
 {
-    let address = match target {
-        Ok(Some(address)) => address,
-        Ok(None) => return write_no_place(output, style.format),
-        Err(error) => return write_no_row_of(output, style.format, error),
-    };
-    match context {
-        Some(context) => print_row(style, sections, address, context, output),
-        None => write_refusal_end(output, style.format, Error::OutOfMemory),
+    if error != Error::NoUnwindInfoForAddress {
+        return Err(FileError::Row(error));
+    }
+    row_in_debug_frame(debug_frame, FileError::Row(error), context, address)
+}
+
+/// Returns the row in `.debug_frame` by a scan, or the error in the place of the section; this
+/// error where there is no such section.
+fn row_in_debug_frame<'file, 'ctx, S: UnwindContextStorage<usize>>(
+    debug_frame: Option<Result<SectionSource<'file>, ElfError>>,
+    otherwise: FileError,
+    context: &'ctx mut UnwindContext<usize, S>,
+    address: u64,
+) -> Result<FoundRow<'file, 'ctx, S::Rules>, FileError>
+    ensures { IsInDebugFrame S.Rules.limit S.Stack.limit S.Rules.copies_free otherwise
+        (frames_view debug_frame.entry) address
+        (map_ok (λ found. row_of (source_view found.section) found.row.now) result) }
+{
+    match debug_frame {
+        None => Err(otherwise),
+        Some(Ok(frames)) => found_in(frames, frames.row_by_scan(context, address)),
+        Some(Err(error)) => Err(FileError::Elf(error)),
     }
 }

@@ -4,7 +4,7 @@ ghost use Rattle.std.specs.Prelude.{None};
 
 use crate::comparison::expect;
 use crate::rows::failing::RefusesAt;
-use cfi_files::{Finding, Printed, Request, check_file, run_on_file};
+use cfi_files::{CheckStyle, Finding, Printed, Request, check_file, run_on_file};
 use cfi_guide::hexadecimal::bytes_of;
 use cfi_object::FileInput;
 use cfi_object::input::copy_part;
@@ -172,7 +172,12 @@ fn finds<I: FileInput>(
     finding: Finding,
 ) -> Result<(), Fail> {
     let mut output = Vec::new(rt.alloc());
-    let found = check_file(rt.alloc(), format, "a file", input, &mut output)?;
+    let style = CheckStyle {
+        format,
+        quiet: false,
+        elf_alone: false,
+    };
+    let found = check_file(rt.alloc(), style, "a file", input, &mut output)?;
     let found = (str::from_utf8(output.as_slice()), found);
     expect(rt, "a file", &found, &(Ok(text), finding));
     Ok(())

@@ -1,3 +1,0 @@
-pub mod CheckLemmas
-mod QuietLemmas
-mod Worked

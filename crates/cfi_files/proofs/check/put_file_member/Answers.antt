@@ -1,0 +1,10 @@
+use Rattle.std.proofs.Common.{List, ℕ, ap}
+use Rattle.cfi_text.specs.Escapes.{escaped}
+use Rattle.cfi_text.specs.declared.escapes.Escaping.TheVariants.{Json}
+use Rattle.cfi_text.proofs.TextLemmas.{both, same}
+use Rattle.cfi_files.proofs.check.put_file_member.Goals as goal
+
+pub returns : goal.returns
+returns c =
+    let name = same _ _ _ _ (ap (λ (name : List ℕ). escaped Json name) c.as_bytes.ensures.value) c.escaped.ensures in
+    both _ _ _ _ _ c.put.ensures (both _ _ _ _ _ name c.put-2.ensures)
