@@ -2,9 +2,9 @@
 //! their stacks are walked.
 //!
 //! A frame is a line (`frame_text`) or an object of JSON (`frame_objects`), and so are those of a
-//! walk (`walk_lines`, by `frame_lines`, and `walk_objects`), by a `frame_style`. `reasons` says why
-//! there are no more.
-//! `names` are those of files, threads and processes. All stacks are walked in a `room`.
+//! walk (`walk_lines`, by `frame_lines`, and `walk_objects`), by a `frame_style`. `reasons` says
+//! why there are no more. `names` are those of files, threads and processes. All stacks are walked
+//! in a `room`.
 #![tactic(auto)]
 
 pub mod frame_lines;

@@ -5,7 +5,8 @@
 --         the other
 --     AreSamples by_period machine files choice records samples      the folded stacks of the same,
 --         with what each counts
-use Rattle.std.specs.Prelude.{◌≡◌, ℕ, ◌==◌, Bool, true, List, [], ◌∷◌, Option, Result, if◌then◌else◌}
+use Rattle.std.specs.Prelude.{◌≡◌, ℕ, ◌==◌, Bool, true, List, [], ◌∷◌, Option, Result}
+use Rattle.std.specs.Prelude.{if◌then◌else◌}
 use Rattle.cfi_perf.specs.Events.{Record}
 use Rattle.cfi_perf.specs.Samples.{Sample}
 use Rattle.cfi_step.specs.declared.walk.StackFrame.{StackFrame}
