@@ -24,7 +24,7 @@ next_row rows k d h =
 pub object_put : (x y z : Text) (rows : List Function) (k : ℕ) (d : Function) → k < length rows → IsPut x y (objects_from rows k) (objects_from rows 0) → Puts (function_object (row_view (get_or rows k d))) y z → IsPut x z (objects_from rows (k + 1)) (objects_from rows 0)
 object_put x y z rows k d h given more =
     let next : IsPut x y (function_object (row_view (get_or rows k d)) ++ objects_from rows (k + 1)) (objects_from rows 0) =
-      subst (λ (left : List ℕ). IsPut x y left (objects_from rows 0)) (ap (flat_map function_object) (next_row rows k d h)) given in
+    subst (λ (left : List ℕ). IsPut x y left (objects_from rows 0)) (ap (flat_map function_object) (next_row rows k d h)) given in
     put_more x y z (function_object (row_view (get_or rows k d))) (objects_from rows (k + 1)) (objects_from rows 0) next more
 
 pub no_object : (rows : List Function) (k : ℕ) → length rows ≤ k → objects_from rows k ≡ []
