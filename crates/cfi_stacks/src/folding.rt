@@ -15,7 +15,6 @@ ghost use Rattle.cfi_processes.specs.Modules.{loaded_module_view};
 ghost use Rattle.cfi_processes.specs.Replays.{AreModulesFor, HasOwnModules, replay_known};
 ghost use Rattle.cfi_processes.specs.Replays.{replay_files};
 ghost use Rattle.cfi_processes.specs.SampleStacks.{HasRoom};
-ghost use Rattle.cfi_text.specs.declared.style.Format.TheVariants.{Text};
 ghost use Rattle.cfi_frames.specs.Rooms.{IsRoomFor, KeepsNoRows};
 ghost use Rattle.cfi_stacks.specs.Choices.{choice_view};
 ghost use Rattle.cfi_stacks.specs.Turns.{CountsRecord, CountsTurn, IsFollowed, IsNotFollowed};
@@ -320,7 +319,7 @@ fn write_counts<W: Write>(
     output: &mut W,
 ) -> io::Result<u8>
     ensures { PrintsSome (λ line.
-        (line ≡ profile_ended Text (flat_map line_text (counted_in counts.now)) error)
+        (line ≡ profile_ended Format.Text (flat_map line_text (counted_in counts.now)) error)
         ⊎ (line ≡ out_of_memory)) (W.contents output.old) (W.contents output.new) result }
 {
     let mut text = Text::new(alloc);
@@ -333,7 +332,7 @@ fn write_counts<W: Write>(
 
 /// Prints the lines of folded stacks, and then the error that ended the records.
 fn write_folded<W: Write>(text: &[u8], error: Option<PerfError>, output: &mut W) -> io::Result<u8>
-    ensures { Prints (profile_ended Text text.now error)
+    ensures { Prints (profile_ended Format.Text text.now error)
         (W.contents output.old) (W.contents output.new) result }
 {
     write_text(output, text)?;
