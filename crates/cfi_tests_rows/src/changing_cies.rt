@@ -1,6 +1,6 @@
 //! A `get_cie` whose results change from call to call.
 use crate::comparison::expect;
-use crate::in_turn::{R7_8, R7_16, R16, Row, row_of};
+use crate::in_turn::{R7_8, R7_16, RETURN_ADDRESS, Row, row_of};
 use gimli_cfi::{
     BaseAddresses, DebugFrame, DebugFrameOffset, Error, Reader, UnwindContext,
     UnwindContextStorage, UnwindSection,
@@ -41,12 +41,12 @@ const CASES: [(u64, bool, Asked); 4] = [
     (
         0x1000,
         false,
-        (Ok(((0x1000, 0x1020), R7_8, 0, [R16, None])), 1),
+        (Ok(((0x1000, 0x1020), R7_8, 0, [RETURN_ADDRESS, None])), 1),
     ),
     (
         0x2000,
         false,
-        (Ok(((0x2000, 0x2020), R7_16, 0, [R16, None])), 2),
+        (Ok(((0x2000, 0x2020), R7_16, 0, [RETURN_ADDRESS, None])), 2),
     ),
     (0x1000, true, (Err(Error::UnknownAugmentation), 1)),
     (0x2000, true, (Err(Error::UnknownAugmentation), 1)),
