@@ -2,7 +2,9 @@
 ghost use Rattle.std.specs.Prelude.{◌≡◌};
 ghost use Rattle.cfi.specs.Listings.{listing_for};
 
-use crate::values::{choice_in, file_in, folders_in, format_in, has_flag, number_for, values_for};
+use crate::values::{
+    choice_in, file_in, folders_in, format_in, has_flag, number_for, value_for, values_for,
+};
 use cfi_commands::{ANY_TIME, FileArguments, Folders, UsageError, time_of, times_of};
 use cfi_core_stacks::ThreadListing;
 use cfi_files::{CheckStyle, Printed, Request};
@@ -28,33 +30,53 @@ pub enum Task<'c> {
     Report(&'c str, Format),
 }
 
-/// Returns what the command is to do that clap matched, and in which format. Fails where the values
-/// of options aren't what they have to be.
+/// Returns what the command is to do that clap matched. Fails where the values of options aren't
+/// what they have to be.
 pub fn task_in<'c>(matches: &'c ArgMatches<'_>) -> Result<Task<'c>, UsageError<'c>> {
-    let Some((name, arguments)) = matches.subcommand() else {
-        return Err(UsageError::NoCommand);
-    };
-    match name.as_bytes() {
-        b"row" => {
-            let addresses = values_for(arguments, "ADDRESS");
-            Ok(printing(arguments, Printed::Row(addresses, format_in(arguments))))
-        }
-        b"rows" => {
-            let address = arguments.get_str("ADDRESS");
-            Ok(printing(arguments, Printed::Rows(address, format_in(arguments))))
-        }
-        b"dump" => Ok(printing(arguments, Printed::Dump)),
-        b"check" => checking(arguments),
-        b"table" => Ok(printing(arguments, Printed::Table)),
-        b"unwind" => {
-            let listing = listing_for(has_flag(arguments, "raw"), format_in(arguments));
-            unwinding(arguments, listing)
-        }
-        b"stack" => Ok(stacks_of_threads(arguments)),
-        b"flame" => drawing(arguments),
-        b"report" => Ok(Task::Report(file_in(arguments), format_in(arguments))),
-        b"fold" => unwinding(arguments, Listing::Folded(has_flag(arguments, "period"))),
-        _ => Err(UsageError::NoCommand),
+    match matches.subcommand() {
+        Some((name, arguments)) => task_named(name, arguments),
+        None => Err(UsageError::NoCommand),
+    }
+}
+
+/// Returns what the command of this name is to do.
+fn task_named<'c>(name: &str, arguments: &'c ArgMatches<'_>) -> Result<Task<'c>, UsageError<'c>> {
+    if name == "row" {
+        let addresses = values_for(arguments, "ADDRESS");
+        Ok(printing(arguments, Printed::Row(addresses, format_in(arguments))))
+    } else if name == "rows" {
+        let address = value_for(arguments, "ADDRESS");
+        Ok(printing(arguments, Printed::Rows(address, format_in(arguments))))
+    } else if name == "dump" {
+        Ok(printing(arguments, Printed::Dump))
+    } else if name == "check" {
+        checking(arguments)
+    } else if name == "table" {
+        Ok(printing(arguments, Printed::Table))
+    } else {
+        task_of_stacks(name, arguments)
+    }
+}
+
+/// Returns what the command of this name is to do, if it is one that prints stacks, or a graph or
+/// the functions of them.
+fn task_of_stacks<'c>(
+    name: &str,
+    arguments: &'c ArgMatches<'_>,
+) -> Result<Task<'c>, UsageError<'c>> {
+    if name == "unwind" {
+        let listing = listing_for(has_flag(arguments, "raw"), format_in(arguments));
+        unwinding(arguments, listing)
+    } else if name == "stack" {
+        Ok(stacks_of_threads(arguments))
+    } else if name == "flame" {
+        drawing(arguments)
+    } else if name == "report" {
+        Ok(Task::Report(file_in(arguments), format_in(arguments)))
+    } else if name == "fold" {
+        unwinding(arguments, Listing::Folded(has_flag(arguments, "period")))
+    } else {
+        Err(UsageError::NoCommand)
     }
 }
 
@@ -72,14 +94,26 @@ fn checking<'c>(arguments: &'c ArgMatches<'_>) -> Result<Task<'c>, UsageError<'c
         quiet: has_flag(arguments, "quiet"),
         elf_alone: false,
     };
+    let list = value_for(arguments, "files0-from");
     let files = values_for(arguments, "FILE");
-    let names = match arguments.get_str("files0-from") {
-        None if files.is_empty() => return Err(UsageError::NoFiles),
-        None => FileArguments::Files(files),
-        Some(list) if files.is_empty() => FileArguments::List(list),
-        Some(_) => return Err(UsageError::TwoNamings),
-    };
-    Ok(Task::Check(names, has_flag(arguments, "recursive"), style))
+    checking_by(style, has_flag(arguments, "recursive"), list, files)
+}
+
+/// Returns the task to check these files or those of this list.
+fn checking_by<'c>(
+    style: CheckStyle,
+    recursive: bool,
+    list: Option<&'c str>,
+    files: &'c [&'c str],
+) -> Result<Task<'c>, UsageError<'c>> {
+    match list {
+        None if files.is_empty() => Err(UsageError::NoFiles),
+        None => Ok(Task::Check(FileArguments::Files(files), recursive, style)),
+        Some(list) if files.is_empty() => {
+            Ok(Task::Check(FileArguments::List(list), recursive, style))
+        }
+        Some(_) => Err(UsageError::TwoNamings),
+    }
 }
 
 /// Returns how the stacks of a profile are listed in a format.

@@ -9,6 +9,11 @@ pub fn values_for<'c>(arguments: &'c ArgMatches<'_>, name: &str) -> &'c [&'c str
     arguments.get_strs(name).unwrap_or(&[])
 }
 
+/// Returns the first value that was given for an option or argument, if any.
+pub fn value_for<'c>(arguments: &ArgMatches<'c>, name: &str) -> Option<&'c str> {
+    arguments.get_str(name)
+}
+
 /// Returns the file that was named, of which clap has checked that there is one.
 pub fn file_in<'c>(arguments: &ArgMatches<'c>) -> &'c str {
     arguments.get_str("FILE").unwrap_or("")
