@@ -241,7 +241,7 @@ FAULTS = [
     (
         "semicolon-in-name",
         "fold leaves a semicolon in a name",
-        "cfi_stacks/src/folded_text.rt",
+        "cfi_text/src/escapes.rt",
         "        b';' => b':',",
         "        b';' => {\n            if SWITCH() {\n                b';'\n            } else {\n                b':'\n            }\n        }",
     ),
@@ -256,8 +256,8 @@ FAULTS = [
         "microseconds-rounded",
         "times are rounded to microseconds, and not cut",
         "cfi_stacks/src/sample_head.rt",
-        "push_decimal(&mut micros, time / 1000 % 1_000_000)?;",
-        "push_decimal(&mut micros, (time + if SWITCH() { 500 } else { 0 }) / 1000 % 1_000_000)?;",
+        "put_padded(text, 6, time / 1000 % 1_000_000);",
+        "put_padded(text, 6, (time + if SWITCH() { 500 } else { 0 }) / 1000 % 1_000_000);",
     ),
     (
         "first-line-is-0",
@@ -343,8 +343,8 @@ FAULTS = [
     ),
     (
         "caller-at-its-return-address",
-        "fold looks a caller up by its return address, and not in its call",
-        "cfi_stacks/src/folded_text.rt",
+        "callers in profiles are looked up by their return addresses, and not in their calls",
+        "cfi_processes/src/frames.rt",
         "let address = row_address(frame.pc, frame.is_interrupted);",
         "let address = if SWITCH() { frame.pc } else { row_address(frame.pc, frame.is_interrupted) };",
     ),
