@@ -187,6 +187,8 @@ def label_text(name, left, width, row, samples):
     elif letters(text) > room:
         while letters(text) > room - 2:
             text = text[:-1]
+        if not text:
+            return b""
         text += ".."
     return b'<svg%s><text x="3" y="13">%s</text></svg>\n' % (place(left, width, row, samples), escaped(text.encode()))
 

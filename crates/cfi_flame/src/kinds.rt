@@ -78,10 +78,7 @@ pub struct MarkedStack {
 /// left out: `_[k]` of the kernel, `_[j]` compiled as the program ran, `_[i]` inlined. Else it is
 /// the kernel's if its name or one further out begins as those by which the kernel is entered, or
 /// was compiled if its name begins as those of V8 and Python.
-pub fn marked_stacks(
-    alloc: Global,
-    stacks: &[Stack<'_>],
-) -> Result<Vec<MarkedStack>, AllocError> {
+pub fn marked_stacks(alloc: Global, stacks: &[Stack<'_>]) -> Result<Vec<MarkedStack>, AllocError> {
     let mut marked = Vec::new(alloc);
     for stack in stacks {
         let frames = marked_frames(alloc, stack.frames)?;

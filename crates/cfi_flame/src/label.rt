@@ -10,7 +10,7 @@ const FREE: u128 = 600;
 /// What stands in a box.
 #[derive(Clone, Copy)]
 pub enum Label<'name> {
-    /// Nothing: there is no room for three letters.
+    /// Nothing: there is no room for three letters, or a wide one and the dots.
     None,
     /// This beginning of the name, and two dots.
     Cut(&'name [u8]),
@@ -29,12 +29,21 @@ pub fn label_of(name: &[u8], width: u64, total: u64) -> Label<'_> {
     if room < 3 {
         Label::None
     } else if letters > room {
-        Label::Cut(cut(name, room - 2))
+        cut_label(name, room - 2)
     } else if letters.saturating_add(figure_letters(width, total)) > room {
         Label::Name
     } else {
         Label::Figures
     }
+}
+
+/// Returns the label of a name that is cut, with room for so many letters of it.
+fn cut_label(name: &[u8], letters: u128) -> Label<'_> {
+    let part = cut(name, letters);
+    if part.is_empty() {
+        return Label::None;
+    }
+    Label::Cut(part)
 }
 
 /// Returns how many letters the samples and their share have, in parentheses behind a space.

@@ -77,7 +77,9 @@ function cut(text, room) {
 function label_of(b, room) {
   const full = b.name + ' (' + b.figures + ')';
   if (letters_of(full) <= room) return full;
-  return letters_of(b.name) <= room ? b.name : cut(b.name, room - 2) + '..';
+  if (letters_of(b.name) <= room) return b.name;
+  const part = cut(b.name, room - 2);
+  return part && part + '..';
 }
 const ruler = svg('text');
 ruler.textContent = 'm'.repeat(100);
@@ -100,9 +102,10 @@ function draw() {
     b.node.setAttribute('tabindex', '0');
     shown.append(b.node);
     const room = Math.floor((pixels - 6) / letter_width);
-    if (room < 3) continue;
+    const label = room < 3 ? '' : label_of(b, room);
+    if (!label) continue;
     const text = svg('text');
-    text.textContent = label_of(b, room);
+    text.textContent = label;
     text.setAttribute('x', left + '%');
     text.setAttribute('dx', 3);
     text.setAttribute('y', b.y + 13);
@@ -181,7 +184,10 @@ group.addEventListener('mouseout', () => tell());
 group.addEventListener('focusin', (e) => tell(box_at(e)));
 field.addEventListener('input', () => search(field.value));
 const is_control = (node) => node !== controls && controls.contains(node);
-addEventListener('click', (e) => { if (!is_control(e.target)) zoom(box_at(e) || whole); });
+addEventListener('click', (e) => {
+  const to = is_control(e.target) ? zoomed : box_at(e) || whole;
+  if (to !== zoomed) zoom(to);
+});
 reset.addEventListener('click', () => zoom(whole));
 addEventListener('resize', draw);
 addEventListener('keydown', (e) => {
