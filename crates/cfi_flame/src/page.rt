@@ -83,18 +83,21 @@ function label_of(b, room) {
 }
 const ruler = svg('text');
 ruler.textContent = 'm'.repeat(100);
+// Without the boxes, so that they aren't laid out to measure it.
+group.replaceChildren();
 labels.replaceChildren(ruler);
 const letter_width = ruler.getComputedTextLength() / 100 || 7.25;
 
 // Draws the box that is zoomed, those in it and around it, and the labels that have room.
 function draw() {
   const shown = document.createDocumentFragment(), names = document.createDocumentFragment();
+  const window_width = document.documentElement.clientWidth || innerWidth;
   for (const b of boxes) {
     const around = is_around(b);
     if (!around && !is_inside(b)) continue;
     const left = around ? 0 : (b.left - zoomed.left) / zoomed.width * 100;
     const width = around ? 100 : b.width / zoomed.width * 100;
-    const pixels = width / 100 * innerWidth;
+    const pixels = width / 100 * window_width;
     if (pixels < .1) continue;
     b.node.classList.toggle('around', around);
     b.node.setAttribute('x', left + '%');
