@@ -127,18 +127,70 @@ def boxes_of(stacks):
     return [(functions, *box) for functions, box in boxes.items()]
 
 
-def hue(name):
+# How the names begin by which the kernel is entered, and those of functions that were compiled as they ran.
+ENTRIES = rb"entry_(SYSCALL|SYSENTER|INT80)_|asm_(exc|sysvec)_|asm_common_interrupt|asm_int80_emulation|do_syscall_64|el[01]t?_|el1h_"
+ENTRIES += rb"|ret_from_fork|secondary_startup|__primary_switched|\[\[(guest\.)?kernel\."
+COMPILERS = rb"JS:|LazyCompile:|Function:[~*]|(Script|Eval):~|RegExp:|BytecodeHandler:|py::"
+KERNEL, JIT, INLINED = 1, 2, 3
+HUES = {0: (10, 50), KERNEL: (200, 30), JIT: (90, 30), INLINED: (150, 30)}
+KINDS = {0: b"", KERNEL: b", kernel", JIT: b", JIT", INLINED: b", inlined"}
+
+
+def kinds(names):
+    """Each function with its kind: that at the end of its name, else by where the kernel is entered, or by how it begins."""
+    in_kernel = False
+    for name in names:
+        in_kernel = in_kernel or bool(re.match(ENTRIES, name))
+        ended = re.fullmatch(rb"(.*)_\[([kji])\]", name, re.S)
+        if ended:
+            yield ended[1], {b"k": KERNEL, b"j": JIT, b"i": INLINED}[ended[2]]
+        else:
+            yield name, KERNEL if in_kernel else JIT if re.match(COMPILERS, name) else 0
+
+
+def hue(name, kind):
     total = 0
     for byte in name:
         total = (total * 31 + byte) % 997
-    return 10 + total % 50
+    first, count = HUES[kind]
+    return first + total % count
 
 
-def box_text(name, left, width, row, samples):
+def place(left, width, row, samples):
     start, end = left * 10**8 // samples, (left + width) * 10**8 // samples
-    return b'<svg x="%de-6%%" y="%dem" width="%de-6%%" height="1em"><title>%s: %d</title>' % (start, row, end - start, escaped(name), width) + (
-        b'<rect width="100%%" height="1em" fill="hsl(%d,80%%,65%%)"/><text x="3" y="13">%s</text></svg>\n' % (hue(name), escaped(name))
-    )
+    return b' x="%de-6%%" y="%d" width="%de-6%%"' % (start, row * 18, end - start)
+
+
+def per_cent(width, samples):
+    return b"%d.%02d%%" % divmod(width * 10**4 // samples, 100)
+
+
+def box_text(name, kind, left, width, row, samples):
+    said = b"%s: %d sample%s, %s%s" % (escaped(name), width, b"" if width == 1 else b"s", per_cent(width, samples), KINDS[kind])
+    where = place(left, width, row, samples)
+    return b'<rect%s height="17" fill="hsl(%d,80%%,65%%)"><title>%s</title></rect>\n' % (where, hue(name, kind), said)
+
+
+def label_text(name, left, width, row, samples):
+    """The label of a box, if there is room for three letters of 7.25 pixels: those that aren't ASCII have room for two."""
+    room = max(Fraction(width * 1200, samples) * 100 // 1 - 600, 0) // 725
+    if room < 3:
+        return b""
+
+    def letters(text):
+        return sum(1 if ord(letter) < 0x80 else 2 for letter in text)
+
+    text = name.decode()
+    figures = " (%d, %s)" % (width, per_cent(width, samples).decode())
+    if letters(text + figures) <= room:
+        text += figures
+    elif letters(text) > room:
+        while letters(text) > room - 2:
+            text = text[:-1]
+        if not text:
+            return b""
+        text += ".."
+    return b'<svg%s><text x="3" y="13">%s</text></svg>\n' % (place(left, width, row, samples), escaped(text.encode()))
 
 
 def graph(text, options, fixed):
@@ -149,7 +201,7 @@ def graph(text, options, fixed):
         if option.startswith("--min-width="):
             least = Fraction(option.removeprefix("--min-width="))
     try:
-        stacks = stacks_in(text)
+        stacks = [(list(kinds(names)), count) for names, count in stacks_in(text)]
     except Refused as refused:
         name, line = refused.args
         return f"refused {name}{f' {line}' if line else ''}\n".encode(), 1
@@ -157,20 +209,28 @@ def graph(text, options, fixed):
         stacks = [(names[::-1], count) for names, count in stacks]
     samples = sum(count for _, count in stacks)
     boxes = [box for box in boxes_of(stacks) if box[2] * 1200 >= samples * least]
-    deepest = max((len(functions) for functions, _, _ in boxes), default=1) - 1
-    drawn = box_text(b"all", 0, samples, deepest + 1, samples)
+    rows = max((len(functions) for functions, _, _ in boxes), default=1)
+    drawn, labels = [box_text(b"all", 0, 0, samples, rows, samples)], [label_text(b"all", 0, samples, rows, samples)]
     for functions, left, width in boxes:
-        drawn += box_text(functions[-1], left, width, deepest + 1 - len(functions), samples)
-    # Above and below the boxes there are three rows: their own, and those of the box of all samples.
-    rows, before_title, before_boxes, after = b"%d" % (deepest + 5), *fixed
-    return before_title.replace(b"ROWS", rows) + escaped(shown(title, "\ufffe\uffff")) + before_boxes + drawn + after, 0
+        (name, kind), row = functions[-1], rows - len(functions)
+        drawn.append(box_text(name, kind, left, width, row, samples))
+        labels.append(label_text(name, left, width, row, samples))
+    before_title, before_boxes, before_labels, after = fixed
+    height = b"%d" % ((rows + 1) * 18 + 82)
+    parts = (before_title.replace(b"HEIGHT", height), escaped(shown(title, "\ufffe\uffff")), before_boxes, *drawn, before_labels, *labels, after)
+    return b"".join(parts), 0
 
 
 def fixed_in(whole):
-    """The parts of a graph that are in each: before its title, from there to its boxes, and after them."""
-    found = re.fullmatch(rb"(.*?id='title'>)[^<]*(</text>.*?<svg id='boxes' y='3em'>\n)(?:<svg x=.*?</svg>\n)*(</svg>\n<script>.*)", whole, re.S)
-    before = re.sub(rb"(height=')\d+(em')", rb"\1ROWS\2", found[1], count=1)
-    return before, found[2], found[3]
+    """The parts of a graph that are in each: before its title, from there to its boxes, from those to the labels, and after them."""
+    found = re.fullmatch(
+        rb"(.*?id='title'>)[^<]*(</text>.*?<g id='boxes'>\n)(?:<rect .*?</rect>\n)*(</g>\n<g id='labels'>\n)"
+        rb"(?:<svg .*?</svg>\n)*(</g>\n</svg>\n<script>.*)",
+        whole,
+        re.S,
+    )
+    before = re.sub(rb"(height=')\d+(')", rb"\1HEIGHT\2", found[1], count=1)
+    return before, found[2], found[3], found[4]
 
 
 def folded(stacks, by_period):

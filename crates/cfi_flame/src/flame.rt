@@ -8,6 +8,7 @@ ghost use Rattle.cfi_flame.specs.FoldedStacks.{stack_view, total_of};
 use crate::boxes::{FlameBox, boxes_of, wide_boxes};
 use crate::folded::{FoldedError, Stack, read_stacks, total_of};
 use crate::graph::graph_of;
+use crate::kinds::{marked_stacks, stacks_of};
 use crate::plain::plain_text;
 use crate::turned::{turned_frames, turned_stacks};
 use std::alloc::{AllocError, Global};
@@ -50,7 +51,9 @@ fn flame_of_plain(
     drawing: Drawing<'_>,
     text: &[u8],
 ) -> Result<Vec<u8>, FoldedError> {
-    let stacks = read_stacks(alloc, text)?;
+    let bare = read_stacks(alloc, text)?;
+    let marked = marked_stacks(alloc, bare.as_slice())?;
+    let stacks = stacks_of(alloc, marked.as_slice())?;
     if !drawing.reverse {
         return flame_of_stacks(alloc, drawing, stacks);
     }

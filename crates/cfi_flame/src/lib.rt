@@ -1,10 +1,11 @@
 //! Folded stacks, the flame graph of them, and a table of their functions.
 //!
-//! `plain` makes a text plain, and `folded` reads the stacks of its lines. `boxes` says which
-//! boxes their graph has, `graph` has the file, an SVG with its style and its script, and `flame`
-//! does all of this; where it is asked, `turned` turns the stacks first. `functions` counts the
-//! samples of each function, `ranking` puts those with most first, and `report` has the table.
-//! `counts` makes folded stacks: it counts samples by their stacks. `decimal` reads numbers.
+//! `plain` makes a text plain, and `folded` reads the stacks of its lines. `kinds` marks which
+//! functions are the kernel's, and where it is asked, `turned` turns the stacks. `boxes` says which
+//! boxes their graph has, `graph` has the file, an SVG, with the style and the script of `page` and
+//! the labels of `label`, and `flame` does all of this. `functions` counts the samples of each
+//! function, `ranking` puts those with most first, and `report` has the table. `counts` makes
+//! folded stacks: it counts samples by their stacks. `decimal` reads numbers.
 #![tactic(auto)]
 
 pub mod boxes;
@@ -14,6 +15,9 @@ pub mod flame;
 pub mod folded;
 pub mod functions;
 mod graph;
+mod kinds;
+mod label;
+mod page;
 pub mod plain;
 pub mod ranking;
 mod report;
