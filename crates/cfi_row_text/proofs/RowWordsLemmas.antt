@@ -61,8 +61,8 @@ module _ (say : UnwindExpression ℕ → List ℕ) (names : RegisterNames) where
   same_row : (row : Row ℕ) → HasNoExpression row → row_saying expression_text names row ≡ row_saying say names row
   same_row row plain =
       let args = decimal row.parts.args_size in
-      let before = address_text row.start_address ++ codes " " ++ address_text row.end_address ++ codes " cfa=" in
-      ap (λ xs. ((before ++ xs) ++ codes " args=" ++ args) ++ rules_saying expression_text names row.parts) (same_cfa row.parts.cfa plain.cfa)
+      let before = address_text row.start_address ++ codes " " ++ address_text row.end_address in
+      ap (λ xs. (before ++ (codes " cfa=" ++ (xs ++ (codes " args=" ++ args)))) ++ rules_saying expression_text names row.parts) (same_cfa row.parts.cfa plain.cfa)
       ∙ ap (λ xs. head_saying say names row ++ xs) (same_rules 65536 0 (get row.parts.rules) plain.rules)
 
 -- a line whose row has none is the same in words
