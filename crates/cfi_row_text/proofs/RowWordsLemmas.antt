@@ -1,4 +1,4 @@
--- Rows in words: in turn, and those without expressions.
+-- Rows without expressions are the same in words.
 use Rattle.std.proofs.Common.{◌≡◌, ◌∙◌, ◌+◌, ℕ, zero, suc, true, List, [], ◌∷◌, ◌++◌, Option, Some, None, Result, Ok, Err, IsOkAnd, refl, sym, ap, subst, append_assoc, codes, arith, inl, inr}
 use Rattle.std.proofs.lemmas.Bool.{cases_lt}
 use Rattle.std.specs.Borrow.{Bor}
@@ -23,31 +23,10 @@ use Rattle.cfi_row_text.specs.KeptRules.{HaveNoExpression}
 use Rattle.cfi_text.specs.Lines.{address_text, line}
 use Rattle.cfi_row_text.specs.RowLines.{HasNoExpression, cfa_saying, expression_at, expression_in, expression_text, frame_saying, head_saying, is_plain_cfa, row_saying, rule_saying, ruled_by, ruled_saying, rules_by, rules_saying}
 use Rattle.cfi_row_text.specs.Wordings.{text_style, worded}
-use Rattle.cfi_text.specs.WriterOutput.{Writes}
+use Rattle.cfi_text.specs.Texts.{Puts}
+use Rattle.cfi_text.specs.declared.text.Text.{Text}
+use Rattle.cfi_text.proofs.TextLemmas.{same}
 use Rattle.cfi_row_text.proofs.RowLineLemmas.{get_behind, get_apart, get_first, get_of_none}
-
--- ---- in turn
-
--- a text of four parts, and its end
-pub ended : {T E : Type 0} (old new : Option (List ℕ)) (r : Result T E) (a b c d n : List ℕ) → Writes old new r (a ++ (b ++ (c ++ (d ++ n)))) → Writes old new r ((a ++ (b ++ (c ++ d))) ++ n)
-ended old new r a b c d n h =
-    let P : List ℕ → Type 0 = λ xs. Writes old new r xs in
-    subst P (sym (append_assoc a (b ++ (c ++ d)) n ∙ ap (λ xs. a ++ xs) (append_assoc b (c ++ d) n ∙ ap (λ xs. b ++ xs) (append_assoc c d n)))) h
-
--- addresses, frame, rules and a line feed
-pub row_in_turn : {T E : Type 0} (say : UnwindExpression ℕ → List ℕ) (names : RegisterNames) (row : Row ℕ) (old new : Option (List ℕ)) (r : Result T E)
-    → Writes old new r ((address_text row.start_address ++ codes " " ++ address_text row.end_address) ++ (frame_saying say names row.parts.cfa row.parts.args_size ++ (rules_saying say names row.parts ++ 10 ∷ [])))
-    → Writes old new r (row_saying say names row ++ 10 ∷ [])
-row_in_turn say names row old new r h =
-    let P : List ℕ → Type 0 = λ xs. Writes old new r xs in
-    let a = address_text row.start_address ++ codes " " ++ address_text row.end_address in
-    let c = cfa_saying say names row.parts.cfa in
-    let d = decimal row.parts.args_size in
-    let rules = rules_saying say names row.parts in
-    let frame = frame_saying say names row.parts.cfa row.parts.args_size in
-    let head : head_saying say names row ≡ a ++ frame =
-    append_assoc ((a ++ codes " cfa=") ++ c) (codes " args=") d ∙ append_assoc (a ++ codes " cfa=") c (codes " args=" ++ d) ∙ append_assoc a (codes " cfa=") (c ++ (codes " args=" ++ d)) in
-    subst P (sym (append_assoc (head_saying say names row) rules (10 ∷ []) ∙ ap (λ xs. xs ++ (rules ++ 10 ∷ [])) head ∙ append_assoc a frame (rules ++ 10 ∷ []))) h
 
 -- ---- rows without expressions
 
@@ -82,15 +61,15 @@ module _ (say : UnwindExpression ℕ → List ℕ) (names : RegisterNames) where
   same_row : (row : Row ℕ) → HasNoExpression row → row_saying expression_text names row ≡ row_saying say names row
   same_row row plain =
       let args = decimal row.parts.args_size in
-      let before = address_text row.start_address ++ codes " " ++ address_text row.end_address ++ codes " cfa=" in
-      ap (λ xs. ((before ++ xs) ++ codes " args=" ++ args) ++ rules_saying expression_text names row.parts) (same_cfa row.parts.cfa plain.cfa)
+      let before = address_text row.start_address ++ codes " " ++ address_text row.end_address in
+      ap (λ xs. (before ++ (codes " cfa=" ++ (xs ++ (codes " args=" ++ args)))) ++ rules_saying expression_text names row.parts) (same_cfa row.parts.cfa plain.cfa)
       ∙ ap (λ xs. head_saying say names row ++ xs) (same_rules 65536 0 (get row.parts.rules) plain.rules)
 
 -- a line whose row has none is the same in words
-pub pushed_in_words : (names : RegisterNames) (size : ℕ) (section : Position) (old new : List ℕ) (answer : Result (Bor (Row ℕ)) Error) → IsOkAnd answer (λ row. HasNoExpression row.now)
-    → new ≡ old ++ (plain_line names (map_ok (λ row. row.now) answer)).text → new ≡ old ++ (answer_line (worded (text_style names) size section) (map_ok (λ row. row.now) answer)).text
-pushed_in_words names size section old new (Ok row) plain is = is ∙ ap (λ xs. old ++ (line xs 0).text) (same_row (in_words names size section) names row.now plain)
-pushed_in_words names size section old new (Err e) plain is = absurd plain
+pub put_in_words : (names : RegisterNames) (size : ℕ) (section : Position) (old new : Text) (answer : Result (Bor (Row ℕ)) Error) → IsOkAnd answer (λ row. HasNoExpression row.now)
+    → Puts (plain_line names (map_ok (λ row. row.now) answer)).text old new → Puts (answer_line (worded (text_style names) size section) (map_ok (λ row. row.now) answer)).text old new
+put_in_words names size section old new (Ok row) plain put = same _ _ _ _ (ap (λ xs. (line xs 0).text) (same_row (in_words names size section) names row.now plain)) put
+put_in_words names size section old new (Err e) plain put = absurd plain
 
 -- ---- a list of rules without expressions
 

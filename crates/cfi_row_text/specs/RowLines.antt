@@ -73,9 +73,8 @@ module _ (say : UnwindExpression ℕ → List ℕ) (names : RegisterNames) where
   -- what comes before the rules
   abbrev pub head_saying : Row ℕ → List ℕ
   head_saying row =
-      address_text row.start_address ++ codes " " ++ address_text row.end_address ++ codes " cfa="
-      ++ cfa_saying say names row.parts.cfa
-      ++ codes " args=" ++ decimal row.parts.args_size
+      address_text row.start_address ++ codes " " ++ address_text row.end_address
+      ++ frame_saying row.parts.cfa row.parts.args_size
 
   -- the rules of all registers, by rising number
   abbrev pub rules_saying : Parts ℕ → List ℕ

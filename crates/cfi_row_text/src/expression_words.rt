@@ -1,153 +1,130 @@
 //! The operations of an expression in words.
-ghost use Rattle.std.specs.Prelude.{◌≡◌, ◌++◌, Some, codes};
+ghost use Rattle.std.specs.Prelude.{◌≡◌, ◌++◌, codes, ℕ, List};
 ghost use Rattle.cfi_read_core.specs.ExpressionPlaces.{expression_bytes};
 ghost use Rattle.cfi_read_core.specs.ReaderCalls.{bytes_left, read_at};
-ghost use Rattle.cfi_text.specs.WriterOutput.{Writes};
 ghost use Rattle.cfi_text.specs.Names.{byte_digits};
+ghost use Rattle.cfi_text.specs.Texts.{Puts};
 ghost use Rattle.cfi_row_text.specs.ExpressionWords.{bytes_text, operation_comma};
 ghost use Rattle.cfi_row_text.specs.ExpressionWords.{hexadecimal_bytes, hexadecimal_in, in_words};
 ghost use Rattle.cfi_row_text.specs.ExpressionWords.{known_operation, operand_text, operation_text};
 ghost use Rattle.cfi_row_text.specs.ExpressionWords.{unknown_text, with_operand, words_at};
 ghost use Rattle.cfi_row_text.specs.ExpressionWords.{words_in};
-ghost use Rattle.cfi_row_text.specs.RowLines.{offset_text};
-ghost use Rattle.cfi_text.specs.RegisterNames.{register_text};
 
 use crate::operation_reader::{Operand, Operation, read_operation};
 use crate::operations::entry_of;
-use cfi_text::lines::{write_part, write_text};
+use crate::row_text::{SaysExpressions, put_offset_from, put_register};
 use cfi_text::name_parts::digit;
 use cfi_text::register_names::RegisterNames;
-use gimli_cfi::{Error, Reader, Register, UnwindExpression, UnwindSection};
-use std::fmt::{Display, Formatter};
-use std::io::Write;
-use std::{fmt, io};
+use cfi_text::text::Text;
+use gimli_cfi::{_UnwindSectionPrivate, Error, Reader, UnwindExpression, UnwindSection};
+use std::marker::PhantomData;
 
-/// A register and an offset from its value, with the names of registers.
+/// Says the expressions of a section in words.
 #[derive(Clone, Copy)]
-pub(crate) struct RegisterOffset(
-    pub(crate) RegisterNames,
-    pub(crate) Register,
-    pub(crate) i64,
-);
+pub(crate) struct InWords<R, S> {
+    names: RegisterNames,
+    section: S,
+    reader: PhantomData<R>,
+}
 
-impl Display for RegisterOffset {
-    ghost output = { λ it. Some (register_text it.0 it.1.0 ++ offset_text it.2) };
-
-    fn fmt<W: fmt::Write>(&self, f: &mut Formatter<W>) -> fmt::Result {
-        let register = self.0.name(self.1.0);
-        let offset = self.2;
-        if offset >= 0 {
-            write!(f, "{register}+{offset}")
-        } else {
-            write!(f, "{register}{offset}")
+impl<R: Reader<Offset = usize>, S: UnwindSection<R>> InWords<R, S> {
+    /// With these names of registers.
+    pub(crate) fn new(names: RegisterNames, section: &S) -> InWords<R, S>
+        ensures names { result.names ≡ names }
+        ensures section { result.section ≡ section.now }
+    {
+        InWords {
+            names,
+            section: *section,
+            reader: PhantomData,
         }
     }
 }
 
-/// An operand after a space, with the names of registers.
-#[derive(Clone, Copy)]
-struct SpacedOperand(RegisterNames, Operand);
+impl<R: Reader<Offset = usize>, S: UnwindSection<R>> SaysExpressions for InWords<R, S> {
+    ghost say = { λ it. let from = S.view it.section in
+        in_words it.names from.address_size from.position };
 
-impl Display for SpacedOperand {
-    ghost output = { λ it. Some (operand_text it.0 it.1) };
-
-    fn fmt<W: fmt::Write>(&self, f: &mut Formatter<W>) -> fmt::Result {
-        match self.1 {
-            Operand::Unknown => Ok(()),
-            Operand::Nothing => Ok(()),
-            Operand::Address(address) => write!(f, " 0x{address:x}"),
-            Operand::Unsigned(number) => write!(f, " {number}"),
-            Operand::Signed(number) => write!(f, " {number}"),
-            Operand::Register(register) => {
-                let name = self.0.name(register.0);
-                write!(f, " {name}")
-            }
-            Operand::RegisterOffset(register, offset) => {
-                let sum = RegisterOffset(self.0, register, offset);
-                write!(f, " {sum}")
-            }
-        }
+    fn put_said(&self, text: &mut Text, expression: UnwindExpression<usize>) {
+        put_in_words(text, self.names, &self.section, expression);
     }
 }
 
-/// Writes the operations of an expression that was read in the section, after `expr` and between
+/// Puts the operations of an expression that was read in the section, after `expr` and between
 /// brackets. An operation that isn't known or is cut ends them, and all bytes from there on are
-/// written instead.
-pub fn write_in_words<R: Reader<Offset = usize>, S: UnwindSection<R>, W: Write>(
-    output: &mut W,
+/// put instead. Allocates where the text has no room.
+pub fn put_in_words<R: Reader<Offset = usize>, S: UnwindSection<R>>(
+    text: &mut Text,
     names: RegisterNames,
     section: &S,
     expression: UnwindExpression<usize>,
-) -> io::Result<()>
+)
     ensures { let from = S.view section.now in
-        Writes (W.contents output.old) (W.contents output.new) result
-        (in_words names from.address_size from.position expression) }
+        Puts (in_words names from.address_size from.position expression) text.old text.new }
 {
-    write_text(output, b"expr(")?;
-    write_words_in(output, names, section, expression)?;
-    write_text(output, b")")
+    text.put(b"expr(");
+    put_words_in(text, names, section, expression);
+    text.put(b")");
 }
 
-/// Writes what stands between the brackets.
-fn write_words_in<R: Reader<Offset = usize>, S: UnwindSection<R>, W: Write>(
-    output: &mut W,
+/// Puts what stands between the brackets.
+fn put_words_in<R: Reader<Offset = usize>, S: UnwindSection<R>>(
+    text: &mut Text,
     names: RegisterNames,
     section: &S,
     expression: UnwindExpression<usize>,
-) -> io::Result<()>
+)
     ensures { let from = S.view section.now in
-        Writes (W.contents output.old) (W.contents output.new) result
-        (words_in names from.address_size from.position
-        (read_at from.position (expression_bytes expression))) }
+        Puts (words_in names from.address_size from.position
+        (read_at from.position (expression_bytes expression))) text.old text.new }
 {
     match expression.get(section) {
-        Ok(bytes) => write_operations(output, names, section.address_size(), &bytes.0),
-        Err(_) => write_text(output, b"..."),
+        Ok(bytes) => put_operations(text, names, section.address_size(), &bytes.0),
+        Err(_) => text.put(b"..."),
     }
 }
 
-/// Writes the bytes of an expression that was read in the section, in hexadecimal.
-pub(crate) fn write_bytes_of<R: Reader<Offset = usize>, S: UnwindSection<R>, W: Write>(
-    output: &mut W,
+/// Puts the bytes of an expression that was read in the section, in hexadecimal.
+pub(crate) fn put_bytes_of<R: Reader<Offset = usize>, S: UnwindSection<R>>(
+    text: &mut Text,
     section: &S,
     expression: UnwindExpression<usize>,
-) -> io::Result<()>
+)
     ensures { let from = (S.view section.now).position in
-        Writes (W.contents output.old) (W.contents output.new) result
-        (hexadecimal_in from (read_at from (expression_bytes expression))) }
+        Puts (hexadecimal_in from (read_at from (expression_bytes expression)))
+        text.old text.new }
 {
     match expression.get(section) {
-        Ok(bytes) => write_hexadecimal(output, &bytes.0),
-        Err(_) => write_text(output, b"..."),
+        Ok(bytes) => put_hexadecimal(text, &bytes.0),
+        Err(_) => text.put(b"..."),
     }
 }
 
-/// Writes the operations in order, by the size of an address.
-fn write_operations<R: Reader<Offset = usize>, W: Write>(
-    output: &mut W,
+/// Puts the operations in order, by the size of an address.
+fn put_operations<R: Reader<Offset = usize>>(
+    text: &mut Text,
     names: RegisterNames,
     size: u8,
     bytes: &R,
-) -> io::Result<()>
-    ensures { Writes (W.contents output.old) (W.contents output.new) result
-        (words_at names size (R.position bytes.now)) }
+)
+    ensures { Puts (words_at names size (R.position bytes.now)) text.old text.new }
 {
     let mut input = *bytes;
     let mut left = bytes.len();
     let mut is_first = true;
     while !input.is_empty() {
         if left == 0 {
-            return Ok(());
+            return;
         }
         left -= 1;
         let here = input;
         let Some(operation) = known(read_operation(&mut input, size)) else {
-            return write_unknown(output, is_first, &here);
+            put_unknown(text, is_first, &here);
+            return;
         };
-        write_operation(output, names, is_first, operation)?;
+        put_operation(text, names, is_first, operation);
         is_first = false;
     }
-    Ok(())
 }
 
 /// Returns the operation that was read, if it is in the table.
@@ -170,116 +147,126 @@ fn named(operation: Operation) -> Option<Operation>
     }
 }
 
-/// Writes an operation, after what stands before it.
-fn write_operation<W: Write>(
-    output: &mut W,
-    names: RegisterNames,
-    is_first: bool,
-    operation: Operation,
-) -> io::Result<()>
-    ensures { Writes (W.contents output.old) (W.contents output.new) result
-        (operation_comma is_first ++ operation_text names operation) }
+/// Puts an operation, after what stands before it.
+fn put_operation(text: &mut Text, names: RegisterNames, is_first: bool, operation: Operation)
+    ensures { Puts (operation_comma is_first ++ operation_text names operation)
+        text.old text.new }
 {
-    write_comma(output, is_first)?;
-    write_named(output, names, operation)
+    put_comma(text, is_first);
+    put_named(text, names, operation);
 }
 
-/// Writes the name of an operation and its operand.
-fn write_named<W: Write>(
-    output: &mut W,
-    names: RegisterNames,
-    operation: Operation,
-) -> io::Result<()>
-    ensures { Writes (W.contents output.old) (W.contents output.new) result
-        (operation_text names operation) }
+/// Puts the name of an operation and its operand.
+fn put_named(text: &mut Text, names: RegisterNames, operation: Operation)
+    ensures { Puts (operation_text names operation) text.old text.new }
 {
-    let name = entry_of(operation.opcode).name;
-    let operand = SpacedOperand(names, operation.operand);
-    write_part(output, format_args!("{name}{operand}"))
+    entry_of(operation.opcode).name.put_into(text);
+    put_operand(text, names, operation.operand);
 }
 
-/// Writes all that is left, where an operation isn't known or is cut, after what stands before it.
-fn write_unknown<R: Reader, W: Write>(output: &mut W, is_first: bool, input: &R) -> io::Result<()>
-    ensures { Writes (W.contents output.old) (W.contents output.new) result
-        (operation_comma is_first ++ unknown_text (bytes_left (R.position input.now))) }
+/// Puts an operand after a space.
+fn put_operand(text: &mut Text, names: RegisterNames, operand: Operand)
+    ensures { Puts (operand_text names operand) text.old text.new }
 {
-    write_comma(output, is_first)?;
-    write_left(output, input)
-}
-
-/// Writes what stands before an operation.
-fn write_comma<W: Write>(output: &mut W, is_first: bool) -> io::Result<()>
-    ensures { Writes (W.contents output.old) (W.contents output.new) result
-        (operation_comma is_first) }
-{
-    if is_first {
-        Ok(())
-    } else {
-        write_text(output, b", ")
+    match operand {
+        Operand::Unknown => {}
+        Operand::Nothing => {}
+        Operand::Address(address) => {
+            text.put(b" ");
+            text.address(address);
+        }
+        Operand::Unsigned(number) => {
+            text.put(b" ");
+            text.number(number);
+        }
+        Operand::Signed(number) => {
+            text.put(b" ");
+            text.number(number);
+        }
+        Operand::Register(register) => {
+            text.put(b" ");
+            put_register(text, names, register);
+        }
+        Operand::RegisterOffset(register, offset) => {
+            text.put(b" ");
+            put_offset_from(text, names, register, offset);
+        }
     }
 }
 
-/// Writes all that is left.
-fn write_left<R: Reader, W: Write>(output: &mut W, input: &R) -> io::Result<()>
-    ensures { Writes (W.contents output.old) (W.contents output.new) result
-        (unknown_text (bytes_left (R.position input.now))) }
+/// Puts all that is left, where an operation isn't known or is cut, after what stands before it.
+fn put_unknown<R: Reader>(text: &mut Text, is_first: bool, input: &R)
+    ensures { Puts (operation_comma is_first ++ unknown_text (bytes_left (R.position input.now)))
+        text.old text.new }
+{
+    put_comma(text, is_first);
+    put_left(text, input);
+}
+
+/// Puts what stands before an operation.
+fn put_comma(text: &mut Text, is_first: bool)
+    ensures { Puts (operation_comma is_first) text.old text.new }
+{
+    if !is_first {
+        text.put(b", ");
+    }
+}
+
+/// Puts all that is left.
+fn put_left<R: Reader>(text: &mut Text, input: &R)
+    ensures { Puts (unknown_text (bytes_left (R.position input.now))) text.old text.new }
 {
     let mut behind = *input;
-    match behind.read_u8() {
-        Ok(opcode) => write_opcode(output, opcode, &behind),
-        Err(_) => Ok(()),
+    if let Ok(opcode) = behind.read_u8() {
+        put_opcode(text, opcode, &behind);
     }
 }
 
-/// Writes an opcode, and the bytes after it.
-fn write_opcode<R: Reader, W: Write>(output: &mut W, opcode: u8, input: &R) -> io::Result<()>
-    ensures { Writes (W.contents output.old) (W.contents output.new) result
-        (codes "DW_OP_0x"
-        ++ (byte_digits opcode ++ bytes_text (bytes_left (R.position input.now)))) }
+/// Puts an opcode, and the bytes after it.
+fn put_opcode<R: Reader>(text: &mut Text, opcode: u8, input: &R)
+    ensures { Puts (codes "DW_OP_0x"
+        ++ (byte_digits opcode ++ bytes_text (bytes_left (R.position input.now))))
+        text.old text.new }
 {
-    write_text(output, b"DW_OP_0x")?;
-    write_byte(output, opcode)?;
-    write_bytes_after(output, input)
+    text.put(b"DW_OP_0x");
+    put_byte(text, opcode);
+    put_bytes_after(text, input);
 }
 
-/// Writes the bytes after an opcode.
-fn write_bytes_after<R: Reader, W: Write>(output: &mut W, input: &R) -> io::Result<()>
-    ensures { Writes (W.contents output.old) (W.contents output.new) result
-        (bytes_text (bytes_left (R.position input.now))) }
+/// Puts the bytes after an opcode.
+fn put_bytes_after<R: Reader>(text: &mut Text, input: &R)
+    ensures { Puts (bytes_text (bytes_left (R.position input.now))) text.old text.new }
 {
     let mut behind = *input;
-    match behind.read_u8() {
-        Ok(first) => write_first(output, first, &behind),
-        Err(_) => Ok(()),
+    if let Ok(first) = behind.read_u8() {
+        put_first(text, first, &behind);
     }
 }
 
-/// Writes the first byte after an opcode, and the others.
-fn write_first<R: Reader, W: Write>(output: &mut W, first: u8, input: &R) -> io::Result<()>
-    ensures { Writes (W.contents output.old) (W.contents output.new) result
-        (codes " 0x"
-        ++ (byte_digits first ++ hexadecimal_bytes (bytes_left (R.position input.now)))) }
+/// Puts the first byte after an opcode, and the others.
+fn put_first<R: Reader>(text: &mut Text, first: u8, input: &R)
+    ensures { Puts (codes " 0x"
+        ++ (byte_digits first ++ hexadecimal_bytes (bytes_left (R.position input.now))))
+        text.old text.new }
 {
-    write_text(output, b" 0x")?;
-    write_byte(output, first)?;
-    write_hexadecimal(output, input)
+    text.put(b" 0x");
+    put_byte(text, first);
+    put_hexadecimal(text, input);
 }
 
-/// Writes the bytes in hexadecimal.
-fn write_hexadecimal<R: Reader, W: Write>(output: &mut W, input: &R) -> io::Result<()>
-    ensures { Writes (W.contents output.old) (W.contents output.new) result
-        (hexadecimal_bytes (bytes_left (R.position input.now))) }
+/// Puts the bytes in hexadecimal.
+fn put_hexadecimal<R: Reader>(text: &mut Text, input: &R)
+    ensures { Puts (hexadecimal_bytes (bytes_left (R.position input.now))) text.old text.new }
 {
     let mut left = *input;
     while let Ok(byte) = left.read_u8() {
-        write_byte(output, byte)?;
+        put_byte(text, byte);
     }
-    Ok(())
 }
 
-/// Writes a byte in hexadecimal.
-fn write_byte<W: Write>(output: &mut W, byte: u8) -> io::Result<()>
-    ensures { Writes (W.contents output.old) (W.contents output.new) result (byte_digits byte) }
+/// Puts a byte in hexadecimal.
+fn put_byte(text: &mut Text, byte: u8)
+    ensures { Puts (byte_digits byte) text.old text.new }
 {
-    write_text(output, &[digit(byte / 16), digit(byte % 16)])
+    text.put(&[digit(byte / 16), digit(byte % 16)]);
 }

@@ -1,317 +1,249 @@
 //! The line of a row in JSON.
 ghost use Rattle.std.specs.Prelude.{◌++◌, [], ◌∷◌, codes};
-ghost use Rattle.cfi_row_text.specs.JsonRows.{bytes_member, cfa_bytes, json_bytes, json_cfa};
-ghost use Rattle.cfi_row_text.specs.JsonRows.{json_head, json_member, json_members};
-ghost use Rattle.cfi_text.specs.JsonTexts.{json_number};
-ghost use Rattle.cfi_row_text.specs.JsonRows.{address_members, json_row, json_rule, json_rules};
-ghost use Rattle.cfi_row_text.specs.JsonRows.{bytes_opening};
-ghost use Rattle.cfi_text.specs.JsonTexts.{separated};
-ghost use Rattle.cfi_row_text.specs.RowLines.{expression_at};
+ghost use Rattle.cfi_text.specs.JsonTexts.{json_number, separated};
 ghost use Rattle.cfi_text.specs.RegisterNames.{register_text};
+ghost use Rattle.cfi_text.specs.Texts.{Puts};
 ghost use Rattle.cfi_row_text.specs.ExpressionWords.{hexadecimal_of};
+ghost use Rattle.cfi_row_text.specs.JsonRows.{address_members, bytes_member, bytes_opening};
+ghost use Rattle.cfi_row_text.specs.JsonRows.{cfa_bytes, json_bytes, json_cfa, json_head};
+ghost use Rattle.cfi_row_text.specs.JsonRows.{json_member, json_members, json_row, json_rule};
+ghost use Rattle.cfi_row_text.specs.JsonRows.{json_rules};
 ghost use Rattle.cfi_row_text.specs.Wordings.{worded};
-ghost use Rattle.cfi_text.specs.WriterOutput.{Writes};
 
-use crate::expression_words::write_bytes_of;
+use crate::expression_words::{InWords, put_bytes_of};
 use crate::register_rules::{HasRules, expression_at};
-use crate::row_words::{write_cfa, write_rule};
+use crate::row_text::{put_cfa, put_register, put_rule};
 use crate::style::Style;
-use cfi_text::json::push_number;
-use cfi_text::line_buffer::{LineBuffer, push};
-use cfi_text::lines::{write_part, write_text};
-use cfi_text::numbers::Address;
 use cfi_text::register_names::RegisterNames;
+use cfi_text::text::Text;
 use gimli_cfi::{
     _UnwindSectionPrivate, ArrayLike, CfaRule, Reader, Register, RegisterRule, UnwindExpression,
     UnwindSection, UnwindTableRow,
 };
-use std::io;
-use std::io::Write;
 
-/// Writes the row from the section as an object on a line.
-pub(crate) fn write_json_row<
+/// Puts the row from the section as an object on a line.
+pub(crate) fn put_json_row<
     R: Reader<Offset = usize>,
     S: UnwindSection<R>,
-    W: Write,
     A: ArrayLike<Item = (Register, RegisterRule<usize>)>,
->(output: &mut W, style: Style, section: &S, row: &UnwindTableRow<usize, A>) -> io::Result<()>
+>(text: &mut Text, style: Style, section: &S, row: &UnwindTableRow<usize, A>)
     ensures { let from = S.view section.now in
         let wording = worded style from.address_size from.position in
-        Writes (W.contents output.old) (W.contents output.new) result
-        (json_row wording row.now ++ 10 ∷ []) }
+        Puts (json_row wording row.now ++ 10 ∷ []) text.old text.new }
 {
-    write_text(output, b"{")?;
-    write_json_members(output, style, section, row)
+    text.put(b"{");
+    put_json_members(text, style, section, row);
 }
 
-/// Writes the members of the object of the row from the section, its registers in ascending order,
+/// Puts the members of the object of the row from the section, its registers in ascending order,
 /// and the end of the line.
-pub(crate) fn write_json_members<
+pub(crate) fn put_json_members<
     R: Reader<Offset = usize>,
     S: UnwindSection<R>,
-    W: Write,
     A: ArrayLike<Item = (Register, RegisterRule<usize>)>,
->(output: &mut W, style: Style, section: &S, row: &UnwindTableRow<usize, A>) -> io::Result<()>
+>(text: &mut Text, style: Style, section: &S, row: &UnwindTableRow<usize, A>)
     ensures { let from = S.view section.now in
         let wording = worded style from.address_size from.position in
-        Writes (W.contents output.old) (W.contents output.new) result
-        (json_members wording row.now ++ 10 ∷ []) }
+        Puts (json_members wording row.now ++ 10 ∷ []) text.old text.new }
 {
-    write_head(output, style, section, row)?;
-    write_members(output, style, section, row)?;
-    write_bytes(output, style, section, row)?;
-    write_text(output, b"}\n")
+    put_head(text, style, section, row);
+    put_members(text, style, section, row);
+    put_bytes(text, style, section, row);
+    text.put(b"}");
+    text.put(b"\n");
 }
 
-/// Writes what comes before the rules: the addresses, the CFA and the argument size.
-fn write_head<
+/// Puts what comes before the rules: the addresses, the CFA and the argument size.
+fn put_head<
     R: Reader<Offset = usize>,
     S: UnwindSection<R>,
-    W: Write,
     A: ArrayLike<Item = (Register, RegisterRule<usize>)>,
->(output: &mut W, style: Style, section: &S, row: &UnwindTableRow<usize, A>) -> io::Result<()>
+>(text: &mut Text, style: Style, section: &S, row: &UnwindTableRow<usize, A>)
     ensures { let from = S.view section.now in
         let wording = worded style from.address_size from.position in
-        Writes (W.contents output.old) (W.contents output.new) result
-        (json_head wording row.now) }
+        Puts (json_head wording row.now) text.old text.new }
 {
-    write_addresses(output, row.start_address(), row.end_address())?;
-    write_json_cfa(output, style, section, *row.cfa())?;
-    write_args_size(output, row.saved_args_size())
+    put_addresses(text, row.start_address(), row.end_address());
+    put_json_cfa(text, style, section, *row.cfa());
+    put_args_size(text, row.saved_args_size());
 }
 
-/// Writes the addresses.
-fn write_addresses<W: Write>(output: &mut W, start: u64, end: u64) -> io::Result<()>
-    ensures { Writes (W.contents output.old) (W.contents output.new) result
-        (address_members start end) }
+/// Puts the addresses.
+fn put_addresses(text: &mut Text, start: u64, end: u64)
+    ensures { Puts (address_members start end) text.old text.new }
 {
-    let start = Address(start);
-    let end = Address(end);
-    write_part(
-        output,
-        format_args!("\"start\":\"{start}\",\"end\":\"{end}\","),
-    )
+    text.put(b"\"start\":\"");
+    text.address(start);
+    text.put(b"\",\"end\":\"");
+    text.address(end);
+    text.put(b"\",");
 }
 
-/// Writes the rule of the canonical frame address, and the bytes of its expression.
-fn write_json_cfa<R: Reader<Offset = usize>, S: UnwindSection<R>, W: Write>(
-    output: &mut W,
+/// Puts the rule of the canonical frame address, and the bytes of its expression.
+fn put_json_cfa<R: Reader<Offset = usize>, S: UnwindSection<R>>(
+    text: &mut Text,
     style: Style,
     section: &S,
     cfa: CfaRule<usize>,
-) -> io::Result<()>
+)
     ensures { let from = S.view section.now in
         let wording = worded style from.address_size from.position in
-        Writes (W.contents output.old) (W.contents output.new) result (json_cfa wording cfa) }
+        Puts (json_cfa wording cfa) text.old text.new }
 {
-    write_text(output, b"\"cfa\":\"")?;
-    write_cfa(output, style.names, section, cfa)?;
-    write_text(output, b"\"")?;
-    write_cfa_bytes(output, style, section, cfa)
+    text.put(b"\"cfa\":\"");
+    put_cfa(text, &InWords::<R, S>::new(style.names, section), style.names, cfa);
+    text.put(b"\"");
+    put_cfa_bytes(text, style, section, cfa);
 }
 
-/// Writes the bytes of the expression of the canonical frame address, if it has one.
-fn write_cfa_bytes<R: Reader<Offset = usize>, S: UnwindSection<R>, W: Write>(
-    output: &mut W,
+/// Puts the bytes of the expression of the canonical frame address, if it has one.
+fn put_cfa_bytes<R: Reader<Offset = usize>, S: UnwindSection<R>>(
+    text: &mut Text,
     style: Style,
     section: &S,
     cfa: CfaRule<usize>,
-) -> io::Result<()>
+)
     ensures { let from = S.view section.now in
         let wording = worded style from.address_size from.position in
-        Writes (W.contents output.old) (W.contents output.new) result (cfa_bytes wording cfa) }
+        Puts (cfa_bytes wording cfa) text.old text.new }
 {
     match cfa {
-        CfaRule::RegisterAndOffset { .. } => Ok(()),
-        CfaRule::Expression(expression) => write_bytes_of_cfa(output, section, expression),
+        CfaRule::RegisterAndOffset { .. } => {}
+        CfaRule::Expression(expression) => {
+            text.put(b",\"cfa_bytes\":\"");
+            put_bytes_of(text, section, expression);
+            text.put(b"\"");
+        }
     }
 }
 
-/// Writes the bytes of the expression of the canonical frame address.
-fn write_bytes_of_cfa<R: Reader<Offset = usize>, S: UnwindSection<R>, W: Write>(
-    output: &mut W,
-    section: &S,
-    expression: UnwindExpression<usize>,
-) -> io::Result<()>
-    ensures { let from = (S.view section.now).position in
-        Writes (W.contents output.old) (W.contents output.new) result
-        (codes ",\"cfa_bytes\":\"" ++ (hexadecimal_of from expression ++ codes "\"")) }
+/// Puts the argument size, and what comes before the rules.
+fn put_args_size(text: &mut Text, args_size: u64)
+    ensures { Puts (codes ",\"args\":" ++ json_number args_size ++ codes ",\"rules\":{")
+        text.old text.new }
 {
-    write_text(output, b",\"cfa_bytes\":\"")?;
-    write_bytes_of(output, section, expression)?;
-    write_text(output, b"\"")
+    text.put(b",\"args\":");
+    text.json_number(args_size);
+    text.put(b",\"rules\":{");
 }
 
-/// Writes the argument size, and what comes before the rules.
-fn write_args_size<W: Write>(output: &mut W, args_size: u64) -> io::Result<()>
-    ensures { Writes (W.contents output.old) (W.contents output.new) result
-        (codes ",\"args\":" ++ json_number args_size ++ codes ",\"rules\":{") }
-{
-    let mut text = LineBuffer::new();
-    push(&mut text, b",\"args\":")?;
-    push_number(&mut text, args_size)?;
-    push(&mut text, b",\"rules\":{")?;
-    write_text(output, text.as_slice())
-}
-
-/// Writes the rules, each looked up by its number.
-fn write_members<R: Reader<Offset = usize>, S: UnwindSection<R>, W: Write, H: HasRules>(
-    output: &mut W,
+/// Puts the rules, each looked up by its number.
+fn put_members<R: Reader<Offset = usize>, S: UnwindSection<R>, H: HasRules>(
+    text: &mut Text,
     style: Style,
     section: &S,
     row: &H,
-) -> io::Result<()>
+)
     ensures { let from = S.view section.now in
         let wording = worded style from.address_size from.position in
-        Writes (W.contents output.old) (W.contents output.new) result
-        (json_rules wording (H.parts row.now)) }
+        Puts (json_rules wording (H.parts row.now)) text.old text.new }
 {
     let end = row.end();
     let mut is_first = true;
     for number in 0..end {
         let register = Register(number as u16);
         if let Some(rule) = row.rule(register) {
-            write_separated(output, style, section, is_first, register, rule)?;
+            put_separated(text, style, section, is_first, register, rule);
             is_first = false;
         }
     }
-    Ok(())
 }
 
-/// Writes a register and its rule, after a comma unless it is the first.
-fn write_separated<R: Reader<Offset = usize>, S: UnwindSection<R>, W: Write>(
-    output: &mut W,
+/// Puts a register and its rule, after a comma unless it is the first.
+fn put_separated<R: Reader<Offset = usize>, S: UnwindSection<R>>(
+    text: &mut Text,
     style: Style,
     section: &S,
     is_first: bool,
     register: Register,
     rule: RegisterRule<usize>,
-) -> io::Result<()>
+)
     ensures { let from = S.view section.now in
         let wording = worded style from.address_size from.position in
-        Writes (W.contents output.old) (W.contents output.new) result
-        (separated is_first (json_rule wording register.0 rule)) }
+        Puts (separated is_first (json_rule wording register.0 rule)) text.old text.new }
 {
-    if is_first {
-        write_member(output, style, section, register, rule)
-    } else {
-        write_after_comma(output, style, section, register, rule)
+    if !is_first {
+        text.put(b",");
     }
+    put_member(text, style, section, register, rule);
 }
 
-/// Writes a register and its rule, after a comma.
-fn write_after_comma<R: Reader<Offset = usize>, S: UnwindSection<R>, W: Write>(
-    output: &mut W,
+/// Puts a register and its rule.
+fn put_member<R: Reader<Offset = usize>, S: UnwindSection<R>>(
+    text: &mut Text,
     style: Style,
     section: &S,
     register: Register,
     rule: RegisterRule<usize>,
-) -> io::Result<()>
+)
     ensures { let from = S.view section.now in
         let wording = worded style from.address_size from.position in
-        Writes (W.contents output.old) (W.contents output.new) result
-        (json_rule wording register.0 rule) }
+        Puts (json_member wording register.0 rule) text.old text.new }
 {
-    write_text(output, b",")?;
-    write_member(output, style, section, register, rule)
+    put_name(text, style.names, register);
+    put_rule(text, &InWords::<R, S>::new(style.names, section), style.names, rule);
+    text.put(b"\"");
 }
 
-/// Writes a register and its rule.
-fn write_member<R: Reader<Offset = usize>, S: UnwindSection<R>, W: Write>(
-    output: &mut W,
-    style: Style,
-    section: &S,
-    register: Register,
-    rule: RegisterRule<usize>,
-) -> io::Result<()>
-    ensures { let from = S.view section.now in
-        let wording = worded style from.address_size from.position in
-        Writes (W.contents output.old) (W.contents output.new) result
-        (json_member wording register.0 rule) }
+/// Puts a register as the name of a member, and the quotation mark of its value.
+fn put_name(text: &mut Text, names: RegisterNames, register: Register)
+    ensures { Puts (codes "\"" ++ register_text names register.0 ++ codes "\":\"")
+        text.old text.new }
 {
-    write_name(output, style.names, register)?;
-    write_rule(output, style.names, section, rule)?;
-    write_text(output, b"\"")
+    text.put(b"\"");
+    put_register(text, names, register);
+    text.put(b"\":\"");
 }
 
-/// Writes a register as the name of a member, and the quotation mark of its value.
-fn write_name<W: Write>(output: &mut W, names: RegisterNames, register: Register) -> io::Result<()>
-    ensures { Writes (W.contents output.old) (W.contents output.new) result
-        (codes "\"" ++ register_text names register.0 ++ codes "\":\"") }
-{
-    let name = names.name(register.0);
-    write_part(output, format_args!("\"{name}\":\""))
-}
-
-/// Writes the end of the rules, and after them the bytes of their expressions, if there are any.
-fn write_bytes<R: Reader<Offset = usize>, S: UnwindSection<R>, W: Write, H: HasRules>(
-    output: &mut W,
+/// Puts the end of the rules, and after them the bytes of their expressions, if there are any.
+fn put_bytes<R: Reader<Offset = usize>, S: UnwindSection<R>, H: HasRules>(
+    text: &mut Text,
     style: Style,
     section: &S,
     row: &H,
-) -> io::Result<()>
+)
     ensures { let from = S.view section.now in
         let wording = worded style from.address_size from.position in
-        Writes (W.contents output.old) (W.contents output.new) result
-        (json_bytes wording (H.parts row.now)) }
+        Puts (json_bytes wording (H.parts row.now)) text.old text.new }
 {
     let end = row.end();
     let mut is_first = true;
     for number in 0..end {
         let register = Register(number as u16);
         if let Some(expression) = expression_at(row, register) {
-            write_bytes_member(output, style, section, is_first, register, expression)?;
+            put_opening(text, is_first);
+            put_bytes_member(text, style, section, register, expression);
             is_first = false;
         }
     }
-    write_text(output, b"}")
+    text.put(b"}");
 }
 
-/// Writes a register and the bytes of its expression, after a comma; after the end of the rules if
-/// it is the first.
-fn write_bytes_member<R: Reader<Offset = usize>, S: UnwindSection<R>, W: Write>(
-    output: &mut W,
-    style: Style,
-    section: &S,
-    is_first: bool,
-    register: Register,
-    expression: UnwindExpression<usize>,
-) -> io::Result<()>
-    ensures { let from = S.view section.now in
-        let wording = worded style from.address_size from.position in
-        Writes (W.contents output.old) (W.contents output.new) result
-        (bytes_opening is_first ++ bytes_member wording register.0 expression) }
-{
-    write_opening(output, is_first)?;
-    write_bytes_of_member(output, style, section, register, expression)
-}
-
-/// Writes what comes before the bytes of an expression.
-fn write_opening<W: Write>(output: &mut W, is_first: bool) -> io::Result<()>
-    ensures { Writes (W.contents output.old) (W.contents output.new) result
-        (bytes_opening is_first) }
+/// Puts what comes before the bytes of an expression: a comma, or the end of the rules if it is the
+/// first.
+fn put_opening(text: &mut Text, is_first: bool)
+    ensures { Puts (bytes_opening is_first) text.old text.new }
 {
     if is_first {
-        write_text(output, b"},\"rules_bytes\":{")
+        text.put(b"},\"rules_bytes\":{");
     } else {
-        write_text(output, b",")
+        text.put(b",");
     }
 }
 
-/// Writes a register and the bytes of its expression.
-fn write_bytes_of_member<R: Reader<Offset = usize>, S: UnwindSection<R>, W: Write>(
-    output: &mut W,
+/// Puts a register and the bytes of its expression.
+fn put_bytes_member<R: Reader<Offset = usize>, S: UnwindSection<R>>(
+    text: &mut Text,
     style: Style,
     section: &S,
     register: Register,
     expression: UnwindExpression<usize>,
-) -> io::Result<()>
+)
     ensures { let from = S.view section.now in
         let wording = worded style from.address_size from.position in
-        Writes (W.contents output.old) (W.contents output.new) result
-        (bytes_member wording register.0 expression) }
+        Puts (bytes_member wording register.0 expression) text.old text.new }
 {
-    write_name(output, style.names, register)?;
-    write_bytes_of(output, section, expression)?;
-    write_text(output, b"\"")
+    put_name(text, style.names, register);
+    put_bytes_of(text, section, expression);
+    text.put(b"\"");
 }

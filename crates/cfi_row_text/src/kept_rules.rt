@@ -1,6 +1,6 @@
 //! The rules of rows in turn, which mostly are those of the last row with as many rules and the
 //! same first register.
-ghost use Rattle.std.specs.Prelude.{◌≡◌, ◌≤◌, ◌++◌, [], ◌∷◌, OnOk, true};
+ghost use Rattle.std.specs.Prelude.{◌≡◌, [], true};
 ghost use Rattle.std.specs.FinMap as map;
 ghost use Rattle.cfi_state.specs.RegisterRuleIters.{rules_left};
 ghost use Rattle.cfi_state.specs.RulePairs.{IsRising, rules_of};
@@ -9,42 +9,45 @@ ghost use Rattle.cfi_row_text.specs.KeptRules.{AreKept, kept_rules, kept_text};
 ghost use Rattle.cfi_row_text.specs.RowLines.{ruled, rules_by};
 
 use crate::register_rules::is_rising;
-use crate::row_text::push_ruled;
+use crate::row_line::put_rising;
+use crate::row_text::ByPlace;
 use arrayvec::ArrayVec;
-use cfi_text::line_buffer::LineBuffer;
 use cfi_text::register_names::RegisterNames;
+use cfi_text::text::Text;
 use gimli_cfi::{Register, RegisterRule, RegisterRuleIter};
-use std::fmt;
+use std::alloc::Global;
 
 /// How many rules are kept at most.
 const MOST: usize = 16;
-
-/// How long their text is at most. A line has at most 114 bytes before it, and a line
-/// feed after it.
-const LONGEST: usize = 300;
 
 /// The rules of a row and their text, for the next row. There are none where a row has many.
 #[derive(Drop)]
 pub(crate) struct KeptRules {
     rules: ArrayVec<(Register, RegisterRule<usize>), MOST>,
-    text: LineBuffer,
+    text: Vec<u8>,
 }
 
 impl KeptRules {
-    /// Keeps no rules.
-    pub(crate) fn new() -> KeptRules
+    /// Keeps no rules. Does not allocate.
+    pub(crate) fn new(alloc: Global) -> KeptRules
         ensures { (names : RegisterNames) → AreKept names result }
     {
         KeptRules {
             rules: ArrayVec::new(),
-            text: LineBuffer::new(),
+            text: Vec::new(alloc),
         }
     }
 
-    /// Keeps these rules, if they are few and in ascending order of the registers, and returns
-    /// whether it does. Where they were kept already, their text stays.
+    /// Keeps these rules, if they are few, in ascending order of the registers, and there is memory
+    /// for their text; returns whether it does. Where they were kept already, their text stays.
+    /// The text is made in `made`.
     #[inline]
-    pub(crate) fn keep(&mut self, names: RegisterNames, rules: RegisterRuleIter<'_, usize>) -> bool
+    pub(crate) fn keep(
+        &mut self,
+        made: &mut Text,
+        names: RegisterNames,
+        rules: RegisterRuleIter<'_, usize>,
+    ) -> bool
         requires { AreKept names self.old }
         ensures kept { AreKept names self.new }
         ensures same { result ≡ true →
@@ -53,7 +56,7 @@ impl KeptRules {
         if self.has(rules) {
             return true;
         }
-        self.keep_anew(names, rules)
+        self.keep_anew(made, names, rules)
     }
 
     /// The text of the rules that are kept.
@@ -83,13 +86,18 @@ impl KeptRules {
     }
 
     /// Keeps these rules in place of those that were kept, and returns whether it does. If they are
-    /// many or in another order it keeps none.
-    fn keep_anew(&mut self, names: RegisterNames, rules: RegisterRuleIter<'_, usize>) -> bool
+    /// many or in another order, or memory is refused, it keeps none.
+    fn keep_anew(
+        &mut self,
+        made: &mut Text,
+        names: RegisterNames,
+        rules: RegisterRuleIter<'_, usize>,
+    ) -> bool
         ensures kept { AreKept names self.new }
         ensures same { result ≡ true → kept_rules self.new ≡ rules_left rules.entry }
     {
         self.clear();
-        if is_rising(rules) && self.fill(names, rules).is_ok() {
+        if is_rising(rules) && self.has_room(rules) && self.make_text(made, names, rules) {
             return true;
         }
         self.clear();
@@ -105,41 +113,36 @@ impl KeptRules {
         self.text.clear();
     }
 
-    /// Keeps these rules, where none are kept. Fails where they are many.
-    fn fill(&mut self, names: RegisterNames, rules: RegisterRuleIter<'_, usize>) -> fmt::Result
-        requires none { kept_rules self.old ≡ [] }
-        requires no_text { kept_text self.old ≡ [] }
-        requires rising { IsRising (rules_left rules) }
-        ensures rules { OnOk result (kept_rules self.new ≡ rules_left rules.entry) }
-        ensures text { OnOk result (kept_text self.new
-            ≡ rules_by (ruled names) 65536 0 (map.get (rules_of (rules_left rules.entry)))) }
+    /// Keeps these rules, where none are kept. Returns whether there is room for them.
+    fn has_room(&mut self, rules: RegisterRuleIter<'_, usize>) -> bool
+        requires { kept_rules self.old ≡ [] }
+        ensures rules { result ≡ true → kept_rules self.new ≡ rules_left rules.entry }
+        ensures text { kept_text self.new ≡ kept_text self.old }
     {
-        for (register, rule) in rules {
-            self.add(names, *register, *rule)?;
+        for rule in rules {
+            if self.rules.try_push(*rule).is_err() {
+                return false;
+            }
         }
-        if self.text.len() > LONGEST {
-            return Err(fmt::Error);
-        }
-        Ok(())
+        true
     }
 
-    /// Keeps a rule after those that are kept. Fails where there is no room for it.
-    fn add(
+    /// Keeps the text of these rules, where none is kept. Returns whether there is memory for it.
+    fn make_text(
         &mut self,
+        made: &mut Text,
         names: RegisterNames,
-        register: Register,
-        rule: RegisterRule<usize>,
-    ) -> fmt::Result
-        ensures rules { OnOk result (kept_rules self.new
-            ≡ kept_rules self.old ++ (register, rule) ∷ []) }
-        ensures text { OnOk result (kept_text self.new
-            ≡ kept_text self.old ++ ruled names register.0 rule) }
-        ensures within { register.0 ≤ 65535 }
+        rules: RegisterRuleIter<'_, usize>,
+    ) -> bool
+        requires none { kept_text self.old ≡ [] }
+        requires rising { IsRising (rules_left rules) }
+        ensures rules { kept_rules self.new ≡ kept_rules self.old }
+        ensures text { result ≡ true → kept_text self.new
+            ≡ rules_by (ruled names) 65536 0 (map.get (rules_of (rules_left rules.entry))) }
     {
-        match self.rules.try_push((register, rule)) {
-            Ok(()) => push_ruled(&mut self.text, names, register, rule),
-            Err(_) => Err(fmt::Error),
-        }
+        made.clear();
+        put_rising(made, &ByPlace, names, rules);
+        made.write_to(&mut self.text).is_ok()
     }
 }
 

@@ -7,6 +7,7 @@ mod kept_rules;
 mod operation_reader;
 mod operations;
 pub mod plain_rows;
+pub mod refusal_text;
 pub mod register_rules;
 pub mod row_line;
 pub mod row_text;

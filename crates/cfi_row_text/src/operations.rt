@@ -1,14 +1,14 @@
 //! The table of the operations of DWARF expressions (DWARF 5 sections 2.5.1, 2.6.1 and 7.7.1): the
 //! name of each, and the form of its operand.
-ghost use Rattle.std.specs.Prelude.{◌≡◌, ◌++◌, Some};
+ghost use Rattle.std.specs.Prelude.{◌≡◌, ◌++◌};
 ghost use Rattle.std.specs.Fmt.{decimal};
 ghost use Rattle.cfi_row_text.specs.Operations.{arithmetic_entry, constant_entry, control_entry};
 ghost use Rattle.cfi_row_text.specs.Operations.{operation_entry, logic_entry, operation_name_text};
 ghost use Rattle.cfi_row_text.specs.Operations.{other_entry, stack_entry};
+ghost use Rattle.cfi_text.specs.Texts.{Puts};
 
-use gimli_cfi::{Register, Result};
-use std::fmt;
-use std::fmt::{Display, Formatter};
+use cfi_text::text::Text;
+use gimli_cfi::Register;
 
 /// How many bytes a number has.
 #[derive(Clone, Copy)]
@@ -48,14 +48,15 @@ pub(crate) struct OperationName {
     number: Option<u8>,
 }
 
-impl Display for OperationName {
-    ghost output = { λ name. Some (operation_name_text name) };
-
-    fn fmt<W: fmt::Write>(&self, f: &mut Formatter<W>) -> fmt::Result {
-        f.write_str(self.text)?;
+impl OperationName {
+    /// Puts the name.
+    pub(crate) fn put_into(self, text: &mut Text)
+        ensures { Puts (operation_name_text self) text.old text.new }
+    {
+        text.put(self.text.as_bytes());
         match self.number {
-            Some(number) => write!(f, "{number}"),
-            None => Ok(()),
+            Some(number) => text.number(number),
+            None => {}
         }
     }
 }

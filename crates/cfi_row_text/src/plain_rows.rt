@@ -1,8 +1,9 @@
 //! The lines of rows without expressions, whose rules mostly are those of a row before.
-ghost use Rattle.std.specs.Prelude.{◌≡◌, ◌<◌, ◌++◌, [], ◌∷◌, IfOk, IsOkAnd, OnOk, false, true, ◌+◌};
+ghost use Rattle.std.specs.Prelude.{◌≡◌, ◌<◌, ◌++◌, [], ◌∷◌, IsOkAnd, false, true, ◌+◌};
 ghost use Rattle.cfi_read_core.specs.ReaderCalls.{map_ok};
 ghost use Rattle.cfi_state.specs.RegisterRuleIters.{rules_left};
 ghost use Rattle.cfi_state.specs.RulePairs.{rules_of};
+ghost use Rattle.cfi_text.specs.Texts.{Puts};
 ghost use Rattle.cfi_text.specs.declared.register_names.RegisterNames.{RegisterNames};
 ghost use Rattle.cfi_row_text.specs.AnswerLines.{plain_line};
 ghost use Rattle.cfi_row_text.specs.KeptRules.{AreKept, kept_rules, HaveNoExpression};
@@ -11,24 +12,22 @@ ghost use Rattle.cfi_row_text.specs.RowLines.{row_text};
 
 use crate::kept_rules::KeptRules;
 use crate::register_rules::expression_in;
-use crate::row_text::push_head;
-use cfi_text::line_buffer::{LineBuffer, push};
+use crate::row_text::{ByPlace, put_head};
 use cfi_text::register_names::RegisterNames;
+use cfi_text::text::Text;
 use gimli_cfi::{
     ArrayLike, CfaRule, Error, Register, RegisterRule, RegisterRuleIter, UnwindTableRow,
 };
-use std::fmt;
+use std::alloc::Global;
 use std::marker::Model;
-
-/// How much text may wait for another line of a row whose rules are kept, which has at most 415
-/// bytes.
-pub const FULL_OF_LINES: usize = 600;
 
 /// The rules of the last rows, and their texts: by how many there are and the first register, since
 /// rows with these in common mostly have the same.
 #[derive(Drop)]
 pub struct KeptRows {
     names: RegisterNames,
+    /// What the text of rules is made in.
+    made: Text,
     rows: [KeptRules; 16],
 }
 
@@ -45,52 +44,53 @@ impl Model for KeptRows {
 }
 
 impl KeptRows {
-    /// Keeps no rules, for rows with these names of registers.
-    pub(crate) fn new(names: RegisterNames) -> KeptRows {
+    /// Keeps no rules, for rows with these names of registers. Does not allocate.
+    pub fn new(alloc: Global, names: RegisterNames) -> KeptRows {
         KeptRows {
             names,
+            made: Text::new(alloc),
             rows: [
-                KeptRules::new(),
-                KeptRules::new(),
-                KeptRules::new(),
-                KeptRules::new(),
-                KeptRules::new(),
-                KeptRules::new(),
-                KeptRules::new(),
-                KeptRules::new(),
-                KeptRules::new(),
-                KeptRules::new(),
-                KeptRules::new(),
-                KeptRules::new(),
-                KeptRules::new(),
-                KeptRules::new(),
-                KeptRules::new(),
-                KeptRules::new(),
+                KeptRules::new(alloc),
+                KeptRules::new(alloc),
+                KeptRules::new(alloc),
+                KeptRules::new(alloc),
+                KeptRules::new(alloc),
+                KeptRules::new(alloc),
+                KeptRules::new(alloc),
+                KeptRules::new(alloc),
+                KeptRules::new(alloc),
+                KeptRules::new(alloc),
+                KeptRules::new(alloc),
+                KeptRules::new(alloc),
+                KeptRules::new(alloc),
+                KeptRules::new(alloc),
+                KeptRules::new(alloc),
+                KeptRules::new(alloc),
             ],
         }
     }
 
-    /// Appends the line of text of an answer that comes after others of its table, if it is a row
+    /// Puts the line of text of an answer that comes after others of its table, if it is a row
     /// without expressions whose rules can be kept for the next one, and `names` are those that
-    /// rules are kept for. Returns whether it does. Fails where there is no room for the line.
+    /// rules are kept for. Returns whether it does. Allocates for rules that weren't kept, and
+    /// where the text has no room.
     #[inline]
-    pub fn push_next<A: ArrayLike<Item = (Register, RegisterRule<usize>)>>(
+    pub fn put_next<A: ArrayLike<Item = (Register, RegisterRule<usize>)>>(
         &mut self,
-        text: &mut LineBuffer,
+        text: &mut Text,
         names: RegisterNames,
         answer: Result<&UnwindTableRow<usize, A>, Error>,
-    ) -> Result<bool, fmt::Error>
-        ensures pushed { IfOk result (λ pushed. pushed ≡ true → text.new.items ≡ text.old.items
-            ++ (plain_line names (map_ok (λ row. row.now) answer.entry)).text) }
-        ensures plain { IfOk result (λ pushed. pushed ≡ true →
-            IsOkAnd answer.entry (λ row. HasNoExpression row.now)) }
-        ensures left { IfOk result (λ pushed. pushed ≡ false → text.new.items ≡ text.old.items) }
+    ) -> bool
+        ensures put { result ≡ true → Puts (plain_line names (map_ok (λ row. row.now) answer.entry)).text
+            text.old text.new }
+        ensures plain { result ≡ true → IsOkAnd answer.entry (λ row. HasNoExpression row.now) }
+        ensures left { result ≡ false → text.new ≡ text.old }
     {
         if self.names != names {
-            return Ok(false);
+            return false;
         }
         let place = place_of(answer);
-        push_next(text, names, &mut self.rows[place], answer)
+        put_next(text, names, &mut self.rows[place], &mut self.made, answer)
     }
 }
 
@@ -112,54 +112,34 @@ fn place_of<A: ArrayLike<Item = (Register, RegisterRule<usize>)>>(
     (row.registers().count() % 16 + 3 * first as usize) % 16
 }
 
-/// What lines of text are put together in.
-#[derive(Drop)]
-pub struct LineRoom {
-    /// The text that is not written yet.
-    pub text: LineBuffer,
-    /// The rules of the last rows.
-    pub kept: KeptRows,
-}
-
-impl LineRoom {
-    /// Has no text and keeps no rules, for rows with these names of registers.
-    pub fn new(names: RegisterNames) -> LineRoom {
-        LineRoom {
-            text: LineBuffer::new(),
-            kept: KeptRows::new(names),
-        }
-    }
-}
-
-/// Appends the line of text of an answer that comes after others of its table, if it is a row
-/// without expressions whose rules can be kept for the next one. Returns whether it is. Fails where
-/// there is no room for the line.
+/// Puts the line of text of an answer that comes after others of its table, if it is a row without
+/// expressions whose rules can be kept for the next one. Returns whether it does.
 #[inline]
-fn push_next<A: ArrayLike<Item = (Register, RegisterRule<usize>)>>(
-    text: &mut LineBuffer,
+fn put_next<A: ArrayLike<Item = (Register, RegisterRule<usize>)>>(
+    text: &mut Text,
     names: RegisterNames,
     kept: &mut KeptRules,
+    made: &mut Text,
     answer: Result<&UnwindTableRow<usize, A>, Error>,
-) -> Result<bool, fmt::Error>
+) -> bool
     requires { AreKept names kept.old }
     ensures kept { AreKept names kept.new }
-    ensures pushed { IfOk result (λ pushed. pushed ≡ true → text.new.items ≡ text.old.items
-        ++ (plain_line names (map_ok (λ row. row.now) answer.entry)).text) }
-    ensures plain { IfOk result (λ pushed. pushed ≡ true →
-        IsOkAnd answer.entry (λ row. HasNoExpression row.now)) }
-    ensures left { IfOk result (λ pushed. pushed ≡ false → text.new.items ≡ text.old.items) }
+    ensures put { result ≡ true →
+        Puts (plain_line names (map_ok (λ row. row.now) answer.entry)).text text.old text.new }
+    ensures plain { result ≡ true → IsOkAnd answer.entry (λ row. HasNoExpression row.now) }
+    ensures left { result ≡ false → text.new ≡ text.old }
 {
     let Ok(row) = answer else {
-        return Ok(false);
+        return false;
     };
     if !has_no_expression(row) {
-        return Ok(false);
+        return false;
     }
-    if !kept.keep(names, row.registers()) {
-        return Ok(false);
+    if !kept.keep(made, names, row.registers()) {
+        return false;
     }
-    push_row(text, names, kept, row)?;
-    Ok(true)
+    put_row(text, names, kept, row);
+    true
 }
 
 /// Returns whether no rule of the row is an expression.
@@ -196,19 +176,19 @@ fn have_no_expression(rules: RegisterRuleIter<'_, usize>) -> bool
     true
 }
 
-/// Appends the line of text of a row whose rules are kept. Fails where there is no room for it.
+/// Puts the line of text of a row whose rules are kept.
 #[inline]
-fn push_row<A: ArrayLike<Item = (Register, RegisterRule<usize>)>>(
-    text: &mut LineBuffer,
+fn put_row<A: ArrayLike<Item = (Register, RegisterRule<usize>)>>(
+    text: &mut Text,
     names: RegisterNames,
     kept: &KeptRules,
     row: &UnwindTableRow<usize, A>,
-) -> fmt::Result
+)
     requires kept { AreKept names kept.now }
     requires same { rules_of (kept_rules kept.now) ≡ row.now.parts.rules }
-    ensures { OnOk result (text.new.items ≡ text.old.items ++ (row_text names row.now ++ 10 ∷ [])) }
+    ensures { Puts (row_text names row.now ++ 10 ∷ []) text.old text.new }
 {
-    push_head(text, names, row)?;
-    push(text, kept.text())?;
-    push(text, b"\n")
+    put_head(text, &ByPlace, names, row);
+    text.put(kept.text());
+    text.put(b"\n");
 }

@@ -1,129 +1,104 @@
-//! The line of a row in text, with the place of each expression in the section.
-ghost use Rattle.std.specs.Prelude.{◌+◌, ◌++◌, [], ◌∷◌};
+//! The line of a row in text.
+ghost use Rattle.std.specs.Prelude.{◌≡◌, ◌++◌, [], ◌∷◌};
 ghost use Rattle.std.specs.FinMap as map;
 ghost use Rattle.cfi_read_core.specs.ReaderCalls.{map_ok};
 ghost use Rattle.cfi_state.specs.RegisterRuleIters.{rules_left};
 ghost use Rattle.cfi_state.specs.RulePairs.{IsRising, rules_of};
-ghost use Rattle.cfi_text.specs.WriterOutput.{Prints, Writes, WritesAfter};
+ghost use Rattle.cfi_text.specs.Texts.{Puts};
 ghost use Rattle.cfi_row_text.specs.AnswerLines.{plain_line};
-ghost use Rattle.cfi_row_text.specs.RowLines.{parts_rules, row_text, ruled, rules_by};
+ghost use Rattle.cfi_row_text.specs.RowLines.{row_saying, ruled_saying, rules_by, rules_saying};
 
+use crate::refusal_text::put_refusal;
 use crate::register_rules::{HasRules, is_rising};
-use crate::row_text::{push_head, push_ruled};
-use cfi_text::line_buffer::{LineBuffer, push};
-use cfi_text::lines::write_text;
-use cfi_text::refusals::write_refusal;
+use crate::row_text::{ByPlace, SaysExpressions, put_head, put_ruled_saying};
 use cfi_text::register_names::RegisterNames;
+use cfi_text::text::Text;
 use gimli_cfi::{ArrayLike, Error, Register, RegisterRule, RegisterRuleIter, UnwindTableRow};
-use std::io;
-use std::io::Write;
 
-/// How much text may wait for another rule, which has at most 70 bytes in either format.
-const FULL: usize = 950;
-
-/// Prints the line of an answer in text, and returns the status: 0 for a row, 1 for an error. An
-/// expression is printed as its place in the section.
-pub fn write_plain_answer<W: Write, A: ArrayLike<Item = (Register, RegisterRule<usize>)>>(
-    output: &mut W,
+/// Puts the line of an answer in text, and returns the status: 0 for a row, 1 for an error. An
+/// expression is said by its place in the section. Allocates where the text has no room.
+pub fn put_plain_answer<A: ArrayLike<Item = (Register, RegisterRule<usize>)>>(
+    text: &mut Text,
     names: RegisterNames,
     answer: Result<&UnwindTableRow<usize, A>, Error>,
-) -> io::Result<u8>
-    ensures { Prints (plain_line names (map_ok (λ row. row.now) answer.entry))
-        (W.contents output.old) (W.contents output.new) result }
+) -> u8
+    ensures text { Puts (plain_line names (map_ok (λ row. row.now) answer.entry)).text
+        text.old text.new }
+    ensures status { result ≡ (plain_line names (map_ok (λ row. row.now) answer.entry)).status }
 {
     match answer {
         Ok(row) => {
-            write_row(output, names, row)?;
-            Ok(0)
+            put_row(text, &ByPlace, names, row);
+            0
         }
-        Err(error) => write_refusal(output, error),
+        Err(error) => {
+            put_refusal(text, error);
+            1
+        }
     }
 }
 
-/// Writes the row as a line of text.
-fn write_row<W: Write, A: ArrayLike<Item = (Register, RegisterRule<usize>)>>(
-    output: &mut W,
+/// Puts the row as a line of text, its registers in ascending order.
+pub(crate) fn put_row<E: SaysExpressions, A: ArrayLike<Item = (Register, RegisterRule<usize>)>>(
+    text: &mut Text,
+    say: &E,
     names: RegisterNames,
     row: &UnwindTableRow<usize, A>,
-) -> io::Result<()>
-    ensures { Writes (W.contents output.old) (W.contents output.new) result
-        (row_text names row.now ++ 10 ∷ []) }
+)
+    ensures { Puts (row_saying (E.say say.now) names row.now ++ 10 ∷ []) text.old text.new }
 {
-    let mut text = LineBuffer::new();
-    push_head(&mut text, names, row)?;
-    write_rules(output, &mut text, names, row)?;
-    push(&mut text, b"\n")?;
-    write_text(output, text.as_slice())
+    put_head(text, say, names, row);
+    put_rules(text, say, names, row);
+    text.put(b"\n");
 }
 
-/// Appends the rules, in ascending order of the registers. Writes the text where it is long.
-fn write_rules<W: Write, A: ArrayLike<Item = (Register, RegisterRule<usize>)>>(
-    output: &mut W,
-    text: &mut LineBuffer,
+/// Puts the rules, in ascending order of the registers.
+fn put_rules<E: SaysExpressions, A: ArrayLike<Item = (Register, RegisterRule<usize>)>>(
+    text: &mut Text,
+    say: &E,
     names: RegisterNames,
     row: &UnwindTableRow<usize, A>,
-) -> io::Result<()>
-    ensures { WritesAfter text.old.items text.new.items
-        (W.contents output.old) (W.contents output.new) result (parts_rules names row.now.parts) }
+)
+    ensures { Puts (rules_saying (E.say say.now) names row.now.parts) text.old text.new }
 {
     let rules = row.registers();
     if is_rising(rules) {
-        write_rising(output, text, names, rules)
+        put_rising(text, say, names, rules)
     } else {
-        write_by_number(output, text, names, row)
+        put_by_number(text, say, names, row)
     }
 }
 
-/// Appends the rules in the order in which they are.
-fn write_rising<W: Write>(
-    output: &mut W,
-    text: &mut LineBuffer,
+/// Puts the rules in the order in which they are.
+pub(crate) fn put_rising<E: SaysExpressions>(
+    text: &mut Text,
+    say: &E,
     names: RegisterNames,
     rules: RegisterRuleIter<'_, usize>,
-) -> io::Result<()>
+)
     requires { IsRising (rules_left rules) }
     ensures { let rule_of = map.get (rules_of (rules_left rules.entry)) in
-        WritesAfter text.old.items text.new.items
-        (W.contents output.old) (W.contents output.new) result
-        (rules_by (ruled names) 65536 0 rule_of) }
+        Puts (rules_by (ruled_saying (E.say say.now) names) 65536 0 rule_of) text.old text.new }
 {
     for (register, rule) in rules {
-        make_room(output, text)?;
-        push_ruled(text, names, *register, *rule)?;
+        put_ruled_saying(text, say, names, *register, *rule);
     }
-    Ok(())
 }
 
-/// Appends the rules, each looked up by its number. Writes the text where it is long.
-fn write_by_number<W: Write, H: HasRules>(
-    output: &mut W,
-    text: &mut LineBuffer,
+/// Puts the rules, each looked up by its number.
+pub(crate) fn put_by_number<E: SaysExpressions, H: HasRules>(
+    text: &mut Text,
+    say: &E,
     names: RegisterNames,
     row: &H,
-) -> io::Result<()>
-    ensures { let rules = parts_rules names (H.parts row.now) in
-        WritesAfter text.old.items text.new.items
-        (W.contents output.old) (W.contents output.new) result rules }
+)
+    ensures { Puts (rules_saying (E.say say.now) names (H.parts row.now)) text.old text.new }
 {
     let end = row.end();
     for number in 0..end {
         let register = Register(number as u16);
         if let Some(rule) = row.rule(register) {
-            make_room(output, text)?;
-            push_ruled(text, names, register, rule)?;
+            put_ruled_saying(text, say, names, register, rule);
         }
     }
-    Ok(())
-}
-
-/// Writes the text where it is too long for another rule.
-fn make_room<W: Write>(output: &mut W, text: &mut LineBuffer) -> io::Result<()>
-    ensures { WritesAfter text.old.items text.new.items
-        (W.contents output.old) (W.contents output.new) result [] }
-{
-    if text.len() > FULL {
-        write_text(output, text.as_slice())?;
-        text.clear();
-    }
-    Ok(())
 }

@@ -1,68 +1,114 @@
-//! The parts of a row in text, with the place of each expression in the section.
-ghost use Rattle.std.specs.Prelude.{◌≡◌, ◌≤◌, ◌+◌, ◌++◌, ◌∷◌, OnOk, codes, ◌<◌, IfSome};
+//! The parts of a row in text.
+ghost use Rattle.std.specs.Prelude.{◌≡◌, ◌<◌, ◌≤◌, ◌++◌, ◌∷◌, ℕ, List, IfSome, codes};
 ghost use Rattle.std.specs.Fmt.{decimal, signed_decimal};
-ghost use Rattle.cfi_text.specs.RegisterNames.{register_text};
+ghost use Rattle.cfi_read_core.specs.declared.instruction.UnwindExpression.{UnwindExpression};
+ghost use Rattle.cfi_text.specs.RegisterNames.{register_text, shown_name};
+ghost use Rattle.cfi_text.specs.Texts.{Puts};
 ghost use Rattle.cfi_text.specs.declared.register_names.RegisterNames.TheVariants.{X86_64};
-ghost use Rattle.cfi_row_text.specs.RowLines.{cfa_text, expression_text, offset_text, row_head};
-ghost use Rattle.cfi_row_text.specs.RowLines.{rule_text, ruled};
+ghost use Rattle.cfi_row_text.specs.RowLines.{cfa_saying, expression_text, frame_saying};
+ghost use Rattle.cfi_row_text.specs.RowLines.{head_saying, offset_text, rule_saying, ruled};
+ghost use Rattle.cfi_row_text.specs.RowLines.{ruled_saying};
 
-use cfi_text::line_buffer::{LineBuffer, push};
-use cfi_text::numbers::{push_address, push_decimal, push_signed};
-use cfi_text::register_names::RegisterNames;
+use cfi_text::register_names::{RegisterName, RegisterNames};
+use cfi_text::text::Text;
 use gimli_cfi::{ArrayLike, CfaRule, Register, RegisterRule, UnwindExpression, UnwindTableRow};
-use std::fmt;
 
-/// Appends the name of the register.
-fn push_register(text: &mut LineBuffer, names: RegisterNames, register: Register) -> fmt::Result
-    ensures { OnOk result (text.new.items ≡ text.old.items ++ register_text names register.0) }
-{
-    let name = names.name(register.0);
-    push(text, name.text.as_bytes())?;
-    match name.number {
-        Some(number) => push_decimal(text, number as u64),
-        None => Ok(()),
+/// How the expressions of a row are said.
+pub(crate) trait SaysExpressions {
+    /// What is said of an expression.
+    ghost say: { Self → UnwindExpression ℕ → List ℕ };
+
+    /// Puts what is said of an expression.
+    fn put_said(&self, text: &mut Text, expression: UnwindExpression<usize>)
+        ensures { Puts (say self.now expression) text.old text.new };
+}
+
+/// Says an expression by its place in the section.
+#[derive(Clone, Copy)]
+pub(crate) struct ByPlace;
+
+impl SaysExpressions for ByPlace {
+    ghost say = { λ _. expression_text };
+
+    fn put_said(&self, text: &mut Text, expression: UnwindExpression<usize>) {
+        put_expression(text, expression);
     }
 }
 
-/// Appends an offset from a register, with its sign.
+/// Puts where an expression is, and its length.
+fn put_expression(text: &mut Text, expression: UnwindExpression<usize>)
+    ensures { Puts (expression_text expression) text.old text.new }
+{
+    text.put(b"expr@");
+    text.number(expression.offset);
+    text.put(b":");
+    text.number(expression.length);
+}
+
+/// Puts the name of a register.
+pub(crate) fn put_register(text: &mut Text, names: RegisterNames, register: Register)
+    ensures { Puts (register_text names register.0) text.old text.new }
+{
+    put_name(text, names.name(register.0));
+}
+
+/// Puts a name.
+fn put_name(text: &mut Text, name: RegisterName)
+    ensures { Puts (shown_name name) text.old text.new }
+{
+    text.put(name.text.as_bytes());
+    match name.number {
+        Some(number) => text.number(number),
+        None => {}
+    }
+}
+
+/// Puts a register and an offset from its value.
+pub(crate) fn put_offset_from(
+    text: &mut Text,
+    names: RegisterNames,
+    register: Register,
+    offset: i64,
+)
+    ensures { Puts (register_text names register.0 ++ offset_text offset) text.old text.new }
+{
+    put_register(text, names, register);
+    put_offset(text, offset);
+}
+
+/// Puts an offset from a register, with its sign.
 #[inline]
-fn push_offset(text: &mut LineBuffer, offset: i64) -> fmt::Result
-    ensures { OnOk result (text.new.items ≡ text.old.items ++ offset_text offset) }
+fn put_offset(text: &mut Text, offset: i64)
+    ensures { Puts (offset_text offset) text.old text.new }
 {
     if offset >= 0 {
-        push(text, b"+")?;
+        text.put(b"+");
     }
-    push_signed(text, offset)
+    text.number(offset);
 }
 
-/// Appends where an expression is, and its length.
-fn push_expression(text: &mut LineBuffer, expression: UnwindExpression<usize>) -> fmt::Result
-    ensures { OnOk result (text.new.items ≡ text.old.items ++ expression_text expression) }
+/// Puts the rule of the canonical frame address and the argument size, each after its name.
+/// Allocates where the text has no room.
+pub fn put_frame(text: &mut Text, names: RegisterNames, cfa: CfaRule<usize>, args_size: u64)
+    ensures { Puts (frame_saying expression_text names cfa args_size) text.old text.new }
 {
-    push(text, b"expr@")?;
-    push_decimal(text, expression.offset as u64)?;
-    push(text, b":")?;
-    push_decimal(text, expression.length as u64)
+    put_frame_saying(text, &ByPlace, names, cfa, args_size);
 }
 
-/// Appends the rule of the canonical frame address and the argument size, each after its name.
-/// Fails where there is no room for them.
-pub fn push_frame(
-    text: &mut LineBuffer,
+/// Puts the same, with expressions said so.
+pub(crate) fn put_frame_saying<E: SaysExpressions>(
+    text: &mut Text,
+    say: &E,
     names: RegisterNames,
     cfa: CfaRule<usize>,
     args_size: u64,
-) -> fmt::Result
-    ensures { OnOk result (text.new.items ≡ text.old.items
-        ++ codes " cfa=" ++ cfa_text names cfa ++ codes " args=" ++ decimal args_size) }
+)
+    ensures { Puts (frame_saying (E.say say.now) names cfa args_size) text.old text.new }
 {
     // Most rows of x86-64 have the CFA a little above the stack pointer.
     match stack_offset(names, cfa, args_size) {
-        Some(offset) => push_stack_frame(text, offset),
-        None => {
-            push_named_cfa(text, names, cfa)?;
-            push_args_size(text, args_size)
-        }
+        Some(offset) => put_stack_frame(text, offset),
+        None => put_named_frame(text, say, names, cfa, args_size),
     }
 }
 
@@ -70,8 +116,9 @@ pub fn push_frame(
 /// there are no arguments.
 #[inline(always)]
 fn stack_offset(names: RegisterNames, cfa: CfaRule<usize>, args_size: u64) -> Option<u8>
-    ensures { IfSome result (λ offset. (names ≡ X86_64) × (args_size ≡ 0) × (offset < 100)
-        × (cfa_text names cfa ≡ codes "rsp+" ++ decimal offset)) }
+    ensures { IfSome result (λ offset. (offset < 100) × (args_size ≡ 0)
+        × ((say : UnwindExpression ℕ → List ℕ) →
+        cfa_saying say names cfa ≡ codes "rsp+" ++ decimal offset)) }
 {
     let CfaRule::RegisterAndOffset { register, offset } = cfa else {
         return None;
@@ -84,203 +131,191 @@ fn stack_offset(names: RegisterNames, cfa: CfaRule<usize>, args_size: u64) -> Op
     None
 }
 
-/// Appends an offset of the CFA from the stack pointer, and that there are no arguments. Fails
-/// where there is no room for them.
+/// Puts an offset of the CFA from the stack pointer, and that there are no arguments.
 #[inline(always)]
-fn push_stack_frame(text: &mut LineBuffer, offset: u8) -> fmt::Result
+fn put_stack_frame(text: &mut Text, offset: u8)
     requires { offset < 100 }
-    ensures { OnOk result (text.new.items
-        ≡ text.old.items ++ (codes " cfa=rsp+" ++ decimal offset ++ codes " args=0")) }
+    ensures { Puts (codes " cfa=rsp+" ++ decimal offset ++ codes " args=0") text.old text.new }
 {
     let tens = b'0' + offset / 10;
     let ones = b'0' + offset % 10;
     if offset < 10 {
-        push_with_digit(text, ones)
+        put_with_digit(text, ones)
     } else {
-        push_with_digits(text, tens, ones)
+        put_with_digits(text, tens, ones)
     }
 }
 
-/// Appends the same with one digit.
+/// Puts the same with one digit.
 #[inline(always)]
-fn push_with_digit(text: &mut LineBuffer, ones: u8) -> fmt::Result
-    ensures { OnOk result (text.new.items
-        ≡ text.old.items ++ (codes " cfa=rsp+" ++ ones ∷ codes " args=0")) }
+fn put_with_digit(text: &mut Text, ones: u8)
+    ensures { Puts (codes " cfa=rsp+" ++ ones ∷ codes " args=0") text.old text.new }
 {
     let mut line = *b" cfa=rsp+_ args=0";
     line[9] = ones;
-    push(text, &line)
+    text.put(&line);
 }
 
-/// Appends the same with two digits.
+/// Puts the same with two digits.
 #[inline(always)]
-fn push_with_digits(text: &mut LineBuffer, tens: u8, ones: u8) -> fmt::Result
-    ensures { OnOk result (text.new.items
-        ≡ text.old.items ++ (codes " cfa=rsp+" ++ tens ∷ ones ∷ codes " args=0")) }
+fn put_with_digits(text: &mut Text, tens: u8, ones: u8)
+    ensures { Puts (codes " cfa=rsp+" ++ tens ∷ ones ∷ codes " args=0") text.old text.new }
 {
     let mut line = *b" cfa=rsp+__ args=0";
     line[9] = tens;
     line[10] = ones;
-    push(text, &line)
+    text.put(&line);
 }
 
-/// Appends the rule of the canonical frame address after its name.
-#[inline]
-fn push_named_cfa(text: &mut LineBuffer, names: RegisterNames, cfa: CfaRule<usize>) -> fmt::Result
-    ensures { OnOk result (text.new.items
-        ≡ text.old.items ++ (codes " cfa=" ++ cfa_text names cfa)) }
+/// Puts the rule of any canonical frame address and the argument size, each after its name.
+fn put_named_frame<E: SaysExpressions>(
+    text: &mut Text,
+    say: &E,
+    names: RegisterNames,
+    cfa: CfaRule<usize>,
+    args_size: u64,
+)
+    ensures { Puts (frame_saying (E.say say.now) names cfa args_size) text.old text.new }
+{
+    text.put(b" cfa=");
+    put_cfa(text, say, names, cfa);
+    text.put(b" args=");
+    text.number(args_size);
+}
+
+/// Puts the rule of the canonical frame address.
+pub(crate) fn put_cfa<E: SaysExpressions>(
+    text: &mut Text,
+    say: &E,
+    names: RegisterNames,
+    cfa: CfaRule<usize>,
+)
+    ensures { Puts (cfa_saying (E.say say.now) names cfa) text.old text.new }
 {
     match cfa {
         CfaRule::RegisterAndOffset { register, offset } => {
-            push_cfa_register(text, names, register)?;
-            push_offset(text, offset)
+            put_offset_from(text, names, register, offset)
         }
-        CfaRule::Expression(expression) => {
-            push(text, b" cfa=")?;
-            push_expression(text, expression)
-        }
+        CfaRule::Expression(expression) => say.put_said(text, expression),
     }
 }
 
-/// Appends the register of the canonical frame address. Those of x86-64 mostly are two.
-#[inline]
-fn push_cfa_register(text: &mut LineBuffer, names: RegisterNames, register: Register) -> fmt::Result
-    ensures { OnOk result (text.new.items
-        ≡ text.old.items ++ (codes " cfa=" ++ register_text names register.0)) }
-{
-    match (names, register.0) {
-        (RegisterNames::X86_64, 6) => push(text, b" cfa=rbp"),
-        (RegisterNames::X86_64, 7) => push(text, b" cfa=rsp"),
-        _ => {
-            push(text, b" cfa=")?;
-            push_register(text, names, register)
-        }
-    }
-}
-
-/// Appends the argument size after its name. It mostly is 0.
-#[inline]
-fn push_args_size(text: &mut LineBuffer, args_size: u64) -> fmt::Result
-    ensures { OnOk result (text.new.items
-        ≡ text.old.items ++ (codes " args=" ++ decimal args_size)) }
-{
-    if args_size == 0 {
-        return push(text, b" args=0");
-    }
-    push(text, b" args=")?;
-    push_decimal(text, args_size)
-}
-
-/// Appends the rule of a register.
-fn push_rule(text: &mut LineBuffer, names: RegisterNames, rule: RegisterRule<usize>) -> fmt::Result
-    ensures { OnOk result (text.new.items ≡ text.old.items ++ rule_text names rule) }
+/// Puts the rule of a register.
+pub(crate) fn put_rule<E: SaysExpressions>(
+    text: &mut Text,
+    say: &E,
+    names: RegisterNames,
+    rule: RegisterRule<usize>,
+)
+    ensures { Puts (rule_saying (E.say say.now) names rule) text.old text.new }
 {
     match rule {
-        RegisterRule::Undefined => push(text, b"undefined"),
-        RegisterRule::SameValue => push(text, b"same"),
-        RegisterRule::Offset(offset) => push_cfa_offset(text, offset),
-        RegisterRule::ValOffset(offset) => {
-            push(text, b"val_")?;
-            push_cfa_offset(text, offset)
-        }
-        RegisterRule::Register(register) => push_register(text, names, register),
-        RegisterRule::Expression(expression) => push_expression(text, expression),
+        RegisterRule::Undefined => text.put(b"undefined"),
+        RegisterRule::SameValue => text.put(b"same"),
+        RegisterRule::Offset(offset) => put_cfa_offset(text, offset),
+        RegisterRule::ValOffset(offset) => put_val_offset(text, offset),
+        RegisterRule::Register(register) => put_register(text, names, register),
+        RegisterRule::Expression(expression) => say.put_said(text, expression),
         RegisterRule::ValExpression(expression) => {
-            push(text, b"val_")?;
-            push_expression(text, expression)
+            text.put(b"val_");
+            say.put_said(text, expression);
         }
-        RegisterRule::Architectural => push(text, b"architectural"),
+        RegisterRule::Architectural => text.put(b"architectural"),
         RegisterRule::Constant(value) => {
-            push(text, b"constant(")?;
-            push_decimal(text, value)?;
-            push(text, b")")
+            text.put(b"constant(");
+            text.number(value);
+            text.put(b")");
         }
     }
 }
 
-/// Appends an offset from the CFA.
-fn push_cfa_offset(text: &mut LineBuffer, offset: i64) -> fmt::Result
-    ensures { OnOk result (text.new.items ≡ text.old.items
-        ++ (codes "offset(" ++ signed_decimal offset ++ codes ")")) }
+/// Puts an offset from the CFA.
+fn put_cfa_offset(text: &mut Text, offset: i64)
+    ensures { Puts (codes "offset(" ++ signed_decimal offset ++ codes ")") text.old text.new }
 {
-    if offset < 0 {
-        push(text, b"offset(-")?;
-    } else {
-        push(text, b"offset(")?;
-    }
-    push_decimal(text, offset.unsigned_abs())?;
-    push(text, b")")
+    text.put(b"offset(");
+    text.number(offset);
+    text.put(b")");
 }
 
-/// Appends a register and its rule, after a space. Fails where there is no room for them.
-pub fn push_ruled(
-    text: &mut LineBuffer,
+/// Puts an offset of a value from the CFA.
+fn put_val_offset(text: &mut Text, offset: i64)
+    ensures { Puts (codes "val_offset(" ++ signed_decimal offset ++ codes ")")
+        text.old text.new }
+{
+    text.put(b"val_offset(");
+    text.number(offset);
+    text.put(b")");
+}
+
+/// Puts a register and its rule, after a space. Allocates where the text has no room.
+pub fn put_ruled(
+    text: &mut Text,
     names: RegisterNames,
     register: Register,
     rule: RegisterRule<usize>,
-) -> fmt::Result
-    ensures text { OnOk result (text.new.items
-        ≡ text.old.items ++ ruled names register.0 rule) }
+)
+    ensures text { Puts (ruled names register.0 rule) text.old text.new }
     ensures within { register.0 ≤ 65535 }
 {
-    push_rule_register(text, names, register)?;
-    push_rule(text, names, rule)
+    put_ruled_saying(text, &ByPlace, names, register, rule);
 }
 
-/// Appends the register of a rule, after a space, and an equals sign.
-#[inline]
-fn push_rule_register(
-    text: &mut LineBuffer,
+/// Puts the same, with expressions said so.
+pub(crate) fn put_ruled_saying<E: SaysExpressions>(
+    text: &mut Text,
+    say: &E,
     names: RegisterNames,
     register: Register,
-) -> fmt::Result
-    ensures text { OnOk result (text.new.items ≡ text.old.items
-        ++ (codes " " ++ register_text names register.0 ++ codes "=")) }
+    rule: RegisterRule<usize>,
+)
+    ensures text { Puts (ruled_saying (E.say say.now) names register.0 rule) text.old text.new }
     ensures within { register.0 ≤ 65535 }
 {
-    match names {
-        RegisterNames::X86_64 => push_saved_register(text, register),
-        _ => push_any_register(text, names, register),
-    }
+    put_rule_register(text, names, register);
+    put_rule(text, say, names, rule);
 }
 
-/// The same for x86-64, where mostly a function's own registers and the return address are saved.
-fn push_saved_register(text: &mut LineBuffer, register: Register) -> fmt::Result
-    ensures { OnOk result (text.new.items ≡ text.old.items
-        ++ (codes " " ++ register_text X86_64 register.0 ++ codes "=")) }
+/// Puts the register of a rule, after a space, and an equals sign. Those of x86-64 mostly are a
+/// function's own and the return address.
+#[inline]
+fn put_rule_register(text: &mut Text, names: RegisterNames, register: Register)
+    ensures { Puts (codes " " ++ register_text names register.0 ++ codes "=")
+        text.old text.new }
 {
-    match register.0 {
-        3 => push(text, b" rbx="),
-        6 => push(text, b" rbp="),
-        12 => push(text, b" r12="),
-        13 => push(text, b" r13="),
-        14 => push(text, b" r14="),
-        15 => push(text, b" r15="),
-        16 => push(text, b" ra="),
-        _ => push_any_register(text, RegisterNames::X86_64, register),
+    match (names, register.0) {
+        (RegisterNames::X86_64, 3) => text.put(b" rbx="),
+        (RegisterNames::X86_64, 6) => text.put(b" rbp="),
+        (RegisterNames::X86_64, 12) => text.put(b" r12="),
+        (RegisterNames::X86_64, 13) => text.put(b" r13="),
+        (RegisterNames::X86_64, 14) => text.put(b" r14="),
+        (RegisterNames::X86_64, 15) => text.put(b" r15="),
+        (RegisterNames::X86_64, 16) => text.put(b" ra="),
+        _ => put_any_register(text, names, register),
     }
 }
 
 /// The same for any register.
-fn push_any_register(text: &mut LineBuffer, names: RegisterNames, register: Register) -> fmt::Result
-    ensures { OnOk result (text.new.items ≡ text.old.items
-        ++ (codes " " ++ register_text names register.0 ++ codes "=")) }
+fn put_any_register(text: &mut Text, names: RegisterNames, register: Register)
+    ensures { Puts (codes " " ++ register_text names register.0 ++ codes "=")
+        text.old text.new }
 {
-    push(text, b" ")?;
-    push_register(text, names, register)?;
-    push(text, b"=")
+    text.put(b" ");
+    put_register(text, names, register);
+    text.put(b"=");
 }
 
-/// Appends what comes before the rules: the addresses, the CFA and the argument size.
-pub(crate) fn push_head<A: ArrayLike<Item = (Register, RegisterRule<usize>)>>(
-    text: &mut LineBuffer,
+/// Puts what comes before the rules: the addresses, the CFA and the argument size.
+pub(crate) fn put_head<E: SaysExpressions, A: ArrayLike<Item = (Register, RegisterRule<usize>)>>(
+    text: &mut Text,
+    say: &E,
     names: RegisterNames,
     row: &UnwindTableRow<usize, A>,
-) -> fmt::Result
-    ensures { OnOk result (text.new.items ≡ text.old.items ++ row_head names row.now) }
+)
+    ensures { Puts (head_saying (E.say say.now) names row.now) text.old text.new }
 {
-    push_address(text, row.start_address())?;
-    push(text, b" ")?;
-    push_address(text, row.end_address())?;
-    push_frame(text, names, *row.cfa(), row.saved_args_size())
+    text.address(row.start_address());
+    text.put(b" ");
+    text.address(row.end_address());
+    put_frame_saying(text, say, names, *row.cfa(), row.saved_args_size());
 }
