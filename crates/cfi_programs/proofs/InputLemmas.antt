@@ -7,9 +7,10 @@ use Rattle.std.proofs.lemmas.List.{drop_all, get_or-take, length-take-le}
 use Rattle.std.proofs.lemmas.List.Sums.{passes_at_first, position_or_len_is}
 use Rattle.std.specs.List.{All, after_first, position_or_len}
 use Rattle.hex.specs.declared.error.FromHexError.{FromHexError}
+use Rattle.hex.specs.declared.error.FromHexError.TheVariants as errors
 use Rattle.cfi_text.specs.declared.reading.InputError.{InputError}
 use Rattle.cfi_text.specs.declared.reading.InputError.TheVariants.{Unreadable, NotHexadecimal, OutOfMemory}
-use Rattle.cfi_programs.specs.Input.{IsDecoded, bytes_by, decoded_bytes, is_line_feed, with_header}
+use Rattle.cfi_programs.specs.Input.{IsDecoded, bytes_by, decoded_bytes, is_line_feed, refusal_of, with_header}
 
 -- ---- two parts
 
@@ -56,3 +57,12 @@ whole_refused header text e none (inr (digits, err)) = rw (digits, none) (no_byt
 pub not_unreadable : (text : List ℕ) (e : InputError) → IsRefusedAs text e → e ≢ Unreadable
 not_unreadable text e (inl memory) is = cc
 not_unreadable text e (inr (digits, err)) is = cc
+
+pub refused_as : (text : List ℕ) (e : FromHexError) → (e ≡ errors.OutOfMemory) ⊎ (decoded_bytes text ≡ Err e) → IsRefusedAs text (refusal_of e)
+refused_as text errors.OutOfMemory why = inl refl
+refused_as text (errors.InvalidHexCharacter c i) (inl memory) = cc
+refused_as text (errors.InvalidHexCharacter c i) (inr is) = inr (refl, rw is refl)
+refused_as text errors.OddLength (inl memory) = cc
+refused_as text errors.OddLength (inr is) = inr (refl, rw is refl)
+refused_as text errors.InvalidStringLength (inl memory) = cc
+refused_as text errors.InvalidStringLength (inr is) = inr (refl, rw is refl)

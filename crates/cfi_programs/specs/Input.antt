@@ -9,6 +9,7 @@ use Rattle.cfi_text.specs.declared.reading.InputError.TheVariants.{Unreadable, N
 use Rattle.cfi_text.specs.declared.reading.InputError.TheVariants.{OutOfMemory}
 use Rattle.cfi_programs.specs.declared.input.Sections.{Sections}
 use Rattle.hex.specs.declared.error.FromHexError.{FromHexError}
+use Rattle.hex.specs.declared.error.FromHexError.TheVariants as errors
 
 -- a space, a tab, a carriage return or a line feed
 abbrev pub is_space : ℕ → Bool
@@ -22,6 +23,11 @@ without_spaces input = filter (λ c. not (is_space c)) input
 
 abbrev pub decoded_bytes : List ℕ → Result (List ℕ) FromHexError
 decoded_bytes input = decode_of (without_spaces input)
+
+-- why a text isn't decoded
+abbrev pub refusal_of : FromHexError → InputError
+refusal_of errors.OutOfMemory = OutOfMemory
+refusal_of _ = NotHexadecimal
 
 pub record Bytes : Type 0 where
   pub section : List ℕ

@@ -5,7 +5,7 @@ ghost use Rattle.std.specs.List.{All, before_first, after_first};
 ghost use Rattle.cfi_read_core.specs.ReaderCalls.{map_ok};
 ghost use Rattle.cfi_programs.specs.Input.{IsDecoded, ReadsSections, bytes_by};
 ghost use Rattle.cfi_programs.specs.Input.{bytes_of_sections, decoded_bytes, is_line_feed};
-ghost use Rattle.cfi_programs.specs.Input.{is_space};
+ghost use Rattle.cfi_programs.specs.Input.{is_space, refusal_of};
 
 use cfi_text::reading::{InputError, read_all};
 use hex::FromHexError;
@@ -100,8 +100,17 @@ fn decode(alloc: Global, text: Vec<u8>) -> Result<Vec<u8>, InputError>
     digits.retain(|byte| !is_space_byte(*byte));
     match hex::decode(alloc, digits.as_slice()) {
         Ok(bytes) => Ok(bytes),
-        Err(FromHexError::OutOfMemory) => Err(InputError::OutOfMemory),
-        Err(_) => Err(InputError::NotHexadecimal),
+        Err(error) => Err(refusal_of(error)),
+    }
+}
+
+/// Returns why a text isn't decoded.
+fn refusal_of(error: FromHexError) -> InputError
+    ensures { result ≡ refusal_of error }
+{
+    match error {
+        FromHexError::OutOfMemory => InputError::OutOfMemory,
+        _ => InputError::NotHexadecimal,
     }
 }
 

@@ -81,7 +81,8 @@ impl KeptRows {
         names: RegisterNames,
         answer: Result<&UnwindTableRow<usize, A>, Error>,
     ) -> bool
-        ensures put { result ≡ true → Puts (plain_line names (map_ok (λ row. row.now) answer.entry)).text
+        ensures put { result ≡ true →
+            Puts (plain_line names (map_ok (λ row. row.now) answer.entry)).text
             text.old text.new }
         ensures plain { result ≡ true → IsOkAnd answer.entry (λ row. HasNoExpression row.now) }
         ensures left { result ≡ false → text.new ≡ text.old }
