@@ -36,7 +36,6 @@ use Rattle.cfi_dump.specs.FdeRows.{setting_of_fde, fde_rows, answer_lines}
 use Rattle.cfi_dump.specs.Sending.{HasBegun, IsSent, Sends}
 use Rattle.cfi_dump.proofs.SendingLemmas.{Fails, IsLeft, Passes, left_failed, left_first, left_none, left_then}
 
-
 -- ---- the answers of a table
 
 abbrev Lent : Type 0

@@ -42,18 +42,18 @@ verdict_text (verdicts.Unfaithful reason) = reason_text reason
 verdict_text verdicts.NoTable = codes "header: has no table"
 verdict_text (verdicts.Refused error) = reason_text (reasons.Header error)
 
--- in JSON what was found, and why, as the members after the name of the file
-abbrev pub reasoned : List ℕ → List ℕ → List ℕ
-reasoned found reason =
-    codes "\"result\":\"" ++ (found ++ (codes "\",\"reason\":\"" ++ (reason ++ codes "\"}\n")))
+-- in JSON, as the members after the name of the file
+abbrev pub unfaithful_object : Unfaithful → List ℕ
+unfaithful_object reason =
+    codes "\"result\":\"unfaithful\",\"reason\":\"" ++ (reason_text reason ++ codes "\"}\n")
 
 abbrev pub verdict_object : Verdict → List ℕ
 verdict_object (verdicts.Faithful rows) =
     codes "\"result\":\"faithful\",\"rows\":" ++ (json_number rows ++ codes "}\n")
-verdict_object (verdicts.Unfaithful reason) = reasoned (codes "unfaithful") (reason_text reason)
-verdict_object verdicts.NoTable = reasoned (codes "no table") (codes "header: has no table")
-verdict_object (verdicts.Refused error) =
-    reasoned (codes "unfaithful") (reason_text (reasons.Header error))
+verdict_object (verdicts.Unfaithful reason) = unfaithful_object reason
+verdict_object verdicts.NoTable =
+    codes "\"result\":\"no table\",\"reason\":\"header: has no table\"}\n"
+verdict_object (verdicts.Refused error) = unfaithful_object (reasons.Header error)
 
 abbrev pub verdict_line : Format → Verdict → List ℕ
 verdict_line Text verdict = verdict_text verdict ++ 10 ∷ []

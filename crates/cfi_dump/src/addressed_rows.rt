@@ -201,7 +201,8 @@ fn put_addresses<R: Reader<Offset = usize>>(
         text.old text.new }
 {
     let start = fde.initial_address();
-    put_line(text, format, start, fde.end_address(), functions.name_at(start));
+    let name = functions.name_at(start);
+    put_line(text, format, start, fde.end_address(), name);
 }
 
 /// Appends the line of the addresses, from the first up to the end, and of the name.

@@ -10,7 +10,7 @@ ghost use Rattle.cfi_entry.specs.Sections.{section_of};
 ghost use Rattle.cfi_unwind.specs.FdeViews.{HasCieOf, IsFdeOf, fde_view};
 ghost use Rattle.cfi_unwind.specs.UnwindTableViews.{table_state};
 ghost use Rattle.cfi_row_text.specs.AnswerLines.{answer_line};
-ghost use Rattle.cfi_row_text.specs.Wordings.{of_section, worded};
+ghost use Rattle.cfi_row_text.specs.Wordings.{of_section, text_style, worded};
 ghost use Rattle.cfi_text.specs.Texts.{Puts};
 ghost use Rattle.cfi_dump.specs.FdeRows.{answer_lines, fde_rows};
 ghost use Rattle.cfi_dump.specs.Sending.{Sends};
@@ -21,6 +21,7 @@ use cfi_entry::in_section::InSection;
 use cfi_row_text::plain_rows::KeptRows;
 use cfi_row_text::row_words::put_answer;
 use cfi_row_text::style::Style;
+use cfi_text::register_names::RegisterNames;
 use cfi_text::style::Format;
 use cfi_text::text::Text;
 use gimli_cfi::{
@@ -82,8 +83,7 @@ fn write_table<R: Reader<Offset = usize>, S: UnwindSection<R>, W: Write>(
     Ok(())
 }
 
-/// Appends the line of an answer. In text, rules that are those of an earlier row mostly take their
-/// text from it.
+/// Appends the line of an answer.
 #[inline]
 fn put_line<
     R: Reader<Offset = usize>,
@@ -101,13 +101,34 @@ fn put_line<
         Puts (answer_line wording (map_ok (λ row. row.now) answer.entry)).text text.old text.new }
 {
     match style.format {
-        Format::Text => {
-            if !kept.put_next(text, style.names, answer) {
-                put_answer(text, style, section, answer);
-            }
-        }
+        Format::Text => put_text_line(text, kept, style.names, section, answer),
         Format::Json => {
             put_answer(text, style, section, answer);
         }
     }
+}
+
+/// Appends the line of text of an answer. Rules that are those of an earlier row mostly take their
+/// text from it.
+#[inline]
+fn put_text_line<
+    R: Reader<Offset = usize>,
+    S: UnwindSection<R>,
+    A: ArrayLike<Item = (Register, RegisterRule<usize>)>,
+>(
+    text: &mut Text,
+    kept: &mut KeptRows,
+    names: RegisterNames,
+    section: &S,
+    answer: Result<&UnwindTableRow<usize, A>, Error>,
+)
+    ensures { let from = S.view section.now in
+        let wording = worded (text_style names) from.address_size from.position in
+        Puts (answer_line wording (map_ok (λ row. row.now) answer.entry)).text text.old text.new }
+{
+    if kept.put_next(text, names, answer) {
+        return;
+    }
+    let format = Format::Text;
+    put_answer(text, Style { names, format }, section, answer);
 }

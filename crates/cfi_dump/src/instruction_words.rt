@@ -67,7 +67,8 @@ pub(crate) fn put_instruction<R: Reader<Offset = usize>, S: UnwindSection<R>>(
             register,
             factored_offset: offset,
         } => {
-            put_register(text, names, b"DW_CFA_offset_extended_sf register=", register);
+            let name = b"DW_CFA_offset_extended_sf register=";
+            put_register(text, names, name, register);
             put_signed(text, b" factored_offset=", offset);
         }
         Instruction::OffsetExtendedNegative {
@@ -93,11 +94,11 @@ pub(crate) fn put_instruction<R: Reader<Offset = usize>, S: UnwindSection<R>>(
             put_signed(text, b" factored_offset=", offset);
         }
         Instruction::Register {
-            dest_register,
-            src_register,
+            dest_register: dest,
+            src_register: src,
         } => {
-            put_register(text, names, b"DW_CFA_register dest_register=", dest_register);
-            put_register(text, names, b" src_register=", src_register);
+            put_register(text, names, b"DW_CFA_register dest_register=", dest);
+            put_register(text, names, b" src_register=", src);
         }
         Instruction::Expression {
             register,

@@ -1,8 +1,7 @@
 //! The line that says whether the table of a header is faithful to its section.
-ghost use Rattle.std.specs.Prelude.{codes};
 ghost use Rattle.cfi_text.specs.Texts.{Puts};
-ghost use Rattle.cfi_dump.specs.CheckLines.{reason_text, reasoned, refused_text, verdict_line};
-ghost use Rattle.cfi_dump.specs.CheckLines.{verdict_object, verdict_text};
+ghost use Rattle.cfi_dump.specs.CheckLines.{reason_text, refused_text, unfaithful_object};
+ghost use Rattle.cfi_dump.specs.CheckLines.{verdict_line, verdict_object, verdict_text};
 
 use cfi_text::error_words::ErrorWords;
 use cfi_text::style::Format;
@@ -58,7 +57,7 @@ fn put_object(text: &mut Text, verdict: Verdict)
 
 /// Appends the end of an object of JSON for a table that isn't faithful, with the reason.
 fn put_unfaithful(text: &mut Text, reason: Unfaithful)
-    ensures { Puts (reasoned (codes "unfaithful") (reason_text reason)) text.old text.new }
+    ensures { Puts (unfaithful_object reason) text.old text.new }
 {
     text.put(b"\"result\":\"unfaithful\",\"reason\":\"");
     put_reason(text, reason);

@@ -12,7 +12,7 @@ returns-in_err-write_asked_rows g c = (
 pub returns-in_err-write_to : goal.returns-in_err-write_to
 returns-in_err-write_to g c = (
   writes_refused _ _ _ _ c.from_residual-in_err-write_to.ensures.0
-  (not_written _ _ _ _ _ c.in_err-write_to.ensures.written c.in_err-write_to.ensures.unwritten (c.in_ok-write_asked_rows.ensures _ [] (nothing_sent _ _ c.requires))),
+      (not_written _ _ _ _ _ c.in_err-write_to.ensures.written c.in_err-write_to.ensures.unwritten (c.in_ok-write_asked_rows.ensures _ [] (nothing_sent _ _ c.requires))),
   no_status _ c.from_residual-in_err-write_to.ensures.0,
 )
 
