@@ -21,10 +21,10 @@ use Rattle.cfi_dump.specs.DumpRowTexts.{line_in, line_of_fde, read_rows}
 use Rattle.cfi_dump.specs.Sending.{IsSent, Sends}
 use Rattle.cfi_dump.proofs.SendingLemmas.{IsLeft, Passes, left_none, passes_nothing}
 
--- an entry's FDE is of the same section by another name for it, whatever holds of a CIE
-pub of_section : {C F S : Type 0} (P : C → Type 0) (section_of_fde : F → S) (bases_of_fde : F → BaseAddresses) (s t : S) (a b : BaseAddresses) (item : Result (EntryFields C F) Error) → s ≡ t → a ≡ b
-    → IfOk item (OfEither P (λ f. (section_of_fde f ≡ s) × (bases_of_fde f ≡ a))) → IfOk item (OfEither (λ _. Unit {0}) (λ f. (section_of_fde f ≡ t) × (bases_of_fde f ≡ b)))
-of_section P section_of_fde bases_of_fde s t a b (Ok (code.Cie cie)) same based h = tt
+-- an entry is of the same section by another name for it
+pub of_section : {C F S : Type 0} (P : S → C → Type 0) (section_of_fde : F → S) (bases_of_fde : F → BaseAddresses) (s t : S) (a b : BaseAddresses) (item : Result (EntryFields C F) Error) → s ≡ t → a ≡ b
+    → IfOk item (OfEither (P s) (λ f. (section_of_fde f ≡ s) × (bases_of_fde f ≡ a))) → IfOk item (OfEither (P t) (λ f. (section_of_fde f ≡ t) × (bases_of_fde f ≡ b)))
+of_section P section_of_fde bases_of_fde s t a b (Ok (code.Cie cie)) same based h = subst (λ x. P x cie) same h
 of_section P section_of_fde bases_of_fde s t a b (Ok (code.Fde partial)) same based h = (h.0 ∙ same, h.1 ∙ based)
 of_section P section_of_fde bases_of_fde s t a b (Err e) same based h = tt
 

@@ -11,7 +11,7 @@ use Rattle.cfi_text.specs.declared.style.Format.{Format}
 use Rattle.cfi_text.specs.declared.style.Format.TheVariants.{Text as AsText}
 use Rattle.cfi_dump.specs.declared.printed.Printed.{Printed}
 use Rattle.cfi_dump.specs.declared.printed.Printed.TheVariants as printing
-use Rattle.cfi_dump.specs.DumpRowTexts.{asked_rows}
+use Rattle.cfi_dump.specs.DumpRowTexts.{asked_rows, style_of}
 
 -- the form of the lines
 abbrev pub printed_format : Printed → Format
@@ -25,7 +25,7 @@ text_output text = record { text = text; status = 0 }
 abbrev pub IsListing : RegisterNames → Printed → Section → Line → Type 0
 IsListing names (printing.Entries functions) section printed = printed.status ≡ 0
 IsListing names (printing.Rows asked) section printed =
-    printed ≡ text_output (asked_rows names asked section)
+    printed ≡ text_output (asked_rows (style_of names asked) asked section)
 
 abbrev pub IsPrinted : RegisterNames → Printed → Section → Line → Type 0
 IsPrinted names what section printed =

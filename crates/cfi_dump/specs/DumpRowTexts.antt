@@ -1,7 +1,7 @@
 -- What is printed of the rows of a section: for each FDE, or each that contains one of some
 -- addresses, a line with its addresses and the name of the function that begins there, and then its
 -- rows.
---     asked_rows names asked section      all of it
+--     asked_rows style asked section      all of it
 --     item_rows style asked section item      of an entry, or the error in its place
 use Rattle.std.specs.Prelude.{ℕ, Bool, true, Option, Some, None, List, [], ◌∷◌, ◌++◌, Result, Ok}
 use Rattle.std.specs.Prelude.{Err, codes, flat_map, option_map, if◌then◌else◌}
@@ -98,6 +98,6 @@ abbrev pub style_of : RegisterNames → AskedRows → Style
 style_of names asked = record { names = names; format = asked.format }
 
 -- of the entries in order, and of the error with which they end, if there is one
-abbrev pub asked_rows : RegisterNames → AskedRows → Section → List ℕ
-asked_rows names asked section =
-    flat_map (item_rows (style_of names asked) asked section) (items (entries section))
+abbrev pub asked_rows : Style → AskedRows → Section → List ℕ
+asked_rows style asked section =
+    flat_map (item_rows style asked section) (items (entries section))

@@ -1,11 +1,11 @@
 //! The rows of each FDE, or of those that contain one of some addresses, after a line with its
 //! addresses and the name of the function that begins there.
-ghost use Rattle.std.specs.Prelude.{◌≡◌, ◌++◌, option_map, ⊤, IfOk};
+ghost use Rattle.std.specs.Prelude.{◌≡◌, ◌++◌, option_map, IfOk};
 ghost use Rattle.cfi_read_core.specs.ReaderCalls.{map_ok};
 ghost use Rattle.cfi_entry.specs.Sections.{section_of};
 ghost use Rattle.cfi_unwind.specs.CachedCie.{IsCacheOf};
 ghost use Rattle.cfi_unwind.specs.FdeViews.{HasCieOf, IsFdeOf, fde_view};
-ghost use Rattle.cfi_unwind.specs.WalkViews.{IsPartialOf, OfEither, cie_or_fde_view, partial_view};
+ghost use Rattle.cfi_unwind.specs.WalkViews.{IsEntryOf, IsPartialOf, cie_or_fde_view, partial_view};
 ghost use Rattle.cfi_unwind.specs.Scan.{read_fde};
 ghost use Rattle.cfi_elf.specs.FunctionNames.{name_in};
 ghost use Rattle.cfi_text.specs.Texts.{Puts};
@@ -26,7 +26,6 @@ use cfi_elf::FunctionNames;
 use cfi_entry::in_section::InSection;
 use cfi_row_text::style::Style;
 use cfi_text::escapes::Escaping;
-use cfi_text::register_names::RegisterNames;
 use cfi_text::style::Format;
 use cfi_text::text::Text;
 use gimli_cfi::{
@@ -44,15 +43,14 @@ use std::io::Write;
 pub(crate) fn write_asked_rows<R: Reader<Offset = usize>, S: UnwindSection<R>, W: Write>(
     output: &mut W,
     walk: &mut Walk,
-    names: RegisterNames,
+    style: Style,
     asked: AskedRows<'_>,
     at: &InSection<'_, S>,
 ) -> io::Result<()>
-    ensures { Sends walk.old.text walk.new.text (W.contents output.old) (W.contents output.new)
-        result (asked_rows names asked.entry (section_of (S.view at.now.section) at.now.bases.now)) }
+    ensures { let from = section_of (S.view at.now.section) at.now.bases.now in
+        Sends walk.old.text walk.new.text (W.contents output.old) (W.contents output.new) result
+        (asked_rows style asked.entry from) }
 {
-    let format = asked.format;
-    let style = Style { names, format };
     let mut cies: CieCache<R> = CieCache::new();
     for entry in at.section.entries(at.bases) {
         write_entry_rows(output, walk, &mut cies, style, asked, at, entry)?;
@@ -71,7 +69,7 @@ fn write_entry_rows<R: Reader<Offset = usize>, S: UnwindSection<R>, W: Write>(
     at: &InSection<'_, S>,
     entry: Result<CieOrFde<'_, S, R>>,
 ) -> io::Result<()>
-    requires entry { IfOk entry (OfEither (λ _. ⊤) (IsPartialOf at.now.section at.now.bases.now)) }
+    requires entry { IfOk entry (IsEntryOf S.view R.position at.now.section at.now.bases.now) }
     requires cies { IsCacheOf R.position (λ n. n) (S.view at.now.section) at.now.bases.now
         cies.old }
     ensures written { let found = map_ok (cie_or_fde_view R.position (λ n. n)) entry.entry in

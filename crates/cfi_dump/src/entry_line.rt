@@ -69,8 +69,8 @@ fn put_pointer(text: &mut Text, pointer: Pointer) {
     }
 }
 
-/// Appends the line of an FDE: its fields, its addresses from the first up to the end, its LSDA, and
-/// the name of the function that begins at the first address.
+/// Appends the line of an FDE: its fields, its addresses from the first up to the end, its LSDA,
+/// and the name of the function that begins at the first address.
 pub(crate) fn put_fde<R: Reader<Offset = usize>>(
     text: &mut Text,
     functions: &FunctionNames<'_>,

@@ -1,6 +1,5 @@
 //! Prints a whole section.
 ghost use Rattle.std.specs.Prelude.{◌≡◌};
-ghost use Rattle.cfi_elf.specs.FunctionNames.{name_in};
 ghost use Rattle.cfi_entry.specs.Sections.{section_of};
 ghost use Rattle.gimli_cfi.specs.SectionSources.{given_section, source_view};
 ghost use Rattle.cfi_text.specs.WriterOutput.{Prints, PrintsSome};
@@ -15,6 +14,7 @@ use crate::walk::Walk;
 use cfi_elf::FunctionNames;
 use cfi_entry::in_section::InSection;
 use cfi_row_text::plain_rows::KeptRows;
+use cfi_row_text::style::Style;
 use cfi_text::refusals::write_refusal_in;
 use cfi_text::register_names::RegisterNames;
 use cfi_text::text::Text;
@@ -127,10 +127,12 @@ fn print_rows<R: Reader<Offset = usize>, S: UnwindSection<R>, W: Write>(
 ) -> io::Result<u8>
     requires { IsEmpty walk.old.text }
     ensures { Prints (text_output
-        (asked_rows names asked.entry (section_of (S.view at.now.section) at.now.bases.now)))
+        (asked_rows (style_of names asked.entry) asked.entry
+        (section_of (S.view at.now.section) at.now.bases.now)))
         (W.contents output.old) (W.contents output.new) result }
 {
-    write_asked_rows(output, walk, names, asked, at)?;
+    let format = asked.format;
+    write_asked_rows(output, walk, Style { names, format }, asked, at)?;
     walk.text.write_to(output)?;
     Ok(0)
 }

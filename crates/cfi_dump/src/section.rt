@@ -1,10 +1,11 @@
 //! The entries of a section in order, their instructions, and the rows of each FDE.
-ghost use Rattle.std.specs.Prelude.{◌≡◌, ⊤, IfOk, Ok};
+ghost use Rattle.std.specs.Prelude.{◌≡◌, IfOk, Ok};
 ghost use Rattle.cfi_read_core.specs.ReaderCalls.{map_ok};
+ghost use Rattle.cfi_entry.specs.EntryViews.{IsCieOf};
 ghost use Rattle.cfi_entry.specs.Sections.{section_of};
 ghost use Rattle.cfi_unwind.specs.CachedCie.{IsCacheOf};
 ghost use Rattle.cfi_unwind.specs.FdeViews.{HasCieOf, IsFdeOf, fde_view};
-ghost use Rattle.cfi_unwind.specs.WalkViews.{IsPartialOf, OfEither, partial_view};
+ghost use Rattle.cfi_unwind.specs.WalkViews.{IsEntryOf, IsPartialOf, partial_view};
 ghost use Rattle.cfi_unwind.specs.Scan.{read_fde};
 ghost use Rattle.cfi_dump.specs.Sending.{Grows};
 
@@ -62,7 +63,7 @@ fn write_entry<R: Reader<Offset = usize>, S: UnwindSection<R>, W: Write>(
     at: &InSection<'_, S>,
     entry: Result<CieOrFde<'_, S, R>>,
 ) -> io::Result<()>
-    requires entry { IfOk entry (OfEither (λ _. ⊤) (IsPartialOf at.now.section at.now.bases.now)) }
+    requires entry { IfOk entry (IsEntryOf S.view R.position at.now.section at.now.bases.now) }
     requires cies { IsCacheOf R.position (λ n. n) (S.view at.now.section) at.now.bases.now
         cies.old }
     ensures written { Grows (W.contents output.old) (W.contents output.new) }
@@ -86,6 +87,7 @@ fn write_cie<R: Reader<Offset = usize>, S: UnwindSection<R>, W: Write>(
     at: &InSection<'_, S>,
     cie: &CommonInformationEntry<R>,
 ) -> io::Result<()>
+    requires { IsCieOf R.position (S.view at.now.section).position cie.now }
     ensures { Grows (W.contents output.old) (W.contents output.new) }
 {
     put_cie(text, names, cie);

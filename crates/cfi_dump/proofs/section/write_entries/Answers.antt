@@ -1,4 +1,5 @@
 use Rattle.std.proofs.Common.{◌∙◌, ap}
+use Rattle.cfi_entry.specs.EntryViews.{IsCieOf}
 use Rattle.cfi_dump.proofs.EntryRowsSent.{of_section}
 use Rattle.cfi_dump.proofs.SendingLemmas.{grows_none, grows_then}
 use Rattle.cfi_dump.proofs.section.write_entries.Goals as goal
@@ -17,7 +18,7 @@ loop-entry-init g c =
 
 pub write_entry-requires-clause-entry : goal.write_entry-requires-clause-entry
 write_entry-requires-clause-entry g c =
-    of_section _ (λ p. p.section) (λ p. p.bases.now) _ _ _ _ c.in-Some.entry c.loop-entry.invariant.same_section c.loop-entry.invariant.same_bases c.in-Some.ensures.steps.2
+    of_section (λ section cie. IsCieOf g.R.Reader.position (g.S._UnwindSectionPrivate.view section).position cie) (λ p. p.section) (λ p. p.bases.now) _ _ _ _ c.in-Some.entry c.loop-entry.invariant.same_section c.loop-entry.invariant.same_bases c.in-Some.ensures.steps.2
 
 pub returns-in_err-write_entry : goal.returns-in_err-write_entry
 returns-in_err-write_entry g c = grows_then _ _ _ c.loop-entry.invariant.grows c.in_err-write_entry.ensures.written
