@@ -2,7 +2,6 @@ mod Computing
 pub mod NumberLemmas
 mod NumbersRead
 pub mod InputLemmas
-pub mod DecodingLemmas
 pub mod RunLemmas
 mod Printed
 pub mod WordLemmas

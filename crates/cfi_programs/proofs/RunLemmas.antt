@@ -1,12 +1,14 @@
 -- What a run prints.
-use Rattle.std.proofs.Common.{◌≡◌, ◌==◌, true, false, ◌⊎◌, inl, inr, ◌≤◌, ◌<◌, ℕ, List, [], ◌++◌, get_or, Option, Some, None, Result, Ok, Err, refl, sym, ◌∙◌, ap, subst, arith, append-nil, IfSome}
+use Rattle.std.proofs.Common.{◌≡◌, ◌==◌, true, false, ◌⊎◌, inl, inr, ◌≤◌, ◌<◌, ℕ, List, [], ◌++◌, get_or, Option, Some, None, Result, Ok, Err, refl, sym, ◌∙◌, ap, subst, arith, append-nil}
 use Rattle.std.specs.Option.{IsSome}
 use Rattle.std.specs.Io.KnownBytes.{Appends, Keeps}
 use Rattle.cfi_programs.specs.Input.{Bytes}
 use Rattle.cfi_text.specs.Lines.{Line}
 use Rattle.cfi_text.specs.Refusals.{out_of_memory, wrong_words, wrong_hexadecimal, wrong_input}
-use Rattle.cfi_programs.specs.Runs.{Tool, IsNoWrongLine, IsLineFor, IsOwedBy, IsRun, LineOfInput, LineOfRequest, LineOfWords, requested}
+use Rattle.cfi_programs.specs.Runs.{Tool, IsNoWrongLine, IsLineFor, IsPut, PutsAnswer, IsOwedBy, IsRun, LineOfInput, LineOfRequest, LineOfWords, requested}
+use Rattle.cfi_text.specs.Texts.{contents}
 use Rattle.cfi_text.specs.WriterOutput.{IsBeginning, Prints}
+use Rattle.cfi_text.specs.declared.text.Text.{Text}
 use Rattle.cfi_text.proofs.WrittenLemmas.{appends_then, keeps_is}
 
 -- what holds of the lines of a program
@@ -25,9 +27,6 @@ owed_answer : (tool : Tool) (r : tool.Request) (input : List ℕ) (bytes : Bytes
 owed_answer tool r input bytes printed e is =
     let P : Option Bytes → Type 0 = λ read. LineOfInput tool r read printed in
     subst P (sym e) is
-
-pub known_of : {A : Type 0} (P : A → Type 0) (o : Option A) (r : A) → o ≡ Some r → IfSome o P → P r
-known_of P o r e h = subst (λ request. IfSome request P) e h
 
 pub owes_memory : (tool : Tool) (o : Option tool.Request) (r : tool.Request) (input : List ℕ) → o ≡ Some r → IsOwedBy tool o input out_of_memory
 owes_memory tool o r input e =
@@ -52,7 +51,7 @@ owes_answer Q tool o r input bytes e d (printed, shows, which) =
 
 -- ---- a line that begins with the text of another
 
-line_is : (text : List ℕ) (status : ℕ) (printed : Line) → text ≡ printed.text → status ≡ printed.status → record { text = text; status = status } ≡ printed
+pub line_is : (text : List ℕ) (status : ℕ) (printed : Line) → text ≡ printed.text → status ≡ printed.status → record { text = text; status = status } ≡ printed
 line_is text status printed p q = rw (p, q) refl
 
 -- the code at a place of a line that begins with a text
@@ -111,6 +110,14 @@ answered tool (Some r) input printed (inr (some, inl memory)) low = (refl, inr m
 answered tool (Some r) input printed (inr (some, inr unread)) low = (let h : 2 ≤ 1 = status_of printed wrong_input low unread in absurd (omega arith))
 
 -- ---- the run
+
+-- the answer that was put is the line that is shown, unless memory was refused
+pub answer_shown : (P : Line → Type 0) (tool : Tool) (r : tool.Request) (bytes : Bytes) (x y : Text) (status : ℕ) → contents x ≡ [] → PutsAnswer tool r bytes x y status →
+    ((shown : Line) × P shown × IsPut y status shown) → (shown : Line) × P shown × IsLineFor tool r bytes shown
+answer_shown P tool r bytes x y status empty (printed, (puts, same), which) (shown, prints, inl (whole, is)) =
+    let text : contents y ≡ printed.text = puts.adds whole ∙ ap (λ (xs : List ℕ). xs ++ printed.text) empty in
+    (shown, prints, subst (λ (l : Line). IsLineFor tool r bytes l) (sym (is ∙ line_is (contents y) status printed text same)) which)
+answer_shown P tool r bytes x y status empty put (shown, prints, inr memory) = (shown, prints, inr memory)
 
 is_run : (tool : Tool) → AreNoWrongLines tool → (words : Option (List (List ℕ))) (input written : List ℕ) (status : ℕ) (printed : Line) → IsOwedBy tool (requested tool words) input printed →
     IsBeginning written printed.text → ((written ≡ printed.text) × (status ≡ printed.status)) ⊎ (IsBeginning written printed.text × (status ≡ 2))

@@ -1,10 +1,9 @@
 -- The input: a section in hexadecimal, and after its first line the header where one is asked for.
-use Rattle.std.specs.Prelude.{◌≡◌, ◌<◌, ◌+◌, ◌*◌, slice_index, unwrap_or, ℕ, Bool, not, ◌||◌}
-use Rattle.std.specs.Prelude.{Option, Some, None, List, [], ◌∷◌, Result, IsErr, IfSome, Ok, Err}
-use Rattle.std.specs.Prelude.{◌==◌, filter}
+use Rattle.std.specs.Prelude.{◌≡◌, ◌==◌, ℕ, Bool, not, ◌||◌, Option, Some, None, List, []}
+use Rattle.std.specs.Prelude.{Result, Ok, Err, IfSome, filter}
 use Rattle.std.specs.List.{before_first, after_first}
 use Rattle.cfi_read_core.specs.ReaderCalls.{map_ok}
-use Rattle.hex.specs.Hex.{decode_of, decode_pairs, hex_digit_value}
+use Rattle.hex.specs.Hex.{decode_of}
 use Rattle.cfi_text.specs.declared.reading.InputError.{InputError}
 use Rattle.cfi_text.specs.declared.reading.InputError.TheVariants.{Unreadable, NotHexadecimal}
 use Rattle.cfi_text.specs.declared.reading.InputError.TheVariants.{OutOfMemory}
@@ -23,36 +22,6 @@ without_spaces input = filter (λ c. not (is_space c)) input
 
 abbrev pub decoded_bytes : List ℕ → Result (List ℕ) FromHexError
 decoded_bytes input = decode_of (without_spaces input)
-
--- the list has each digit's value at the place that is its byte, and 255 at the others
-abbrev pub AreDigitValues : List ℕ → Type 0
-AreDigitValues values =
-    (byte : ℕ) → byte < 256 → slice_index values byte ≡ unwrap_or (hex_digit_value byte) 255
-
--- spaces left out, the text is a digit of this value and the rest
-abbrev pub BeginsWithDigit : ℕ → List ℕ → List ℕ → Type 0
-BeginsWithDigit value rest text =
-    (digit : ℕ)
-    × ((without_spaces text ≡ digit ∷ without_spaces rest) × (hex_digit_value digit ≡ Some value))
-
--- spaces left out, the text begins with a byte that is not a digit
-abbrev pub BeginsWithNoDigit : List ℕ → Type 0
-BeginsWithNoDigit text =
-    (other : ℕ)
-    × ((rest : List ℕ) × ((without_spaces text ≡ other ∷ rest) × (hex_digit_value other ≡ None)))
-
--- spaces left out, the text is the two digits of this byte and the rest
-abbrev pub BeginsWithByte : ℕ → List ℕ → List ℕ → Type 0
-BeginsWithByte byte rest text =
-    (high : ℕ) × ((low : ℕ) × ((without_spaces text ≡ high ∷ low ∷ without_spaces rest)
-    × ((a : ℕ)
-    × ((b : ℕ)
-    × ((hex_digit_value high ≡ Some a)
-    × ((hex_digit_value low ≡ Some b) × (byte ≡ a * 16 + b)))))))
-
--- spaces left out, the text is refused, from whatever index its digits are counted
-abbrev pub BeginsWithNoByte : List ℕ → Type 0
-BeginsWithNoByte text = (index : ℕ) → IsErr (decode_pairs index (without_spaces text))
 
 pub record Bytes : Type 0 where
   pub section : List ℕ

@@ -6,14 +6,16 @@
 --     IsRun tool words input written status      what a run writes, and its status
 --     PrintsRunOf tool words input old new status      the same for a reader and a writer
 use Rattle.std.specs.Prelude.{◌≡◌, ◌⊎◌, ℕ, ◌≤◌, ◌<◌, ◌==◌, false, get_or, Option, Some, None, List}
-use Rattle.std.specs.Prelude.{Result, IsSome, IfSome}
+use Rattle.std.specs.Prelude.{Result, IfSome, IsSome}
 use Rattle.std.specs.Io.KnownBytes.{Appends}
 use Rattle.std.specs.Option.{option_and_then}
 use Rattle.cfi_programs.specs.Input.{Bytes}
 use Rattle.cfi_text.specs.Lines.{Line}
 use Rattle.cfi_text.specs.Refusals.{out_of_memory, wrong_words, wrong_hexadecimal}
 use Rattle.cfi_text.specs.Refusals.{wrong_input}
+use Rattle.cfi_text.specs.Texts.{IsWhole, Puts, contents}
 use Rattle.cfi_text.specs.WriterOutput.{IsBeginning, Prints}
+use Rattle.cfi_text.specs.declared.text.Text.{Text}
 
 -- An executable: what its words ask for, or none where they are wrong; what its input means, or
 -- none where it is not hexadecimal; and the outputs that are right for what it means.
@@ -22,17 +24,6 @@ pub record Tool : Type 1 where
   pub request_of : List (List ℕ) → Option Request
   pub meaning : Request → List ℕ → Option Bytes
   pub IsLine : Request → Bytes → Line → Type 0
-
--- the tool of a type of requests
-abbrev pub tool_of :
-    {Request : Type 0} → (List (List ℕ) → Option Request) → (Request → List ℕ → Option Bytes) →
-    (Request → Bytes → Line → Type 0) → Tool
-tool_of {Request} request_of meaning is_line =
-    record { Request = Request; request_of = request_of; meaning = meaning; IsLine = is_line }
-
--- some words ask for the request
-abbrev pub IsAskedFor : {Request : Type 0} → (List (List ℕ) → Option Request) → Request → Type 0
-IsAskedFor request_of request = (words : List (List ℕ)) × (request_of words ≡ Some request)
 
 -- The output of an answer does not begin with a w, as the lines do that say that words or input are
 -- wrong, and its status is 0 or 1.
@@ -72,6 +63,21 @@ abbrev pub PrintsAnswer :
     Result ℕ E → Type 0
 PrintsAnswer tool request bytes old new result =
     (printed : Line) × Prints printed old new result × IsLineFor tool request bytes printed
+
+-- the line is put, and its status answered
+abbrev pub PutsLine : Line → Text → Text → ℕ → Type 0
+PutsLine printed old new status = Puts printed.text old new × (status ≡ printed.status)
+
+-- the text was given the output of a request
+abbrev pub PutsAnswer : (tool : Tool) → tool.Request → Bytes → Text → Text → ℕ → Type 0
+PutsAnswer tool request bytes old new status =
+    (printed : Line) × PutsLine printed old new status × IsLineFor tool request bytes printed
+
+-- the line is the text with the status, or that memory was refused
+abbrev pub IsPut : Text → ℕ → Line → Type 0
+IsPut text status printed =
+    (IsWhole text × (printed ≡ record { text = contents text; status = status }))
+    ⊎ (printed ≡ out_of_memory)
 
 -- an output that is right, or that there was no memory or no input
 abbrev pub IsOwedBy : (tool : Tool) → Option tool.Request → List ℕ → Line → Type 0

@@ -1,15 +1,14 @@
 //! The input: a section in hexadecimal, and after its first line the header where one is asked for.
-ghost use Rattle.std.specs.Prelude.{◌≡◌, ◌≢◌, ◌⊎◌, ◌<◌, ◌≤◌, [], Some, Ok, length, take};
-ghost use Rattle.std.specs.Prelude.{slice_index, IfOk, IfErr, IsErr, IfSome, IfNone};
+ghost use Rattle.std.specs.Prelude.{◌≡◌, ◌≢◌, ◌⊎◌, ◌<◌, ◌≤◌, Some, Ok, length, take};
+ghost use Rattle.std.specs.Prelude.{slice_index, IfOk, IfErr, IsErr};
 ghost use Rattle.std.specs.List.{All, before_first, after_first};
 ghost use Rattle.cfi_read_core.specs.ReaderCalls.{map_ok};
-ghost use Rattle.cfi_programs.specs.Input.{AreDigitValues, IsDecoded, ReadsSections};
-ghost use Rattle.cfi_programs.specs.Input.{BeginsWithByte, BeginsWithNoByte, BeginsWithDigit};
-ghost use Rattle.cfi_programs.specs.Input.{BeginsWithNoDigit, bytes_by, bytes_of_sections};
-ghost use Rattle.cfi_programs.specs.Input.{decoded_bytes, without_spaces, is_line_feed, is_space};
+ghost use Rattle.cfi_programs.specs.Input.{IsDecoded, ReadsSections, bytes_by};
+ghost use Rattle.cfi_programs.specs.Input.{bytes_of_sections, decoded_bytes, is_line_feed};
+ghost use Rattle.cfi_programs.specs.Input.{is_space};
 
 use cfi_text::reading::{InputError, read_all};
-use hex::FromHex;
+use hex::FromHexError;
 use std::alloc::Global;
 use std::io::Read;
 
@@ -97,117 +96,13 @@ fn decode(alloc: Global, text: Vec<u8>) -> Result<Vec<u8>, InputError>
     ensures refused { IfErr result (λ e. (e ≡ InputError.OutOfMemory)
         ⊎ ((e ≡ InputError.NotHexadecimal) × IsErr (decoded_bytes text.items))) }
 {
-    let values = digit_values();
-    let Ok(mut bytes) = Vec::with_capacity(alloc, text.len() / 2) else {
-        return Err(InputError::OutOfMemory);
-    };
-    let mut rest = text.as_slice();
-    while let Some((byte, after)) = next_byte(&values, rest)? {
-        if bytes.push(byte).is_err() {
-            return Err(InputError::OutOfMemory);
-        }
-        rest = after;
+    let mut digits = text;
+    digits.retain(|byte| !is_space_byte(*byte));
+    match hex::decode(alloc, digits.as_slice()) {
+        Ok(bytes) => Ok(bytes),
+        Err(FromHexError::OutOfMemory) => Err(InputError::OutOfMemory),
+        Err(_) => Err(InputError::NotHexadecimal),
     }
-    Ok(bytes)
-}
-
-/// Returns the values of the digits by their bytes, as `hex` reads them, and 255 for other bytes.
-fn digit_values() -> [u8; 256]
-    ensures { AreDigitValues result }
-{
-    let mut values = [255u8; 256];
-    for byte in 0..256usize {
-        if let Some(read) = <[u8; 1]>::from_hex([b'0', byte as u8]).ok() {
-            values[byte] = read[0];
-        }
-    }
-    values
-}
-
-/// Returns the byte of the next two digits and the text after them; `None` where there are only
-/// spaces.
-#[inline]
-fn next_byte<'text>(
-    values: &[u8; 256],
-    text: &'text [u8],
-) -> Result<Option<(u8, &'text [u8])>, InputError>
-    requires { AreDigitValues values.now }
-    ensures found { IfOk result (λ found. IfSome found (λ p. BeginsWithByte p.0 p.1.now text.now)) }
-    ensures fewer { IfOk result (λ found. IfSome found (λ p. length p.1.now < length text.now)) }
-    ensures none { IfOk result (λ found. IfNone found (without_spaces text.now ≡ [])) }
-    ensures refused { IfErr result (λ e.
-        (e ≡ InputError.NotHexadecimal) × BeginsWithNoByte text.now) }
-{
-    // The two digits of a byte are mostly side by side, after one space or none.
-    if let [first, second, after @ ..] = after_space(text) {
-        let high = values[*first as usize];
-        let low = values[*second as usize];
-        if high < 16 && low < 16 {
-            return Ok(Some((high * 16 + low, after)));
-        }
-    }
-    next_spaced_byte(values, text)
-}
-
-/// Returns the text without the space with which it begins, if it does.
-#[inline]
-fn after_space(text: &[u8]) -> &[u8]
-    ensures same { without_spaces result.now ≡ without_spaces text.now }
-    ensures fewer { length result.now ≤ length text.now }
-{
-    match text {
-        [b' ', rest @ ..] => rest,
-        _ => text,
-    }
-}
-
-/// Returns the same as `next_byte`, with spaces before either digit.
-fn next_spaced_byte<'text>(
-    values: &[u8; 256],
-    text: &'text [u8],
-) -> Result<Option<(u8, &'text [u8])>, InputError>
-    requires { AreDigitValues values.now }
-    ensures found { IfOk result (λ found. IfSome found (λ p. BeginsWithByte p.0 p.1.now text.now)) }
-    ensures fewer { IfOk result (λ found. IfSome found (λ p. length p.1.now < length text.now)) }
-    ensures none { IfOk result (λ found. IfNone found (without_spaces text.now ≡ [])) }
-    ensures refused { IfErr result (λ e.
-        (e ≡ InputError.NotHexadecimal) × BeginsWithNoByte text.now) }
-{
-    let Some((high, after_high)) = next_digit(values, text)? else {
-        return Ok(None);
-    };
-    let Some((low, after_low)) = next_digit(values, after_high)? else {
-        return Err(InputError::NotHexadecimal);
-    };
-    Ok(Some((high * 16 + low, after_low)))
-}
-
-/// Returns the value of the next digit and the text after it; `None` where there are only spaces.
-fn next_digit<'text>(
-    values: &[u8; 256],
-    text: &'text [u8],
-) -> Result<Option<(u8, &'text [u8])>, InputError>
-    requires { AreDigitValues values.now }
-    ensures found { IfOk result (λ found.
-        IfSome found (λ p. BeginsWithDigit p.0 p.1.now text.now)) }
-    ensures digit { IfOk result (λ found. IfSome found (λ p. p.0 < 16)) }
-    ensures fewer { IfOk result (λ found. IfSome found (λ p. length p.1.now < length text.now)) }
-    ensures none { IfOk result (λ found. IfNone found (without_spaces text.now ≡ [])) }
-    ensures refused { IfErr result (λ e.
-        (e ≡ InputError.NotHexadecimal) × BeginsWithNoDigit text.now) }
-{
-    let mut rest = text;
-    while let [first, after @ ..] = rest {
-        let value = values[*first as usize];
-        if value < 16 {
-            return Ok(Some((value, after)));
-        }
-        if !is_space_byte(*first) {
-            return Err(InputError::NotHexadecimal);
-        }
-        rest = after;
-    }
-    Ok(None)
 }
 
 /// Returns whether the byte is a space, a tab, a carriage return or a line feed.

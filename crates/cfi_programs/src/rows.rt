@@ -1,7 +1,6 @@
-//! The program `cfi_rows`, over any reader and writer: its words, its answer and what it prints.
+//! The words of the program `cfi_rows`, and its answer.
 
-mod command_line;
+pub(crate) mod command_line;
 pub mod row_lookup;
-pub mod run;
 
 pub use command_line::Request;

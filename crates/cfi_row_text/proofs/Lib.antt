@@ -2,7 +2,7 @@ pub mod Computing
 pub mod RowLineLemmas
 mod KeptRulesLemmas
 mod RowsPrinted
-mod ExpressionWordsWritten
+mod ExpressionWordsLemmas
 mod JsonRowLemmas
 pub mod RowWordsLemmas
 mod JsonPrinted

@@ -1,11 +1,11 @@
 -- The rules in turn.
-use Rattle.std.proofs.Common.{Result, append_assoc, codes, ◌≡◌, ℕ, zero, suc, ◌+◌, ◌-◌, ◌<◌, ◌≤◌, List, [], ◌∷◌, ◌++◌, Option, Some, None, refl, sym, ◌∙◌, ap, inl, inr, arith, subst, false, true, map}
+use Rattle.std.proofs.Common.{append-nil, codes, ◌≡◌, ℕ, zero, suc, ◌+◌, ◌-◌, ◌<◌, ◌≤◌, List, [], ◌∷◌, ◌++◌, Option, Some, None, refl, sym, ◌∙◌, ap, inl, inr, arith, subst, false, true, map}
 use Rattle.std.proofs.lemmas.Bool.{cases_lt}
 use Rattle.std.proofs.lemmas.Bool.Decides.{nat_tests}
 use Rattle.std.proofs.lemmas.Map.Keys.{below_from_sorted, sorted_tail, IsStrictlyIncreasing-from_sorted, sorted_from_strictly_increasing}
 use Rattle.std.specs.List.Sorted.{IsStrictlyIncreasing, IsStrictlySortedBy}
 use Rattle.std.specs.Cmp.{nat_cmp_total, unsigned_ties}
-use Rattle.std.specs.Prelude.{⊤, OnOk}
+use Rattle.std.specs.Prelude.{⊤}
 use Rattle.std.specs.Fmt.{decimal}
 use Rattle.std.proofs.lemmas.Fmt.{decimal_digit}
 use Rattle.std.specs.FinMap.{get, get-from_entries}
@@ -13,6 +13,9 @@ use Rattle.std.specs.Ordering.{nat_cmp, eq_by_cmp}
 use Rattle.cfi_read_core.specs.declared.common.Register.{Register}
 use Rattle.cfi_state.specs.RulePairs.{numbered_pair, rules_of, IsRising}
 use Rattle.cfi_state.specs.declared.table.rules.RegisterRule.{RegisterRule}
+use Rattle.cfi_text.specs.Texts.{Puts}
+use Rattle.cfi_text.specs.declared.text.Text.{Text}
+use Rattle.cfi_text.proofs.TextLemmas.{IsPut, put_all, put_more}
 use Rattle.cfi_row_text.specs.RowLines.{ruled_by, rules_by}
 
 pub rules_more : (text_of : ℕ → RegisterRule ℕ → List ℕ) (n r : ℕ) (rule_of : ℕ → Option (RegisterRule ℕ)) → r < n →
@@ -148,7 +151,17 @@ rising_more pair pairs from rising =
 
 -- ---- a frame above the stack pointer, at once
 
-pub stack_frame : {A E : Type 0} (r : Result A E) (old new cfa : List ℕ) (offset args : ℕ) → cfa ≡ codes "rsp+" ++ decimal offset → args ≡ 0
-    → OnOk r (new ≡ old ++ (codes " cfa=rsp+" ++ decimal offset ++ codes " args=0")) → OnOk r (new ≡ old ++ codes " cfa=" ++ cfa ++ codes " args=" ++ decimal args)
-stack_frame r old new cfa offset args is none written =
-    rw (is, none, decimal_digit 0 (omega arith), append_assoc, append_assoc, append_assoc) written
+pub stack_frame : (x y : Text) (cfa : List ℕ) (offset args : ℕ) → cfa ≡ codes "rsp+" ++ decimal offset → args ≡ 0
+    → Puts (codes " cfa=rsp+" ++ decimal offset ++ codes " args=0") x y → Puts (codes " cfa=" ++ (cfa ++ (codes " args=" ++ decimal args))) x y
+stack_frame x y cfa offset args is none put = rw (is, none, decimal_digit 0 (omega arith)) put
+
+-- ---- what is left of a text to put
+
+pub put_next : (x y z : Text) (here part left all : List ℕ) → here ≡ part ++ left → IsPut x y here all → Puts part y z → IsPut x z left all
+put_next x y z here part left all is given more = put_more x y z part left all (subst (λ (text : List ℕ). IsPut x y text all) is given) more
+
+pub put_same : (x y : Text) (here left all : List ℕ) → here ≡ left → IsPut x y here all → IsPut x y left all
+put_same x y here left all is given = subst (λ (text : List ℕ). IsPut x y text all) is given
+
+pub put_last : (x y z : Text) (here last all : List ℕ) → here ≡ last → IsPut x y here all → Puts last y z → Puts all x z
+put_last x y z here last all is given more = put_all x z [] all (put_next x y z here last [] all (is ∙ sym (append-nil last)) given more) refl

@@ -212,8 +212,8 @@ pub(crate) fn put_rule<E: SaysExpressions>(
     match rule {
         RegisterRule::Undefined => text.put(b"undefined"),
         RegisterRule::SameValue => text.put(b"same"),
-        RegisterRule::Offset(offset) => put_within(text, b"offset(", offset),
-        RegisterRule::ValOffset(offset) => put_within(text, b"val_offset(", offset),
+        RegisterRule::Offset(offset) => put_cfa_offset(text, offset),
+        RegisterRule::ValOffset(offset) => put_val_offset(text, offset),
         RegisterRule::Register(register) => put_register(text, names, register),
         RegisterRule::Expression(expression) => say.put_said(text, expression),
         RegisterRule::ValExpression(expression) => {
@@ -229,11 +229,21 @@ pub(crate) fn put_rule<E: SaysExpressions>(
     }
 }
 
-/// Puts an offset from the CFA within brackets, of which the first is given.
-fn put_within(text: &mut Text, before: &[u8], offset: i64)
-    ensures { Puts (before.now ++ signed_decimal offset ++ codes ")") text.old text.new }
+/// Puts an offset from the CFA.
+fn put_cfa_offset(text: &mut Text, offset: i64)
+    ensures { Puts (codes "offset(" ++ signed_decimal offset ++ codes ")") text.old text.new }
 {
-    text.put(before);
+    text.put(b"offset(");
+    text.number(offset);
+    text.put(b")");
+}
+
+/// Puts an offset of a value from the CFA.
+fn put_val_offset(text: &mut Text, offset: i64)
+    ensures { Puts (codes "val_offset(" ++ signed_decimal offset ++ codes ")")
+        text.old text.new }
+{
+    text.put(b"val_offset(");
     text.number(offset);
     text.put(b")");
 }

@@ -2,7 +2,7 @@
 //!
 //! The words name the section, its byte order, the size of an address and the address; standard
 //! input is the section in hexadecimal, and where a header of `.eh_frame` is asked for, the header
-//! after the first line. `cfi_programs::rows::run::run` says what is printed.
+//! after the first line. `cfi_programs::run::run` says what is printed.
 #![tactic(auto)]
 
 ghost use Rattle.std.specs.Prelude.{ℕ, List, Option};
@@ -10,7 +10,6 @@ ghost use Rattle.std.specs.Process.{exit_status};
 ghost use Rattle.cfi_programs.specs.RowsProgramOutput.{rows_tool};
 ghost use Rattle.cfi_programs.specs.Runs.{PrintsRunOf};
 
-use cfi_programs::rows::Request;
 use cfi_programs::run::run_process;
 use std::alloc::AllocGlobal;
 use std::io::{Read, Write};
@@ -26,5 +25,5 @@ fn run<P: Env + AllocGlobal, R: Read, W: Write>(rt: &P, input: &mut R, output: &
     ensures { (words : Option (List (List ℕ))) × PrintsRunOf rows_tool words (R.remaining input.old)
         (W.contents output.old) (W.contents output.new) (exit_status result) }
 {
-    run_process::<Request, P, R, W>(rt, input, output)
+    run_process(rt, input, output)
 }

@@ -3,16 +3,14 @@ pub(crate) mod failing;
 
 use crate::comparison::expect;
 use cfi_parts::instruction::UnwindExpression;
-use cfi_row_text::row_text::{push_frame, push_ruled};
+use cfi_row_text::row_text::{put_frame, put_ruled};
 use cfi_state::table::rules::{CfaRule, RegisterRule};
-use cfi_text::line_buffer::{LineBuffer, push};
-use cfi_text::numbers::push_address;
 use cfi_text::register_names::RegisterNames;
+use cfi_text::text::Text;
 use gimli_cfi::Register;
-use std::fmt;
 
-/// Appends the longest parts of a line, one after the other.
-fn push_longest_parts(text: &mut LineBuffer) -> fmt::Result {
+/// Puts the longest parts of a line, one after the other.
+fn put_longest_parts(text: &mut Text) {
     let expression = UnwindExpression {
         offset: usize::MAX,
         length: usize::MAX,
@@ -21,23 +19,18 @@ fn push_longest_parts(text: &mut LineBuffer) -> fmt::Result {
         CfaRule::Expression(expression),
         RegisterRule::ValExpression(expression),
     );
-    push_address(text, u64::MAX)?;
-    push(text, b" ")?;
-    push_address(text, u64::MAX)?;
-    push_frame(text, RegisterNames::Numbers, cfa, u64::MAX)?;
-    push_ruled(text, RegisterNames::Numbers, Register(u16::MAX), rule)
+    text.address(u64::MAX);
+    text.put(b" ");
+    text.address(u64::MAX);
+    put_frame(text, RegisterNames::Numbers, cfa, u64::MAX);
+    put_ruled(text, RegisterNames::Numbers, Register(u16::MAX), rule);
 }
 
 #[test]
-fn has_room_for_the_longest_part(rt: HostRuntime) {
-    let mut text = LineBuffer::new();
-    let pushed = push_longest_parts(&mut text).is_ok();
+fn puts_the_longest_parts(rt: HostRuntime) {
+    let mut text = Text::new(rt.alloc());
+    put_longest_parts(&mut text);
     let line =
         "0xffffffffffffffff 0xffffffffffffffff cfa=expr@18446744073709551615:18446744073709551615 args=18446744073709551615 r65535=val_expr@18446744073709551615:18446744073709551615";
-    expect(
-        &rt,
-        "a part",
-        &(pushed, text.as_slice()),
-        &(true, line.as_bytes()),
-    );
+    expect(&rt, "a part", &text.as_bytes(), &line.as_bytes());
 }

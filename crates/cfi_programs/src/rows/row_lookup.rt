@@ -3,54 +3,51 @@ ghost use Rattle.cfi_read_core.specs.ReaderCalls.{map_ok};
 ghost use Rattle.cfi_programs.specs.RowsProgramOutput.{limits, rows_tool, rows_tool_with};
 ghost use Rattle.cfi_programs.specs.RowsProgramOutput.{IsRequestedRow};
 ghost use Rattle.cfi_programs.specs.Input.{bytes_of_sections};
-ghost use Rattle.cfi_programs.specs.Runs.{PrintsAnswer};
+ghost use Rattle.cfi_programs.specs.Runs.{PutsAnswer};
 
 use crate::input::Sections;
 use crate::rows::command_line::{Request, Storage};
-use cfi_row_text::row_line::write_plain_answer;
-use cfi_text::refusals::write_refusal;
+use cfi_row_text::refusal_text::put_refusal;
+use cfi_row_text::row_line::put_plain_answer;
 use cfi_text::register_names::RegisterNames;
+use cfi_text::text::Text;
 use gimli_cfi::{
     Error, StoreGrowing, StoreOnHeap, UnwindContext, UnwindContextStorage, UnwindTableRow,
 };
 use std::alloc::Global;
-use std::io;
-use std::io::Write;
 
-/// Prints the answer to the request.
-pub fn print_answer<W: Write>(
-    alloc: Global,
-    request: &Request,
-    sections: &Sections,
-    output: &mut W,
-) -> io::Result<u8>
-    ensures { PrintsAnswer rows_tool request.now (bytes_of_sections sections.now)
-        (W.contents output.old) (W.contents output.new) result }
+/// Puts the answer to the request, and returns its status. Allocates for the unwind, and where the
+/// text has no room.
+pub fn put_answer(text: &mut Text, alloc: Global, request: &Request, sections: &Sections) -> u8
+    ensures { PutsAnswer rows_tool request.now (bytes_of_sections sections.now)
+        text.old text.new result }
 {
     match request.storage {
-        Storage::OnHeap => print_row::<StoreOnHeap, W>(alloc, request, sections, output),
-        Storage::Growing => print_row::<StoreGrowing, W>(alloc, request, sections, output),
+        Storage::OnHeap => put_row::<StoreOnHeap>(text, alloc, request, sections),
+        Storage::Growing => put_row::<StoreGrowing>(text, alloc, request, sections),
     }
 }
 
-/// Prints the answer to the request, with the unwind's rows in the storage `S`.
-fn print_row<S: UnwindContextStorage<usize>, W: Write>(
+/// Puts the answer to the request, with the unwind's rows in the storage `S`.
+fn put_row<S: UnwindContextStorage<usize>>(
+    text: &mut Text,
     alloc: Global,
     request: &Request,
     sections: &Sections,
-    output: &mut W,
-) -> io::Result<u8>
-    ensures { PrintsAnswer
+) -> u8
+    ensures { PutsAnswer
         (rows_tool_with (λ _. limits S.Rules.limit S.Stack.limit S.Rules.copies_free))
-        request.now (bytes_of_sections sections.now)
-        (W.contents output.old) (W.contents output.new) result }
+        request.now (bytes_of_sections sections.now) text.old text.new result }
 {
     let mut context = match UnwindContext::<usize, S>::new_in(alloc) {
         Ok(context) => context,
-        Err(error) => return write_refusal(output, error),
+        Err(error) => {
+            put_refusal(text, error);
+            return 1;
+        }
     };
     let answer = find_row(request, sections, &mut context);
-    write_plain_answer(output, RegisterNames::Numbers, answer)
+    put_plain_answer(text, RegisterNames::Numbers, answer)
 }
 
 /// Returns the row for the request's address.

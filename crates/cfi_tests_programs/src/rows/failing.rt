@@ -1,6 +1,6 @@
 //! Runs whose input or output fails.
 use crate::comparison::expect;
-use cfi_programs::rows::run::run;
+use cfi_programs::run::run;
 use std::alloc::Global;
 use std::io;
 use std::io::{ErrorKind, Read, Write};

@@ -1,7 +1,0 @@
-use Rattle.cfi_programs.proofs.rows.run.run.Goals as goal
-
-pub returns-clause-printed : goal.returns-clause-printed
-returns-clause-printed g c = c.run_program.ensures.printed
-
-pub returns-clause-unread : goal.returns-clause-unread
-returns-clause-unread g c = c.run_program.ensures.unread
