@@ -1,8 +1,3 @@
-mod CheckPrinted
-pub mod DumpRowsWritten
-pub mod ReadingsWritten
-pub mod DumpInstructionsWritten
-pub mod DumpSectionWritten
-mod DumpPrinted
-mod FunctionLineLemmas
-mod JsonPrinted
+mod SendingLemmas
+mod FdeRowsSent
+mod EntryRowsSent

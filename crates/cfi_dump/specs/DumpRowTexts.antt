@@ -1,48 +1,65 @@
 -- What is printed of the rows of a section: for each FDE, or each that contains one of some
 -- addresses, a line with its addresses and the name of the function that begins there, and then its
 -- rows.
---     fde_rows_text style function addresses section reading      of an FDE that was read, or the
---         refusal in its place
---     entry_rows_text style function addresses section entry      of an entry: nothing for a CIE
+--     asked_rows style asked section      all of it
+--     item_rows style asked section item      of an entry, or the error in its place
 use Rattle.std.specs.Prelude.{ℕ, Bool, true, Option, Some, None, List, [], ◌∷◌, ◌++◌, Result, Ok}
-use Rattle.std.specs.Prelude.{Err, codes, option_map, if◌then◌else◌}
+use Rattle.std.specs.Prelude.{Err, codes, flat_map, option_map, if◌then◌else◌}
 use Rattle.std.specs.Borrow.{Bor}
 use Rattle.std.specs.List.{list_any}
 use Rattle.cfi_read_core.specs.declared.error.Error.{Error}
-use Rattle.cfi_entry.specs.Entries.{Entry, CieEntry, FdeEntry}
+use Rattle.cfi_parts.specs.InstructionReaders.{items}
+use Rattle.cfi_entry.specs.Entries.{Entry, CieEntry, FdeEntry, entries}
 use Rattle.cfi_entry.specs.Fdes.{Fde, covers, end_of}
 use Rattle.cfi_entry.specs.Sections.{Section}
 use Rattle.cfi_unwind.specs.Scan.{read_fde}
+use Rattle.cfi_elf.specs.FunctionNames.{name_in}
+use Rattle.cfi_text.specs.Escapes.{escaped}
 use Rattle.cfi_text.specs.Lines.{address_text}
+use Rattle.cfi_text.specs.Names.{shown}
 use Rattle.cfi_text.specs.Refusals.{refusal_told}
-use Rattle.cfi_dump.specs.FunctionLines.{function_text}
-use Rattle.cfi_dump.specs.JsonLines.{json_addresses, json_function}
-use Rattle.cfi_row_text.specs.Wordings.{of_section}
-use Rattle.cfi_dump.specs.DumpSectionTexts.{fde_rows, answer_lines}
+use Rattle.cfi_text.specs.declared.escapes.Escaping.TheVariants as escaping
+use Rattle.cfi_text.specs.declared.register_names.RegisterNames.{RegisterNames}
 use Rattle.cfi_text.specs.declared.style.Format.{Format}
 use Rattle.cfi_text.specs.declared.style.Format.TheVariants.{Text as AsText, Json}
+use Rattle.cfi_row_text.specs.Wordings.{of_section}
 use Rattle.cfi_row_text.specs.declared.style.Style.{Style}
+use Rattle.cfi_dump.specs.FdeRows.{answer_lines, fde_rows}
+use Rattle.cfi_dump.specs.declared.printed.AskedRows.{AskedRows}
 
--- ---- the rows of FDEs
+-- ---- the line of an FDE: the first address, the first one after the last, and the name of the
+-- function that begins at the first, if there is one
 
--- the first address, and the first one after the last
-abbrev pub fde_addresses_text : ℕ → ℕ → List ℕ
-fde_addresses_text start end = codes "fde " ++ address_text start ++ codes " " ++ address_text end
+-- after a space (32)
+abbrev pub function_text : Option (List ℕ) → List ℕ
+function_text None = []
+function_text (Some name) = 32 ∷ shown name
 
--- the same by the format
-abbrev pub fde_addresses_in : Format → ℕ → ℕ → List ℕ
-fde_addresses_in AsText start end = fde_addresses_text start end
-fde_addresses_in Json start end = json_addresses start end
+-- `fde 0xSTART 0xEND NAME`
+abbrev pub fde_line : ℕ → ℕ → Option (List ℕ) → List ℕ
+fde_line start end name =
+    codes "fde " ++ (address_text start ++ (codes " " ++ (address_text end
+    ++ (function_text name ++ 10 ∷ []))))
 
--- the end of the line: the name of a function, if there is one
-abbrev pub function_end : Format → Option (List ℕ) → List ℕ
-function_end AsText name = function_text name ++ 10 ∷ []
-function_end Json name = json_function name ++ 10 ∷ []
+abbrev pub function_member : Option (List ℕ) → List ℕ
+function_member None = []
+function_member (Some name) = codes ",\"function\":\"" ++ (escaped escaping.Json name ++ codes "\"")
 
--- the addresses, and the name of the function that begins at the first, by the function's address
-abbrev pub addresses_line : Format → (ℕ → Option (List ℕ)) → Fde → List ℕ
-addresses_line format function fde =
-    fde_addresses_in format fde.initial (end_of fde) ++ function_end format (function fde.initial)
+-- `{"fde":{"start":"0xSTART","end":"0xEND","function":"NAME"}}` (RFC 8259)
+abbrev pub fde_object : ℕ → ℕ → Option (List ℕ) → List ℕ
+fde_object start end name =
+    codes "{\"fde\":{\"start\":\"" ++ (address_text start ++ (codes "\",\"end\":\""
+    ++ (address_text end ++ (codes "\"" ++ (function_member name ++ codes "}}\n")))))
+
+abbrev pub line_in : Format → ℕ → ℕ → Option (List ℕ) → List ℕ
+line_in AsText start end name = fde_line start end name
+line_in Json start end name = fde_object start end name
+
+-- with functions by their addresses
+abbrev pub line_of_fde : Format → (ℕ → Option (List ℕ)) → Fde → List ℕ
+line_of_fde format function fde = line_in format fde.initial (end_of fde) (function fde.initial)
+
+-- ---- which FDEs
 
 -- the addresses that the code is given
 abbrev pub given_addresses : Option (Bor (List ℕ)) → Option (List ℕ)
@@ -57,18 +74,30 @@ abbrev pub is_asked_for : Option (List ℕ) → Fde → Bool
 is_asked_for None fde = true
 is_asked_for (Some addresses) fde = contains_any addresses fde
 
--- an FDE that can't be read may be one of an address
-abbrev pub fde_rows_text :
-    Style → (ℕ → Option (List ℕ)) → Option (List ℕ) → Section → Result Fde Error → List ℕ
-fde_rows_text style function addresses section (Ok fde) =
-    if is_asked_for addresses fde
-    then addresses_line style.format function fde
-    ++ answer_lines (of_section style section) (fde_rows section fde)
-    else []
-fde_rows_text style function addresses section (Err error) = (refusal_told style.format error).text
+-- ---- the lines
 
-abbrev pub entry_rows_text :
-    Style → (ℕ → Option (List ℕ)) → Option (List ℕ) → Section → Entry → List ℕ
-entry_rows_text style function addresses section (CieEntry cie) = []
-entry_rows_text style function addresses section (FdeEntry partial) =
-    fde_rows_text style function addresses section (read_fde section partial)
+module _ (style : Style) (asked : AskedRows) (section : Section) where
+  abbrev pub rows_if_asked_for : Fde → List ℕ
+  rows_if_asked_for fde =
+      if is_asked_for (given_addresses asked.addresses) fde
+      then line_of_fde style.format (name_in asked.functions.now) fde
+      ++ answer_lines (of_section style section) (fde_rows section fde)
+      else []
+
+  -- an FDE that can't be read may be one of an address
+  abbrev pub read_rows : Result Fde Error → List ℕ
+  read_rows (Ok fde) = rows_if_asked_for fde
+  read_rows (Err error) = (refusal_told style.format error).text
+
+  abbrev pub item_rows : Result Entry Error → List ℕ
+  item_rows (Ok (CieEntry cie)) = []
+  item_rows (Ok (FdeEntry partial)) = read_rows (read_fde section partial)
+  item_rows (Err error) = (refusal_told style.format error).text
+
+abbrev pub style_of : RegisterNames → AskedRows → Style
+style_of names asked = record { names = names; format = asked.format }
+
+-- of the entries in order, and of the error with which they end, if there is one
+abbrev pub asked_rows : Style → AskedRows → Section → List ℕ
+asked_rows style asked section =
+    flat_map (item_rows style asked section) (items (entries section))

@@ -1,9 +1,5 @@
-pub mod FunctionLines
-pub mod JsonLines
+pub mod Sending
 pub mod CheckLines
-pub mod ReadingTexts
-pub mod DumpEntryLines
-pub mod DumpInstructionLines
-pub mod DumpSectionTexts
+pub mod FdeRows
 pub mod DumpRowTexts
 pub mod DumpProgramOutput

@@ -1,204 +1,165 @@
 //! The words of a call frame instruction: its name in DWARF and its operands.
-ghost use Rattle.std.specs.Prelude.{◌≡◌, Some};
-ghost use Rattle.cfi_read_core.specs.ExpressionPlaces.{expression_of};
-ghost use Rattle.cfi_dump.specs.DumpInstructionLines.{dest_and_src, single, factored_operand};
-ghost use Rattle.cfi_dump.specs.DumpInstructionLines.{registers_text, words_of};
-ghost use Rattle.cfi_dump.specs.DumpInstructionLines.{signed_factored_operand};
 
+use cfi_row_text::expression_words::put_in_words;
 use cfi_text::register_names::RegisterNames;
-use gimli_cfi::{CallFrameInstruction as Instruction, Register, UnwindExpression};
-use std::fmt;
-use std::fmt::{Display, Formatter};
+use cfi_text::text::Text;
+use gimli_cfi::{
+    CallFrameInstruction as Instruction, Reader, Register, UnwindExpression, UnwindSection,
+};
 
-/// A register, as the operand of that name, with the names of registers.
-#[derive(Clone, Copy)]
-struct OneRegister(RegisterNames, Register);
-
-impl Display for OneRegister {
-    ghost output = { λ it. Some (registers_text it.0 (single it.1)) };
-
-    fn fmt<W: fmt::Write>(&self, f: &mut Formatter<W>) -> fmt::Result {
-        let register = self.0.name(self.1.0);
-        write!(f, " register={register}")
-    }
-}
-
-/// The registers of `DW_CFA_register`, with the names of registers.
-#[derive(Clone, Copy)]
-struct TwoRegisters(RegisterNames, Register, Register);
-
-impl Display for TwoRegisters {
-    ghost output = { λ it. Some (registers_text it.0 (dest_and_src it.1 it.2)) };
-
-    fn fmt<W: fmt::Write>(&self, f: &mut Formatter<W>) -> fmt::Result {
-        let dest = self.0.name(self.1.0);
-        let src = self.0.name(self.2.0);
-        write!(f, " dest_register={dest} src_register={src}")
-    }
-}
-
-/// An unsigned offset in units of the data alignment factor, as an operand.
-#[derive(Clone, Copy)]
-struct Factored(u64);
-
-impl Display for Factored {
-    ghost output = { λ it. Some (factored_operand it.0) };
-
-    fn fmt<W: fmt::Write>(&self, f: &mut Formatter<W>) -> fmt::Result {
-        write!(f, " factored_offset={}", self.0)
-    }
-}
-
-/// A signed offset in units of the data alignment factor, as an operand.
-#[derive(Clone, Copy)]
-struct SignedFactored(i64);
-
-impl Display for SignedFactored {
-    ghost output = { λ it. Some (signed_factored_operand it.0) };
-
-    fn fmt<W: fmt::Write>(&self, f: &mut Formatter<W>) -> fmt::Result {
-        write!(f, " factored_offset={}", self.0)
-    }
-}
-
-/// The registers of an instruction, with the names of registers.
-#[derive(Clone, Copy)]
-pub(crate) struct Registers(pub(crate) RegisterNames, pub(crate) Instruction<usize>);
-
-impl Display for Registers {
-    ghost output = { λ it. Some (registers_text it.0 (words_of it.1).registers) };
-
-    fn fmt<W: fmt::Write>(&self, f: &mut Formatter<W>) -> fmt::Result {
-        match self.1 {
-            Instruction::SetLoc { .. } => Ok(()),
-            Instruction::AdvanceLoc { .. } => Ok(()),
-            Instruction::DefCfa { register, .. } => OneRegister(self.0, register).fmt(f),
-            Instruction::DefCfaSf { register, .. } => OneRegister(self.0, register).fmt(f),
-            Instruction::DefCfaRegister { register } => OneRegister(self.0, register).fmt(f),
-            Instruction::DefCfaOffset { .. } => Ok(()),
-            Instruction::DefCfaOffsetSf { .. } => Ok(()),
-            Instruction::DefCfaExpression { .. } => Ok(()),
-            Instruction::Undefined { register } => OneRegister(self.0, register).fmt(f),
-            Instruction::SameValue { register } => OneRegister(self.0, register).fmt(f),
-            Instruction::Offset { register, .. } => OneRegister(self.0, register).fmt(f),
-            Instruction::OffsetExtendedSf { register, .. } => OneRegister(self.0, register).fmt(f),
-            Instruction::OffsetExtendedNegative { register, .. } => OneRegister(
-                self.0, register,
-            ).fmt(f),
-            Instruction::ValOffset { register, .. } => OneRegister(self.0, register).fmt(f),
-            Instruction::ValOffsetSf { register, .. } => OneRegister(self.0, register).fmt(f),
-            Instruction::Register {
-                dest_register,
-                src_register,
-            } => TwoRegisters(self.0, dest_register, src_register).fmt(f),
-            Instruction::Expression { register, .. } => OneRegister(self.0, register).fmt(f),
-            Instruction::ValExpression { register, .. } => OneRegister(self.0, register).fmt(f),
-            Instruction::Restore { register } => OneRegister(self.0, register).fmt(f),
-            Instruction::RememberState => Ok(()),
-            Instruction::RestoreState => Ok(()),
-            Instruction::ArgsSize { .. } => Ok(()),
-            Instruction::NegateRaState => Ok(()),
-            Instruction::Nop => Ok(()),
-        }
-    }
-}
-
-/// The operand of an instruction that is no register and no expression, as it is encoded in the
-/// section.
-#[derive(Clone, Copy)]
-pub(crate) struct Value(pub(crate) Instruction<usize>);
-
-impl Display for Value {
-    ghost output = { λ it. Some (words_of it.0).value };
-
-    fn fmt<W: fmt::Write>(&self, f: &mut Formatter<W>) -> fmt::Result {
-        match self.0 {
-            Instruction::SetLoc { address } => write!(f, " address=0x{address:x}"),
-            Instruction::AdvanceLoc { delta } => write!(f, " delta={delta}"),
-            Instruction::DefCfa { offset, .. } => write!(f, " offset={offset}"),
-            Instruction::DefCfaSf {
-                factored_offset: n,
-                ..
-            } => SignedFactored(n).fmt(f),
-            Instruction::DefCfaRegister { .. } => Ok(()),
-            Instruction::DefCfaOffset { offset } => write!(f, " offset={offset}"),
-            Instruction::DefCfaOffsetSf { factored_offset: n } => SignedFactored(n).fmt(f),
-            Instruction::DefCfaExpression { .. } => Ok(()),
-            Instruction::Undefined { .. } => Ok(()),
-            Instruction::SameValue { .. } => Ok(()),
-            Instruction::Offset {
-                factored_offset: n,
-                ..
-            } => Factored(n).fmt(f),
-            Instruction::OffsetExtendedSf {
-                factored_offset: n,
-                ..
-            } => SignedFactored(n).fmt(f),
-            Instruction::OffsetExtendedNegative {
-                factored_offset: n,
-                ..
-            } => Factored(n).fmt(f),
-            Instruction::ValOffset {
-                factored_offset: n,
-                ..
-            } => Factored(n).fmt(f),
-            Instruction::ValOffsetSf {
-                factored_offset: n,
-                ..
-            } => SignedFactored(n).fmt(f),
-            Instruction::Register { .. } => Ok(()),
-            Instruction::Expression { .. } => Ok(()),
-            Instruction::ValExpression { .. } => Ok(()),
-            Instruction::Restore { .. } => Ok(()),
-            Instruction::RememberState => Ok(()),
-            Instruction::RestoreState => Ok(()),
-            Instruction::ArgsSize { size } => write!(f, " size={size}"),
-            Instruction::NegateRaState => Ok(()),
-            Instruction::Nop => Ok(()),
-        }
-    }
-}
-
-/// Returns the instruction's name in DWARF, one for all sizes of an operand.
-pub(crate) fn dwarf_name(instruction: &Instruction<usize>) -> &'static str
-    ensures { result.now ≡ (words_of instruction.now).name }
-{
+/// Appends the name of the instruction in DWARF (DWARF 5 section 7.24), one for all sizes of an
+/// operand, and its operands as they are encoded in the section: an offset in units of the data
+/// alignment factor isn't multiplied by it. After an advance comes the address to which it moves,
+/// where there is one.
+pub(crate) fn put_instruction<R: Reader<Offset = usize>, S: UnwindSection<R>>(
+    text: &mut Text,
+    names: RegisterNames,
+    section: &S,
+    to: Option<u64>,
+    instruction: Instruction<usize>,
+) {
     match instruction {
-        Instruction::SetLoc { .. } => "DW_CFA_set_loc",
-        Instruction::AdvanceLoc { .. } => "DW_CFA_advance_loc",
-        Instruction::DefCfa { .. } => "DW_CFA_def_cfa",
-        Instruction::DefCfaSf { .. } => "DW_CFA_def_cfa_sf",
-        Instruction::DefCfaRegister { .. } => "DW_CFA_def_cfa_register",
-        Instruction::DefCfaOffset { .. } => "DW_CFA_def_cfa_offset",
-        Instruction::DefCfaOffsetSf { .. } => "DW_CFA_def_cfa_offset_sf",
-        Instruction::DefCfaExpression { .. } => "DW_CFA_def_cfa_expression",
-        Instruction::Undefined { .. } => "DW_CFA_undefined",
-        Instruction::SameValue { .. } => "DW_CFA_same_value",
-        Instruction::Offset { .. } => "DW_CFA_offset",
-        Instruction::OffsetExtendedSf { .. } => "DW_CFA_offset_extended_sf",
-        Instruction::OffsetExtendedNegative { .. } => "DW_CFA_GNU_negative_offset_extended",
-        Instruction::ValOffset { .. } => "DW_CFA_val_offset",
-        Instruction::ValOffsetSf { .. } => "DW_CFA_val_offset_sf",
-        Instruction::Register { .. } => "DW_CFA_register",
-        Instruction::Expression { .. } => "DW_CFA_expression",
-        Instruction::ValExpression { .. } => "DW_CFA_val_expression",
-        Instruction::Restore { .. } => "DW_CFA_restore",
-        Instruction::RememberState => "DW_CFA_remember_state",
-        Instruction::RestoreState => "DW_CFA_restore_state",
-        Instruction::ArgsSize { .. } => "DW_CFA_GNU_args_size",
-        Instruction::NegateRaState => "DW_CFA_AARCH64_negate_ra_state",
-        Instruction::Nop => "DW_CFA_nop",
+        Instruction::SetLoc { address } => put_address(text, b"DW_CFA_set_loc address=", address),
+        Instruction::AdvanceLoc { delta } => {
+            put_number(text, b"DW_CFA_advance_loc delta=", u64::from(delta));
+            if let Some(address) = to {
+                put_address(text, b" to=", address);
+            }
+        }
+        Instruction::DefCfa { register, offset } => {
+            put_register(text, names, b"DW_CFA_def_cfa register=", register);
+            put_number(text, b" offset=", offset);
+        }
+        Instruction::DefCfaSf {
+            register,
+            factored_offset: offset,
+        } => {
+            put_register(text, names, b"DW_CFA_def_cfa_sf register=", register);
+            put_signed(text, b" factored_offset=", offset);
+        }
+        Instruction::DefCfaRegister { register } => {
+            put_register(text, names, b"DW_CFA_def_cfa_register register=", register);
+        }
+        Instruction::DefCfaOffset { offset } => {
+            put_number(text, b"DW_CFA_def_cfa_offset offset=", offset);
+        }
+        Instruction::DefCfaOffsetSf {
+            factored_offset: offset,
+        } => put_signed(text, b"DW_CFA_def_cfa_offset_sf factored_offset=", offset),
+        Instruction::DefCfaExpression { expression } => {
+            text.put(b"DW_CFA_def_cfa_expression");
+            put_expression(text, names, section, expression);
+        }
+        Instruction::Undefined { register } => {
+            put_register(text, names, b"DW_CFA_undefined register=", register);
+        }
+        Instruction::SameValue { register } => {
+            put_register(text, names, b"DW_CFA_same_value register=", register);
+        }
+        Instruction::Offset {
+            register,
+            factored_offset: offset,
+        } => {
+            put_register(text, names, b"DW_CFA_offset register=", register);
+            put_number(text, b" factored_offset=", offset);
+        }
+        Instruction::OffsetExtendedSf {
+            register,
+            factored_offset: offset,
+        } => {
+            let name = b"DW_CFA_offset_extended_sf register=";
+            put_register(text, names, name, register);
+            put_signed(text, b" factored_offset=", offset);
+        }
+        Instruction::OffsetExtendedNegative {
+            register,
+            factored_offset: offset,
+        } => {
+            let name = b"DW_CFA_GNU_negative_offset_extended register=";
+            put_register(text, names, name, register);
+            put_number(text, b" factored_offset=", offset);
+        }
+        Instruction::ValOffset {
+            register,
+            factored_offset: offset,
+        } => {
+            put_register(text, names, b"DW_CFA_val_offset register=", register);
+            put_number(text, b" factored_offset=", offset);
+        }
+        Instruction::ValOffsetSf {
+            register,
+            factored_offset: offset,
+        } => {
+            put_register(text, names, b"DW_CFA_val_offset_sf register=", register);
+            put_signed(text, b" factored_offset=", offset);
+        }
+        Instruction::Register {
+            dest_register: dest,
+            src_register: src,
+        } => {
+            put_register(text, names, b"DW_CFA_register dest_register=", dest);
+            put_register(text, names, b" src_register=", src);
+        }
+        Instruction::Expression {
+            register,
+            expression,
+        } => {
+            put_register(text, names, b"DW_CFA_expression register=", register);
+            put_expression(text, names, section, expression);
+        }
+        Instruction::ValExpression {
+            register,
+            expression,
+        } => {
+            put_register(text, names, b"DW_CFA_val_expression register=", register);
+            put_expression(text, names, section, expression);
+        }
+        Instruction::Restore { register } => {
+            put_register(text, names, b"DW_CFA_restore register=", register);
+        }
+        Instruction::RememberState => text.put(b"DW_CFA_remember_state"),
+        Instruction::RestoreState => text.put(b"DW_CFA_restore_state"),
+        Instruction::ArgsSize { size } => put_number(text, b"DW_CFA_GNU_args_size size=", size),
+        Instruction::NegateRaState => text.put(b"DW_CFA_AARCH64_negate_ra_state"),
+        Instruction::Nop => text.put(b"DW_CFA_nop"),
     }
 }
 
-/// Returns the operand of the instruction that is an expression, if it has one.
-pub(crate) fn expression_of(instruction: Instruction<usize>) -> Option<UnwindExpression<usize>>
-    ensures { result ≡ expression_of instruction }
-{
-    match instruction {
-        Instruction::DefCfaExpression { expression } => Some(expression),
-        Instruction::Expression { expression, .. } => Some(expression),
-        Instruction::ValExpression { expression, .. } => Some(expression),
-        _ => None,
+/// Appends a label and the name of a register.
+fn put_register(text: &mut Text, names: RegisterNames, label: &[u8], register: Register) {
+    text.put(label);
+    let name = names.name(register.0);
+    text.put(name.text.as_bytes());
+    if let Some(number) = name.number {
+        text.number(number);
     }
+}
+
+/// Appends a label and a number.
+fn put_number(text: &mut Text, label: &[u8], number: u64) {
+    text.put(label);
+    text.number(number);
+}
+
+/// Appends a label and a number with a sign.
+fn put_signed(text: &mut Text, label: &[u8], number: i64) {
+    text.put(label);
+    text.number(number);
+}
+
+/// Appends a label and an address.
+fn put_address(text: &mut Text, label: &[u8], address: u64) {
+    text.put(label);
+    text.address(address);
+}
+
+/// Appends an expression as the operand of that name.
+fn put_expression<R: Reader<Offset = usize>, S: UnwindSection<R>>(
+    text: &mut Text,
+    names: RegisterNames,
+    section: &S,
+    expression: UnwindExpression<usize>,
+) {
+    text.put(b" expression=");
+    put_in_words(text, names, section, expression);
 }

@@ -5,9 +5,9 @@
 mod addressed_rows;
 mod advances;
 mod entry_line;
-mod function_line;
-mod instruction_line;
+mod fde_rows;
 mod instruction_words;
+mod lines;
 pub mod print;
 mod printed;
 mod section;

@@ -1,243 +1,151 @@
 //! The line that says whether the table of a header is faithful to its section.
-ghost use Rattle.std.specs.Prelude.{◌≡◌, ◌++◌, OnOk, codes};
-ghost use Rattle.cfi_text.specs.WriterOutput.{Prints, Writes};
-ghost use Rattle.cfi_dump.specs.CheckLines.{faithful_object, reason_text};
-ghost use Rattle.cfi_dump.specs.CheckLines.{reasoned, verdict_in, verdict_line};
-ghost use Rattle.cfi_dump.specs.CheckLines.{verdict_object, verdict_status, verdict_text};
+ghost use Rattle.cfi_text.specs.Texts.{Puts};
+ghost use Rattle.cfi_dump.specs.CheckLines.{reason_text, refused_text, unfaithful_object};
+ghost use Rattle.cfi_dump.specs.CheckLines.{verdict_line, verdict_object, verdict_text};
 
 use cfi_text::error_words::ErrorWords;
-use cfi_text::json::push_number;
-use cfi_text::line_buffer::{LineBuffer, push};
-use cfi_text::lines::{write_between, write_part, write_text};
-use cfi_text::numbers::Address;
 use cfi_text::style::Format;
+use cfi_text::text::Text;
 use gimli_cfi::{Error, Unfaithful, Verdict};
-use std::io::Write;
-use std::{fmt, io};
 
-/// Prints the line of a verdict, and returns the status: 0 where the table is faithful, 1 where it
-/// isn't or there is none. In JSON the line is the end of an object that begins with the name of
+/// Appends the line of a verdict. In JSON it is the end of an object that begins with the name of
 /// the file.
-pub fn write_verdict<W: Write>(output: &mut W, format: Format, verdict: Verdict) -> io::Result<u8>
-    ensures { Prints (verdict_line format verdict)
-        (W.contents output.old) (W.contents output.new) result }
-{
-    write_verdict_line(output, format, verdict)?;
-    Ok(status_of(verdict))
-}
-
-/// Writes the line of a verdict.
-fn write_verdict_line<W: Write>(output: &mut W, format: Format, verdict: Verdict) -> io::Result<()>
-    ensures { Writes (W.contents output.old) (W.contents output.new) result
-        (verdict_line format verdict).text }
-{
-    write_verdict_in(output, format, verdict)?;
-    write_text(output, b"\n")
-}
-
-/// Writes a verdict in a format, without the end of the line.
-fn write_verdict_in<W: Write>(output: &mut W, format: Format, verdict: Verdict) -> io::Result<()>
-    ensures { Writes (W.contents output.old) (W.contents output.new) result
-        (verdict_in format verdict) }
+pub fn put_verdict(text: &mut Text, format: Format, verdict: Verdict)
+    ensures { Puts (verdict_line format verdict) text.old text.new }
 {
     match format {
-        Format::Text => write_verdict_text(output, verdict),
-        Format::Json => write_verdict_object(output, verdict),
+        Format::Text => {
+            put_text(text, verdict);
+            text.put(b"\n");
+        }
+        Format::Json => put_object(text, verdict),
     }
 }
 
-/// Returns the status of a verdict: 0 where the table is faithful, else 1.
-fn status_of(verdict: Verdict) -> u8
-    ensures { result ≡ verdict_status verdict }
+/// Appends a verdict as text.
+fn put_text(text: &mut Text, verdict: Verdict)
+    ensures { Puts (verdict_text verdict) text.old text.new }
 {
     match verdict {
-        Verdict::Faithful(_) => 0,
-        _ => 1,
+        Verdict::Faithful(rows) => {
+            text.put(b"faithful ");
+            text.number(rows);
+        }
+        Verdict::Unfaithful(reason) => put_reason(text, reason),
+        Verdict::NoTable => text.put(b"header: has no table"),
+        Verdict::Refused(refusal) => put_reason(text, Unfaithful::Header(refusal)),
     }
 }
 
-/// Writes a verdict as text.
-fn write_verdict_text<W: Write>(output: &mut W, verdict: Verdict) -> io::Result<()>
-    ensures { Writes (W.contents output.old) (W.contents output.new) result
-        (verdict_text verdict) }
+/// Appends a verdict as the end of an object of JSON.
+fn put_object(text: &mut Text, verdict: Verdict)
+    ensures { Puts (verdict_object verdict) text.old text.new }
 {
     match verdict {
-        Verdict::Faithful(rows) => write_part(output, format_args!("faithful {rows}")),
-        Verdict::Unfaithful(reason) => write_reason(output, reason),
-        Verdict::NoTable => write_text(output, b"header: has no table"),
-        Verdict::Refused(refusal) => write_refused_header(output, refusal),
+        Verdict::Faithful(rows) => {
+            text.put(b"\"result\":\"faithful\",\"rows\":");
+            text.json_number(rows);
+            text.put(b"}\n");
+        }
+        Verdict::Unfaithful(reason) => put_unfaithful(text, reason),
+        Verdict::NoTable => {
+            text.put(b"\"result\":\"no table\",\"reason\":\"header: has no table\"}\n");
+        }
+        Verdict::Refused(refusal) => put_unfaithful(text, Unfaithful::Header(refusal)),
     }
 }
 
-/// Writes a verdict as the end of an object of JSON.
-fn write_verdict_object<W: Write>(output: &mut W, verdict: Verdict) -> io::Result<()>
-    ensures { Writes (W.contents output.old) (W.contents output.new) result
-        (verdict_object verdict) }
+/// Appends the end of an object of JSON for a table that isn't faithful, with the reason.
+fn put_unfaithful(text: &mut Text, reason: Unfaithful)
+    ensures { Puts (unfaithful_object reason) text.old text.new }
 {
-    match verdict {
-        Verdict::Faithful(rows) => write_faithful_object(output, rows),
-        Verdict::Unfaithful(reason) => write_unfaithful_object(output, reason),
-        Verdict::NoTable => write_reasoned(output, b"no table", b"header: has no table", b""),
-        Verdict::Refused(error) => write_unfaithful_object(output, Unfaithful::Header(error)),
-    }
+    text.put(b"\"result\":\"unfaithful\",\"reason\":\"");
+    put_reason(text, reason);
+    text.put(b"\"}\n");
 }
 
-/// Writes the end of an object of JSON for a faithful table of this many rows.
-fn write_faithful_object<W: Write>(output: &mut W, rows: u64) -> io::Result<()>
-    ensures { Writes (W.contents output.old) (W.contents output.new) result
-        (faithful_object rows) }
-{
-    let mut text = LineBuffer::new();
-    push_faithful(&mut text, rows)?;
-    write_text(output, text.as_slice())
-}
-
-/// Appends what `write_faithful_object` writes.
-fn push_faithful(text: &mut LineBuffer, rows: u64) -> fmt::Result
-    ensures { OnOk result (text.new.items ≡ text.old.items ++ faithful_object rows) }
-{
-    push(text, b"\"result\":\"faithful\",\"rows\":")?;
-    push_number(text, rows)?;
-    push(text, b"}")
-}
-
-/// Writes the end of an object of JSON for a table that isn't faithful, with the reason.
-fn write_unfaithful_object<W: Write>(output: &mut W, reason: Unfaithful) -> io::Result<()>
-    ensures { Writes (W.contents output.old) (W.contents output.new) result
-        (reasoned (codes "unfaithful") (reason_text reason)) }
-{
-    write_text(output, b"\"result\":\"unfaithful\",\"reason\":\"")?;
-    write_reason(output, reason)?;
-    write_text(output, b"\"}")
-}
-
-/// Writes the end of an object of JSON: what was found, and why, as a text and a name after it.
-/// Fails where the output can't be written.
-pub fn write_reasoned<W: Write>(
-    output: &mut W,
-    found: &[u8],
-    reason: &[u8],
-    name: &[u8],
-) -> io::Result<()>
-    ensures { Writes (W.contents output.old) (W.contents output.new) result
-        (reasoned found.now (reason.now ++ name.now)) }
-{
-    write_between(output, b"\"result\":\"", found, b"\",\"reason\":\"")?;
-    write_between(output, reason, name, b"\"}")
-}
-
-/// Writes a reason: where the fault is, by row or by the offset of an entry, and what
-/// it is.
-fn write_reason<W: Write>(output: &mut W, reason: Unfaithful) -> io::Result<()>
-    ensures { Writes (W.contents output.old) (W.contents output.new) result
-        (reason_text reason) }
+/// Appends a reason: where the fault is, by row or by the offset of an entry, and what it is.
+fn put_reason(text: &mut Text, reason: Unfaithful)
+    ensures { Puts (reason_text reason) text.old text.new }
 {
     match reason {
-        Unfaithful::Header(refusal) => write_refused_header(output, refusal),
-        Unfaithful::Row { row, refusal } => write_refused_row(output, row, refusal),
-        Unfaithful::Order { row, before, start } => write_order(output, row, before, start),
-        Unfaithful::Entry { offset, refusal } => write_refused_entry(output, offset, refusal),
-        Unfaithful::Fde { offset, refusal } => write_refused_fde(output, offset, refusal),
-        Unfaithful::NoRow { offset, address } => write_no_row(output, offset, address),
-        Unfaithful::Overlap { offset, end, next } => write_overlap(output, offset, end, next),
-        Unfaithful::Count { rows, fdes } => write_count(output, rows, fdes),
+        Unfaithful::Header(refusal) => {
+            text.put(b"header");
+            put_refused(text, refusal);
+        }
+        Unfaithful::Row { row, refusal } => {
+            text.put(b"row ");
+            text.number(row);
+            put_refused(text, refusal);
+        }
+        Unfaithful::Order { row, before, start } => put_order(text, row, before, start),
+        Unfaithful::Entry { offset, refusal } => {
+            text.put(b"entry ");
+            text.address(offset);
+            put_refused(text, refusal);
+        }
+        Unfaithful::Fde { offset, refusal } => {
+            text.put(b"FDE ");
+            text.address(offset);
+            put_refused(text, refusal);
+        }
+        Unfaithful::NoRow { offset, address } => put_no_row(text, offset, address),
+        Unfaithful::Overlap { offset, end, next } => put_overlap(text, offset, end, next),
+        Unfaithful::Count { rows, fdes } => put_count(text, rows, fdes),
     }
 }
 
-/// Writes that the header can't be read, with the error.
-fn write_refused_header<W: Write>(output: &mut W, refusal: Error) -> io::Result<()>
-    ensures { Writes (W.contents output.old) (W.contents output.new) result
-        (reason_text (Unfaithful.Header refusal)) }
+/// Appends that something can't be read, with the error.
+fn put_refused(text: &mut Text, error: Error)
+    ensures { Puts (refused_text error) text.old text.new }
 {
-    let words = ErrorWords {
-        format: Format::Text,
-        error: refusal,
-    };
-    write_part(output, format_args!("header: refused {words}"))
+    text.put(b": refused ");
+    let format = Format::Text;
+    text.show(ErrorWords { format, error });
 }
 
-/// Writes that a row of the table can't be read, with the error.
-fn write_refused_row<W: Write>(output: &mut W, row: u64, refusal: Error) -> io::Result<()>
-    ensures { Writes (W.contents output.old) (W.contents output.new) result
-        (reason_text (Unfaithful.Row row refusal)) }
+/// Appends that a row doesn't start above the row before it.
+fn put_order(text: &mut Text, row: u64, before: u64, start: u64)
+    ensures { Puts (reason_text (Unfaithful.Order row before start)) text.old text.new }
 {
-    let words = ErrorWords {
-        format: Format::Text,
-        error: refusal,
-    };
-    write_part(output, format_args!("row {row}: refused {words}"))
+    text.put(b"row ");
+    text.number(row);
+    text.put(b": starts at ");
+    text.address(start);
+    text.put(b", the row before it at ");
+    text.address(before);
 }
 
-/// Writes that a row doesn't start above the row before it.
-fn write_order<W: Write>(output: &mut W, row: u64, before: u64, start: u64) -> io::Result<()>
-    ensures { Writes (W.contents output.old) (W.contents output.new) result
-        (reason_text (Unfaithful.Order row before start)) }
+/// Appends that no row leads to the FDE at an offset, whose first address is given.
+fn put_no_row(text: &mut Text, offset: u64, address: u64)
+    ensures { Puts (reason_text (Unfaithful.NoRow offset address)) text.old text.new }
 {
-    let start = Address(start);
-    let before = Address(before);
-    write_part(
-        output,
-        format_args!("row {row}: starts at {start}, the row before it at {before}"),
-    )
+    text.put(b"FDE ");
+    text.address(offset);
+    text.put(b": no row starts at ");
+    text.address(address);
+    text.put(b" and leads to it");
 }
 
-/// Writes that the entry at an offset can't be read, with the error.
-fn write_refused_entry<W: Write>(output: &mut W, offset: u64, refusal: Error) -> io::Result<()>
-    ensures { Writes (W.contents output.old) (W.contents output.new) result
-        (reason_text (Unfaithful.Entry offset refusal)) }
+/// Appends that the FDE at an offset contains the start of the row after its own.
+fn put_overlap(text: &mut Text, offset: u64, end: u64, next: u64)
+    ensures { Puts (reason_text (Unfaithful.Overlap offset end next)) text.old text.new }
 {
-    let offset = Address(offset);
-    let words = ErrorWords {
-        format: Format::Text,
-        error: refusal,
-    };
-    write_part(output, format_args!("entry {offset}: refused {words}"))
+    text.put(b"FDE ");
+    text.address(offset);
+    text.put(b": ends at ");
+    text.address(end);
+    text.put(b", the next row starts at ");
+    text.address(next);
 }
 
-/// Writes that the FDE at an offset can't be read, with the error.
-fn write_refused_fde<W: Write>(output: &mut W, offset: u64, refusal: Error) -> io::Result<()>
-    ensures { Writes (W.contents output.old) (W.contents output.new) result
-        (reason_text (Unfaithful.Fde offset refusal)) }
+/// Appends that the section has fewer FDEs than the table has rows.
+fn put_count(text: &mut Text, rows: u64, fdes: u64)
+    ensures { Puts (reason_text (Unfaithful.Count rows fdes)) text.old text.new }
 {
-    let offset = Address(offset);
-    let words = ErrorWords {
-        format: Format::Text,
-        error: refusal,
-    };
-    write_part(output, format_args!("FDE {offset}: refused {words}"))
-}
-
-/// Writes that no row leads to the FDE at an offset, whose first address is given.
-fn write_no_row<W: Write>(output: &mut W, offset: u64, address: u64) -> io::Result<()>
-    ensures { Writes (W.contents output.old) (W.contents output.new) result
-        (reason_text (Unfaithful.NoRow offset address)) }
-{
-    let offset = Address(offset);
-    let address = Address(address);
-    write_part(
-        output,
-        format_args!("FDE {offset}: no row starts at {address} and leads to it"),
-    )
-}
-
-/// Writes that the FDE at an offset contains the start of the row after its own.
-fn write_overlap<W: Write>(output: &mut W, offset: u64, end: u64, next: u64) -> io::Result<()>
-    ensures { Writes (W.contents output.old) (W.contents output.new) result
-        (reason_text (Unfaithful.Overlap offset end next)) }
-{
-    let offset = Address(offset);
-    let end = Address(end);
-    let next = Address(next);
-    write_part(
-        output,
-        format_args!("FDE {offset}: ends at {end}, the next row starts at {next}"),
-    )
-}
-
-/// Writes that the section has fewer FDEs than the table has rows.
-fn write_count<W: Write>(output: &mut W, rows: u64, fdes: u64) -> io::Result<()>
-    ensures { Writes (W.contents output.old) (W.contents output.new) result
-        (reason_text (Unfaithful.Count rows fdes)) }
-{
-    write_part(output, format_args!("table: {rows} rows for {fdes} FDEs"))
+    text.put(b"table: ");
+    text.number(rows);
+    text.put(b" rows for ");
+    text.number(fdes);
+    text.put(b" FDEs");
 }

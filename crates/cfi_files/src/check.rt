@@ -8,7 +8,7 @@ ghost use Rattle.cfi_files.specs.Findings.{name_of_finding, reason_members, why}
 ghost use Rattle.cfi_text.specs.Texts.{Puts};
 
 use crate::error::FileError;
-use cfi_dump::verdict_line::write_verdict;
+use cfi_dump::verdict_line::put_verdict;
 use cfi_elf::{ElfError, ElfFile, Image};
 use cfi_object::call_frames::eh_frame;
 use cfi_object::input::FileInput;
@@ -107,8 +107,8 @@ impl CheckStyle {
 /// Reads the parts of an ELF file that are needed, prints a line with the name and whether the
 /// table of the file lists its FDEs faithfully, and returns what was found.
 ///
-/// The line has after the name and `: ` the verdict on the table, as `write_verdict` of
-/// `cfi_dump` prints it; `no call frames` or `no header` where the file has no `.eh_frame` or
+/// The line has after the name and `: ` the verdict on the table, as `put_verdict` of
+/// `cfi_dump` appends it; `no call frames` or `no header` where the file has no `.eh_frame` or
 /// no header; `refused` and the name of an error; or `wrong input` where the file can't be read.
 /// In JSON it is an object with the name as `file`, what was found as `result`, and the number of
 /// rows of a faithful table as `rows` or else that text as `reason`. Fails where the output can't
@@ -129,10 +129,7 @@ pub fn check_file<I: FileInput, W: Write>(
     let mut text = Text::new(alloc);
     put_name(&mut text, style.format, name);
     match verdict {
-        Ok(Some(verdict)) => {
-            text.write_to(output)?;
-            write_verdict(output, style.format, verdict)?;
-        }
+        Ok(Some(verdict)) => put_verdict(&mut text, style.format, verdict),
         Ok(None) => put_reason(&mut text, style.format, finding, None),
         Err(error) => put_reason(&mut text, style.format, finding, Some(error)),
     }

@@ -6,7 +6,7 @@ ghost use Rattle.cfi_compiled.specs.CompiledRows.{parts_kept};
 use crate::error::FileError;
 use cfi_compiled::{CompiledRow, CompiledStep, CompiledTable};
 use cfi_row_text::register_rules::{HasRules, number_after};
-use cfi_row_text::row_words::{write_frame, write_rules};
+use cfi_row_text::row_words::{put_frame, put_rules};
 use cfi_text::error_words::ErrorWords;
 use cfi_text::reading::InputError;
 use cfi_text::register_names::RegisterNames;
@@ -19,6 +19,9 @@ use gimli_cfi::{
 use std::alloc::Global;
 use std::io;
 use std::io::Write;
+
+/// How much text may wait for another line.
+const FULL: usize = 4096;
 
 /// Prints the rows for all addresses, by the compiled table of the section, and returns the status.
 ///
@@ -57,7 +60,10 @@ fn print_table<R: Reader<Offset = usize>, S: UnwindSection<R>, W: Write>(
     match CompiledTable::new(alloc, section, bases) {
         Ok(table) => {
             for step in table.iter() {
-                write_step(output, names, section, &step, text)?;
+                put_step(text, names, section, &step);
+                if text.as_bytes().len() > FULL {
+                    text.write_to(output)?;
+                }
             }
             text.write_to(output)?;
             Ok(0)
@@ -66,20 +72,18 @@ fn print_table<R: Reader<Offset = usize>, S: UnwindSection<R>, W: Write>(
     }
 }
 
-/// Writes the line of a step after the text, which then has what isn't written of it.
-fn write_step<R: Reader<Offset = usize>, S: UnwindSection<R>, W: Write>(
-    output: &mut W,
+/// Appends the line of a step.
+fn put_step<R: Reader<Offset = usize>, S: UnwindSection<R>>(
+    text: &mut Text,
     names: RegisterNames,
     section: &S,
     step: &CompiledStep<'_>,
-    text: &mut Text,
-) -> io::Result<()> {
+) {
     text.address(step.start);
     match step.row {
         Ok(row) => {
-            text.write_to(output)?;
-            write_frame(output, names, section, *row.cfa(), row.saved_args_size())?;
-            write_rules(output, names, section, &TableRow(&row))?;
+            put_frame(text, names, section, *row.cfa(), row.saved_args_size());
+            put_rules(text, names, section, &TableRow(&row));
         }
         Err(error) => {
             text.put(b" refused ");
@@ -90,7 +94,6 @@ fn write_step<R: Reader<Offset = usize>, S: UnwindSection<R>, W: Write>(
         }
     }
     text.put(b"\n");
-    Ok(())
 }
 
 /// A row of a table, whose rules are written.

@@ -4,7 +4,7 @@ use crate::query::{Query, put_query};
 use crate::row::FrameSections;
 use cfi_elf::ElfFile;
 use cfi_object::target::target_addresses;
-use cfi_row_text::row_words::write_answer_end;
+use cfi_row_text::row_words::put_answer_end;
 use cfi_row_text::style::Style;
 use cfi_text::text::Text;
 use gimli_cfi::{Error, UnwindContext};
@@ -94,8 +94,10 @@ fn print_row<W: Write>(
     };
     match lookup.sections.row(context, address) {
         Ok(found) => {
-            lookup.text.write_to(output)?;
-            write_answer_end(output, query.style, &found.section, Ok(found.row))
+            let text = &mut lookup.text;
+            let status = put_answer_end(text, query.style, &found.section, Ok(found.row));
+            text.write_to(output)?;
+            Ok(status)
         }
         Err(error) => print_end(query, error, &mut lookup.text, output),
     }

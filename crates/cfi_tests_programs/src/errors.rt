@@ -1,8 +1,9 @@
 //! Lines of errors: that the longest ones are written, and what to do.
 use crate::comparison::expect;
-use cfi_dump::verdict_line::write_verdict;
+use cfi_dump::verdict_line::put_verdict;
 use cfi_text::refusals::{write_refusal_end, write_refusal_told};
 use cfi_text::style::Format;
+use cfi_text::text::Text;
 use gimli_cfi::{DwCfa, DwEhPe, Error, ReaderOffsetId, Unfaithful, Verdict};
 use std::alloc::Global;
 use std::test::Fail;
@@ -48,9 +49,9 @@ fn is_written(alloc: Global, error: Error) -> Result<bool, Fail> {
     write_refusal_told(&mut line, Format::Text, error)?;
     let (offset, refusal) = (u64::MAX, error);
     let verdict = Verdict::Unfaithful(Unfaithful::Entry { offset, refusal });
-    let mut longest = Vec::new(alloc);
-    write_verdict(&mut longest, Format::Text, verdict)?;
-    Ok(longest.as_slice().ends_with(line.as_slice()))
+    let mut longest = Text::new(alloc);
+    put_verdict(&mut longest, Format::Text, verdict);
+    Ok(longest.as_bytes().ends_with(line.as_slice()))
 }
 
 #[test]

@@ -1,8 +1,8 @@
-use Rattle.cfi_text.proofs.WrittenLemmas.{none_yet}
+use Rattle.cfi_dump.proofs.SendingLemmas.{passes_nothing}
 use Rattle.cfi_dump.proofs.addressed_rows.write_entry_rows.Goals as goal
 
 pub returns-in-Ok-Cie-clause-written : goal.returns-in-Ok-Cie-clause-written
-returns-in-Ok-Cie-clause-written g c = rw (c.in-Ok-Cie.is, c.in-Ok-Cie.field-0-is) (none_yet _)
+returns-in-Ok-Cie-clause-written g c = rw (c.in-Ok-Cie.is, c.in-Ok-Cie.field-0-is) (passes_nothing _ _)
 
 pub returns-in-Ok-Fde-clause-written : goal.returns-in-Ok-Fde-clause-written
 returns-in-Ok-Fde-clause-written g c = rw (c.in-Ok-Fde.is, c.in-Ok-Fde.field-0-is) c.write_partial_rows.ensures.written

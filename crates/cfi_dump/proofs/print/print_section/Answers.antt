@@ -1,20 +1,12 @@
-use Rattle.std.proofs.Common.{◌≡◌, ℕ, Result, Ok, Err, IfOk, inl, refl}
-use Rattle.std.specs.Result.{IsErr}
+use Rattle.std.proofs.Common.{inl, refl}
 use Rattle.cfi_entry.specs.Sections.{section_of}
-use Rattle.cfi_dump.specs.DumpProgramOutput.{printed_text, text_output}
-use Rattle.cfi_text.proofs.WrittenLemmas.{writes_refused}
+use Rattle.cfi_dump.specs.DumpProgramOutput.{text_output}
+use Rattle.cfi_dump.specs.DumpRowTexts.{asked_rows, style_of}
 use Rattle.cfi_dump.proofs.print.print_section.Goals as goal
 
-no_status : {E : Type 0} (r : Result ℕ E) → IsErr r → IfOk r (λ status. status ≡ 0)
-no_status (Ok n) err = cc
-no_status (Err e) err = tt
+pub returns-in-Entries : goal.returns-in-Entries
+returns-in-Entries g c = rw c.in-Entries.is (c.print_entries.ensures.0, c.print_entries.ensures.1, inl c.print_entries.ensures.2)
 
-pub returns-in_err-write_section : goal.returns-in_err-write_section
-returns-in_err-write_section g c =
-    let text = printed_text c.args.names c.args.printed (section_of (g.S._UnwindSectionPrivate.view c.args.section.now) c.args.bases.now) in
-    (text_output text, (writes_refused _ _ _ _ c.from_residual.ensures.0 c.in_err-write_section.ensures, no_status c.from_residual.result c.from_residual.ensures.0), inl refl)
-
-pub returns : goal.returns
-returns g c =
-    let text = printed_text c.args.names c.args.printed (section_of (g.S._UnwindSectionPrivate.view c.args.section.now) c.args.bases.now) in
-    (text_output text, (c.in_ok-write_section.ensures, refl), inl refl)
+pub returns-in-Rows : goal.returns-in-Rows
+returns-in-Rows g c =
+    rw c.in-Rows.is (text_output (asked_rows (style_of c.args.names c.in-Rows.asked) c.in-Rows.asked (section_of (g.S._UnwindSectionPrivate.view c.args.section.now) c.args.bases.now)), c.print_rows.ensures, inl refl)

@@ -1,10 +1,5 @@
+use Rattle.cfi_dump.proofs.SendingLemmas.{grows_sent}
 use Rattle.cfi_dump.proofs.section.write_entry.Goals as goal
 
-pub returns-in-Ok-Cie-clause-written : goal.returns-in-Ok-Cie-clause-written
-returns-in-Ok-Cie-clause-written g c = rw (c.in-Ok-Cie.is, c.in-Ok-Cie.field-0-is) c.write_whole_cie.ensures
-
-pub returns-in-Ok-Fde-clause-written : goal.returns-in-Ok-Fde-clause-written
-returns-in-Ok-Fde-clause-written g c = rw (c.in-Ok-Fde.is, c.in-Ok-Fde.field-0-is) c.write_fde_and_rows.ensures.written
-
 pub returns-in-Err-clause-written : goal.returns-in-Err-clause-written
-returns-in-Err-clause-written g c = rw c.in-Err.is c.write_refused.ensures
+returns-in-Err-clause-written g c = grows_sent _ _ _ _ c.write_refused.result _ c.write_refused.ensures
