@@ -11,8 +11,8 @@ returns-in-Ok-clause-value c =
     c.as_slice.ensures.value ∙ filter_same _ (λ x. not (is_space x)) _ (λ x b f k. search rules) _ _ c.retain.ensures.filtered in
     sym (ap decode_of digits) ∙ c.in-Ok.ensures.ok
 
-pub returns-in-Err-clause-refused : goal.returns-in-Err-clause-refused
-returns-in-Err-clause-refused c =
+pub returns : goal.returns
+returns c =
     let digits : c.as_slice.result.now ≡ without_spaces c.args.text.items =
     c.as_slice.ensures.value ∙ filter_same _ (λ x. not (is_space x)) _ (λ x b f k. search rules) _ _ c.retain.ensures.filtered in
-    rw c.refusal_of.ensures (refused_as c.args.text.items c.in-Err.error (rw digits at c.in-Err.ensures.err))
+    record { value = tt; refused = rw c.refusal_of.ensures (refused_as c.args.text.items c.in-Err.error (rw digits at c.in-Err.ensures.err)) }

@@ -6,4 +6,4 @@ use Rattle.cfi_programs.proofs.rows.row_lookup.put_row.Goals as goal
 pub returns-in-Err : goal.returns-in-Err
 returns-in-Err g c =
     let memory : c.in-Err.error ≡ OutOfMemory = search rules in
-    (refusal_line c.in-Err.error, ((c.put_refusal.ensures, refl), inr (ap refusal_line memory)))
+    (refusal_line c.in-Err.error, (c.put_refusal.ensures, refl), inr (ap refusal_line memory))
