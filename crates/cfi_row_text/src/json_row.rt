@@ -91,7 +91,12 @@ fn put_json_cfa<R: Reader<Offset = usize>, S: UnwindSection<R>>(
         Puts (json_cfa wording cfa) text.old text.new }
 {
     text.put(b"\"cfa\":\"");
-    put_cfa(text, &InWords::<R, S>::new(style.names, section), style.names, cfa);
+    put_cfa(
+        text,
+        &InWords::<R, S>::new(style.names, section),
+        style.names,
+        cfa,
+    );
     text.put(b"\"");
     put_cfa_bytes(text, style, section, cfa);
 }
@@ -181,7 +186,12 @@ fn put_member<R: Reader<Offset = usize>, S: UnwindSection<R>>(
         Puts (json_member wording register.0 rule) text.old text.new }
 {
     put_name(text, style.names, register);
-    put_rule(text, &InWords::<R, S>::new(style.names, section), style.names, rule);
+    put_rule(
+        text,
+        &InWords::<R, S>::new(style.names, section),
+        style.names,
+        rule,
+    );
     text.put(b"\"");
 }
 
