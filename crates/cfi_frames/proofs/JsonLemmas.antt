@@ -29,11 +29,13 @@ module _ (style : FrameStyle) (frames : List Frame) where
       let first : drop i frames ≡ get_or frames i d ∷ drop (i + 1) frames = rw (drop-cons frames i d h, add-one) refl in
       ap (λ (l : List Frame). separated is_first (led_frames style (map frame_view l))) first ∙ one_object is_first (frame_json style (frame_view (get_or frames i d))) (led_frames style (map frame_view (drop (i + 1) frames)))
 
-  pub object_put : (x y z : Text) (is_first : Bool) (i : ℕ) (d : Frame) → i < length frames → ArePut x y is_first i → Puts (object_at is_first i d) y z → ArePut x z false (i + 1)
-  object_put x y z is_first i d h are more =
+  pub object_put : (x y z : Text) (is_first : Bool) (i : ℕ) (frame : Frame) → i < length frames → frame ≡ get_or frames i frame → ArePut x y is_first i → Puts (comma_before is_first ++ frame_json style (frame_view frame)) y z
+      → ArePut x z false (i + 1)
+  object_put x y z is_first i frame h is are more =
       let all = frames_json style (map frame_view frames) in
-      let next : IsPut x y (object_at is_first i d ++ objects_from false (i + 1)) all = subst (λ (left : List ℕ). IsPut x y left all) (first_object is_first i d h) are in
-      put_more x y z (object_at is_first i d) (objects_from false (i + 1)) all next more
+      let next : IsPut x y (object_at is_first i frame ++ objects_from false (i + 1)) all = subst (λ (left : List ℕ). IsPut x y left all) (first_object is_first i frame h) are in
+      let here : Puts (object_at is_first i frame) y z = subst (λ (f : Frame). Puts (comma_before is_first ++ frame_json style (frame_view f)) y z) is more in
+      put_more x y z (object_at is_first i frame) (objects_from false (i + 1)) all next here
 
   pub objects_put : (x y : Text) (is_first : Bool) (i : ℕ) → length frames ≤ i → ArePut x y is_first i → Puts (frames_json style (map frame_view frames)) x y
   objects_put x y is_first i h are = put_all x y (objects_from is_first i) (frames_json style (map frame_view frames)) are (ap (λ (l : List Frame). separated is_first (led_frames style (map frame_view l))) (drop_all i frames h) ∙ no_object is_first)

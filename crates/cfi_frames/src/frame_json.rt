@@ -24,8 +24,8 @@ pub fn put_frame_objects(text: &mut Text, style: FrameStyle, frames: &[Frame<'_>
     ensures { Puts (frames_json style (map frame_view frames.now)) text.old text.new }
 {
     let mut is_first = true;
-    for number in 0..frames.len() {
-        put_frame_object(text, style, is_first, &frames[number]);
+    for frame in frames {
+        put_frame_object(text, style, is_first, frame);
         is_first = false;
     }
 }
