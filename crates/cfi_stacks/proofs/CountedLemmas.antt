@@ -56,8 +56,8 @@ map_then : {X Y : Type 0} (f : X → Y) (xs ys : List X) → map f (xs ++ ys) �
 map_then f [] ys = refl
 map_then {X} {Y} f (x ∷ xs) ys = ap (λ (l : List Y). f x ∷ l) (map_then f xs ys)
 
--- by one that counts so
-module _ {V : Type 0} (period_of : V → Bool) (counts_of : V → List FoldedStack) where
+-- by a visitor that counts so, which is this after the last one
+module _ {V : Type 0} (last : V) (period_of : V → Bool) (counts_of : V → List FoldedStack) where
   abbrev pub Counts-each : V → Stack → V → Type 0
   Counts-each old stack new = Counts (period_of old) (counts_of old) stack (counts_of new) × (period_of new ≡ period_of old)
 
@@ -73,13 +73,13 @@ module _ {V : Type 0} (period_of : V → Bool) (counts_of : V → List FoldedSta
       let here = subst (λ (b : Bool). AreCounted ((all ++ first ∷ []) ++ map (folded_sample b) stacks) (counts_of new)) same more in
       (subst (λ (l : List FoldedStack). AreCounted l (counts_of new)) (append_assoc all (first ∷ []) (map (folded_sample (period_of old)) stacks)) here, also ∙ same)
 
-  module _ (by_period : Bool) (machine : SampleMachine) (files : List KnownFile) (choice : Choice) (records : List Record) (old new : V) (is : period_of old ≡ by_period) (none : AreCounted [] (counts_of old)) where
-    pub are_folded : {T : Type 0} (done : T) → AreVisited {E = FoldedError} Counts-each Refuses-each true machine files choice records old new (Ok done) → AreFolded by_period machine files choice records (counts_of new)
+  module _ (by_period : Bool) (machine : SampleMachine) (files : List KnownFile) (choice : Choice) (records : List Record) (old : V) (is : period_of old ≡ by_period) (none : AreCounted [] (counts_of old)) where
+    pub are_folded : {T : Type 0} (done : T) → AreVisited {E = FoldedError} Counts-each Refuses-each true machine files choice records old last (Ok done) → AreFolded by_period machine files choice records (counts_of last)
     are_folded done (stacks, are, folds) =
-        let (counts, same) = all_counted stacks old new [] folds none in
-        (map (folded_sample by_period) stacks, (stacks, are, refl), subst (λ (b : Bool). AreCounted (map (folded_sample b) stacks) (counts_of new)) is counts)
+        let (counts, same) = all_counted stacks old last [] folds none in
+        (map (folded_sample by_period) stacks, (stacks, are, refl), subst (λ (b : Bool). AreCounted (map (folded_sample b) stacks) (counts_of last)) is counts)
 
-    pub are_unfolded : {T : Type 0} → AreVisited {T = T} Counts-each Refuses-each true machine files choice records old new (Err (Visitor TooManySamples)) → IsUnfolded by_period machine files choice records TooMany
+    pub are_unfolded : {T : Type 0} → AreVisited {T = T} Counts-each Refuses-each true machine files choice records old last (Err (Visitor TooManySamples)) → IsUnfolded by_period machine files choice records TooMany
     are_unfolded (n, stacks, stack, mid, are, folds, refused) =
         let (counts, same) = all_counted stacks old mid [] folds none in
         let many = subst (λ (b : Bool). HasTooMany (map (folded_sample (period_of old)) stacks ++ folded_sample b stack ∷ [])) same (refused (map (folded_sample (period_of old)) stacks) counts) in

@@ -73,8 +73,8 @@ are_then {X} {A} IsOf (x ∷ xs) ys found more (first, others, is, rest, whole) 
 alone : {X A : Type 0} (IsOf : X → List A → Type 0) (x : X) (found : List A) → IsOf x found → AreOfAll IsOf (x ∷ []) found
 alone IsOf x found is = (found, [], is, refl, sym (append-nil found))
 
--- by a printer with this style and these bytes
-module _ {V E : Type 0} (style_of : V → StackStyle) (bytes_of : V → Option (List ℕ)) where
+-- by a printer with a style and bytes, which is this after the last one
+module _ {V E : Type 0} (last : V) (style_of : V → StackStyle) (bytes_of : V → Option (List ℕ)) where
   abbrev pub Prints-each : V → Stack → V → Type 0
   Prints-each old stack new = Shows (style_of old) (bytes_of old) stack (bytes_of new) × (style_of new ≡ style_of old)
 
@@ -91,20 +91,20 @@ module _ {V E : Type 0} (style_of : V → StackStyle) (bytes_of : V → Option (
         also ∙ same,
       )
 
-  pub are_printed : {T : Type 0} (machine : SampleMachine) (files : List KnownFile) (choice : Choice) (records : List Record) (style : StackStyle) (old new : V) (r : Result T (Stopped E)) → style_of old ≡ style
-      → AreVisited Prints-each Begins-each (not style.raw) machine files choice records old new r → ArePrinted style machine files choice records (bytes_of old) (bytes_of new) r
-  are_printed machine files choice records style old new (Ok done) is (stacks, are, folds) =
-      let (text, texts, goes, same) = texts_of stacks old new folds in (text, (stacks, are, subst (λ (s : StackStyle). AreOfAll (IsInFormat s) stacks text) is texts), goes)
-  are_printed machine files choice records style old new (Err (Input why)) is (n, stacks, are, folds) =
-      let (text, texts, goes, same) = texts_of stacks old new folds in (n, text, (stacks, are, subst (λ (s : StackStyle). AreOfAll (IsInFormat s) stacks text) is texts), goes)
-  are_printed machine files choice records style old new (Err (Visitor why)) is (n, stacks, stack, mid, are, folds, (last, is_last, begun)) =
+  pub are_printed : {T : Type 0} (machine : SampleMachine) (files : List KnownFile) (choice : Choice) (records : List Record) (style : StackStyle) (old : V) (r : Result T (Stopped E)) → style_of old ≡ style
+      → AreVisited Prints-each Begins-each (not style.raw) machine files choice records old last r → ArePrinted style machine files choice records (bytes_of old) (bytes_of last) r
+  are_printed machine files choice records style old (Ok done) is (stacks, are, folds) =
+      let (text, texts, goes, same) = texts_of stacks old last folds in (text, (stacks, are, subst (λ (s : StackStyle). AreOfAll (IsInFormat s) stacks text) is texts), goes)
+  are_printed machine files choice records style old (Err (Input why)) is (n, stacks, are, folds) =
+      let (text, texts, goes, same) = texts_of stacks old last folds in (n, text, (stacks, are, subst (λ (s : StackStyle). AreOfAll (IsInFormat s) stacks text) is texts), goes)
+  are_printed machine files choice records style old (Err (Visitor why)) is (n, stacks, stack, mid, are, folds, (last_text, is_last, begun)) =
       let (text, texts, goes, same) = texts_of stacks old mid folds in
       let front = subst (λ (s : StackStyle). AreOfAll (IsInFormat s) stacks text) is texts in
-      let back = subst (λ (s : StackStyle). IsInFormat s stack last) (same ∙ is) is_last in (
+      let back = subst (λ (s : StackStyle). IsInFormat s stack last_text) (same ∙ is) is_last in (
         n,
-        text ++ last,
-        (stacks ++ stack ∷ [], are, are_then (IsInFormat style) stacks (stack ∷ []) text last front (alone (IsInFormat style) stack last back)),
-        beginning_then (bytes_of old) (bytes_of mid) (bytes_of new) last [] (text ++ last) (record { front = text; given = goes; whole = ap (λ (l : List ℕ). text ++ l) (append-nil last) }) begun,
+        text ++ last_text,
+        (stacks ++ stack ∷ [], are, are_then (IsInFormat style) stacks (stack ∷ []) text last_text front (alone (IsInFormat style) stack last_text back)),
+        beginning_then (bytes_of old) (bytes_of mid) (bytes_of last) last_text [] (text ++ last_text) (record { front = text; given = goes; whole = ap (λ (l : List ℕ). text ++ l) (append-nil last_text) }) begun,
       )
 
 -- ---- and what comes after them

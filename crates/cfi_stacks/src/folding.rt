@@ -1,5 +1,5 @@
 //! The folded stacks of a profile's samples.
-ghost use Rattle.std.specs.Prelude.{◌≡◌, ◌×◌, ◌⊎◌, IfErr, IfOk, OnOk, map};
+ghost use Rattle.std.specs.Prelude.{◌≡◌, ◌⊎◌, IfErr, IfOk, OnOk, map};
 ghost use Rattle.std.specs.List.{flat_map};
 ghost use Rattle.cfi_flame.specs.FoldedCounts.{counted_in, line_text};
 ghost use Rattle.cfi_perf.specs.Samples.{sample_view};

@@ -1,5 +1,5 @@
 //! The stacks of a profile's samples, printed one after the other.
-ghost use Rattle.std.specs.Prelude.{◌≡◌, ◌×◌, IfErr, OnOk, map};
+ghost use Rattle.std.specs.Prelude.{◌≡◌, IfErr, OnOk, map};
 ghost use Rattle.cfi_processes.specs.KnownFiles.{known_view};
 ghost use Rattle.cfi_text.specs.Texts.{Puts};
 ghost use Rattle.cfi_text.specs.WriterOutput.{PrintsSome};

@@ -159,9 +159,15 @@ fn visit_chosen<V: Visitor>(
     }
     match load_for(&mut walker.replay, item) {
         Ok(()) => {
-            let replay = &walker.replay;
-            let (room, frames) = (&mut walker.room, &mut walker.frames);
-            match visit_event(chosen, with_functions, replay, item, room, frames, visitor) {
+            match visit_event(
+                chosen,
+                with_functions,
+                &walker.replay,
+                item,
+                &mut walker.room,
+                &mut walker.frames,
+                visitor,
+            ) {
                 Ok(()) => Ok(left_after(left, item)),
                 Err(error) => Err(error),
             }
