@@ -86,7 +86,15 @@ fn visit_in<I: FileInput, V: Visitor>(
         if left == Some(0) {
             return Ok(());
         }
-        match visit_place(chosen, with_functions, place, left, input, &mut walker, visitor) {
+        match visit_place(
+            chosen,
+            with_functions,
+            place,
+            left,
+            input,
+            &mut walker,
+            visitor,
+        ) {
             Ok(more) => left = more,
             Err(error) => return Err(error),
         }
@@ -204,7 +212,15 @@ fn visit_event<'run, V: Visitor>(
                 sample,
             };
             let modules = replay.modules();
-            visit_sample(chosen, with_functions, modules, &taken, room, frames, visitor)
+            visit_sample(
+                chosen,
+                with_functions,
+                modules,
+                &taken,
+                room,
+                frames,
+                visitor,
+            )
         }
         _ => Ok(()),
     }
