@@ -1,5 +1,6 @@
 -- The samples of the records of a profile, counted by their folded stacks.
 use Rattle.std.proofs.Common.{◌≡◌, ◌∙◌, ◌⊎◌, ℕ, ◌+◌, ◌<◌, ◌^◌, Bool, true, List, [], ◌∷◌, ◌++◌, Option, Result, Ok, Err, OnOk, IfErr, map, refl, sym, ap, subst, inl, inr, append_assoc, append-nil, arith, unwrap_or}
+use Rattle.std.specs.Prelude.{⊤}
 use Rattle.std.specs.List.{FoldsTo, flat_map}
 use Rattle.cfi_flame.specs.declared.folded.FoldedError.{FoldedError}
 use Rattle.cfi_flame.specs.declared.folded.FoldedError.TheVariants.{OutOfMemory, NotFolded, NoSamples, TooManySamples}
@@ -20,7 +21,7 @@ use Rattle.cfi_stacks.specs.declared.visitor.Stopped.TheVariants.{Visitor}
 use Rattle.cfi_stacks.specs.Choices.{Choice}
 use Rattle.cfi_stacks.specs.ChosenStacks.{folded_sample, sample_weight}
 use Rattle.cfi_stacks.specs.FoldedTexts.{folded_text}
-use Rattle.cfi_stacks.specs.ProfileOutputs.{AreFolded, Counts, HasTooMany, IsFolded, IsNotCounted, IsUnfolded, profile_ended}
+use Rattle.cfi_stacks.specs.ProfileOutputs.{AreFolded, Counts, HasTooMany, IsFolded, IsNotCounted, IsUnfolded, profile_ended, unfolded_of}
 use Rattle.cfi_stacks.specs.SampleOutputs.{Stack}
 use Rattle.cfi_stacks.specs.Turns.{AreVisited}
 
@@ -74,17 +75,26 @@ module _ {V : Type 0} (last : V) (period_of : V → Bool) (counts_of : V → Lis
       (subst (λ (l : List FoldedStack). AreCounted l (counts_of new)) (append_assoc all (first ∷ []) (map (folded_sample (period_of old)) stacks)) here, also ∙ same)
 
   module _ (by_period : Bool) (machine : SampleMachine) (files : List KnownFile) (choice : Choice) (records : List Record) (old : V) (is : period_of old ≡ by_period) (none : AreCounted [] (counts_of old)) where
-    pub are_folded : {T : Type 0} (done : T) → AreVisited {E = FoldedError} Counts-each Refuses-each true machine files choice records old last (Ok done) → AreFolded by_period machine files choice records (counts_of last)
-    are_folded done (stacks, are, folds) =
+    abbrev pub Visited : Result ⊤ (Stopped FoldedError) → Type 0
+    Visited r = AreVisited Counts-each Refuses-each true machine files choice records old last r
+
+    pub are_folded : Visited (Ok tt) → AreFolded by_period machine files choice records (counts_of last)
+    are_folded (stacks, are, folds) =
         let (counts, same) = all_counted stacks old last [] folds none in
         (map (folded_sample by_period) stacks, (stacks, are, refl), subst (λ (b : Bool). AreCounted (map (folded_sample b) stacks) (counts_of last)) is counts)
 
-    pub are_unfolded : {T : Type 0} → AreVisited {T = T} Counts-each Refuses-each true machine files choice records old last (Err (Visitor TooManySamples)) → IsUnfolded by_period machine files choice records TooMany
-    are_unfolded (n, stacks, stack, mid, are, folds, refused) =
+    are_many : Visited (Err (Visitor TooManySamples)) → IsUnfolded by_period machine files choice records TooMany
+    are_many (n, stacks, stack, mid, are, folds, refused) =
         let (counts, same) = all_counted stacks old mid [] folds none in
         let many = subst (λ (b : Bool). HasTooMany (map (folded_sample (period_of old)) stacks ++ folded_sample b stack ∷ [])) same (refused (map (folded_sample (period_of old)) stacks) counts) in
         let here = subst (λ (b : Bool). HasTooMany (map (folded_sample b) stacks ++ folded_sample b stack ∷ [])) is many in
         (n, map (folded_sample by_period) (stacks ++ stack ∷ []), (stacks ++ stack ∷ [], are, refl), subst HasTooMany (sym (map_then (folded_sample by_period) stacks (stack ∷ []))) here)
+
+    pub are_unfolded : (why : FoldedError) → Visited (Err (Visitor why)) → IsUnfolded by_period machine files choice records (unfolded_of why)
+    are_unfolded OutOfMemory visited = tt
+    are_unfolded (NotFolded number) visited = tt
+    are_unfolded NoSamples visited = tt
+    are_unfolded TooManySamples visited = are_many visited
 
 -- their lines were printed, or memory was refused
 pub counts_printed : {E : Type 0} (by_period : Bool) (machine : SampleMachine) (files : List KnownFile) (choice : Choice) (records : List Record) (folded : List FoldedStack) (error : Option PerfError) (old new : Option (List ℕ)) (r : Result ℕ E) → AreFolded by_period machine files choice records folded

@@ -1,5 +1,6 @@
 -- Stacks that are printed one after the other.
 use Rattle.std.proofs.Common.{◌≡◌, ◌∙◌, ℕ, Bool, true, false, not, List, [], ◌∷◌, ◌++◌, Option, Some, None, Result, Ok, Err, OnOk, IfErr, IfOk, ap, append_assoc, append-nil, inl, inr, map, refl, subst, sym, take}
+use Rattle.std.specs.Prelude.{⊤}
 use Rattle.std.specs.Io.KnownBytes.{Appends}
 use Rattle.std.specs.List.{FoldsTo}
 use Rattle.std.specs.Result.{IsErr}
@@ -74,12 +75,12 @@ alone : {X A : Type 0} (IsOf : X → List A → Type 0) (x : X) (found : List A)
 alone IsOf x found is = (found, [], is, refl, sym (append-nil found))
 
 -- by a printer with a style and bytes, which is this after the last one
-module _ {V E : Type 0} (last : V) (style_of : V → StackStyle) (bytes_of : V → Option (List ℕ)) where
+module _ {V : Type 0} (last : V) (style_of : V → StackStyle) (bytes_of : V → Option (List ℕ)) where
   abbrev pub Prints-each : V → Stack → V → Type 0
   Prints-each old stack new = Shows (style_of old) (bytes_of old) stack (bytes_of new) × (style_of new ≡ style_of old)
 
-  abbrev pub Begins-each : V → Stack → V → E → Type 0
-  Begins-each old stack new why = Begins (style_of old) (bytes_of old) stack (bytes_of new)
+  abbrev pub Begins-each : (E : Type 0) → V → Stack → V → E → Type 0
+  Begins-each E old stack new why = Begins (style_of old) (bytes_of old) stack (bytes_of new)
 
   texts_of : (stacks : List Stack) (old new : V) → FoldsTo Prints-each old stacks new → (text : List ℕ) × AreOfAll (IsInFormat (style_of old)) stacks text × Appends (bytes_of old) (bytes_of new) text × (style_of new ≡ style_of old)
   texts_of [] old new same = ([], refl, subst (λ (v : V). Appends (bytes_of old) (bytes_of v) []) same (none_yet (bytes_of old)), ap style_of (sym same))
@@ -91,8 +92,8 @@ module _ {V E : Type 0} (last : V) (style_of : V → StackStyle) (bytes_of : V �
         also ∙ same,
       )
 
-  pub are_printed : {T : Type 0} (machine : SampleMachine) (files : List KnownFile) (choice : Choice) (records : List Record) (style : StackStyle) (old : V) (r : Result T (Stopped E)) → style_of old ≡ style
-      → AreVisited Prints-each Begins-each (not style.raw) machine files choice records old last r → ArePrinted style machine files choice records (bytes_of old) (bytes_of last) r
+  pub are_printed : {T E : Type 0} (machine : SampleMachine) (files : List KnownFile) (choice : Choice) (records : List Record) (style : StackStyle) (old : V) (r : Result T (Stopped E)) → style_of old ≡ style
+      → AreVisited Prints-each (Begins-each E) (not style.raw) machine files choice records old last r → ArePrinted style machine files choice records (bytes_of old) (bytes_of last) r
   are_printed machine files choice records style old (Ok done) is (stacks, are, folds) =
       let (text, texts, goes, same) = texts_of stacks old last folds in (text, (stacks, are, subst (λ (s : StackStyle). AreOfAll (IsInFormat s) stacks text) is texts), goes)
   are_printed machine files choice records style old (Err (Input why)) is (n, stacks, are, folds) =
@@ -113,14 +114,17 @@ module _ (style : StackStyle) (machine : SampleMachine) (files : List KnownFile)
   abbrev Printed : {E : Type 0} → Result ℕ E → Type 0
   Printed r = PrintsSome (λ line. AreStacksPrinted style machine files choice records error line) old new r
 
-  pub ended : {T E F : Type 0} (done : T) (r : Result ℕ F) → ArePrinted {E = E} style machine files choice records old mid (Ok done) → Prints (profile_ended style.format [] error) mid new r → Printed r
-  ended done r (text, are, goes) (written, status) = (
+  abbrev Each : Result ⊤ (Stopped ⊤) → Type 0
+  Each result = ArePrinted style machine files choice records old mid result
+
+  pub ended : {F : Type 0} (r : Result ℕ F) → Each (Ok tt) → Prints (profile_ended style.format [] error) mid new r → Printed r
+  ended r (text, are, goes) (written, status) = (
     record { text = text ++ (profile_ended style.format [] error).text; status = (profile_ended style.format [] error).status },
     (last_written old mid new r text (profile_ended style.format [] error).text goes written, status),
     inl (text, are, behind style.format text error),
   )
 
-  pub refused : {T E F : Type 0} (why : InputError) (r : Result ℕ F) → ArePrinted {T = T} {E = E} style machine files choice records old mid (Err (Input why)) → Prints (input_refusal style.format why) mid new r → Printed r
+  pub refused : {F : Type 0} (why : InputError) (r : Result ℕ F) → Each (Err (Input why)) → Prints (input_refusal style.format why) mid new r → Printed r
   refused why r (n, text, are, goes) (written, status) = (
     after_text text (input_refusal style.format why),
     (last_written old mid new r text (input_refusal style.format why).text goes written, status),
@@ -128,11 +132,14 @@ module _ (style : StackStyle) (machine : SampleMachine) (files : List KnownFile)
   )
 
 -- a stack was begun
-pub broken : {T E F : Type 0} (style : StackStyle) (machine : SampleMachine) (files : List KnownFile) (choice : Choice) (records : List Record) (old new : Option (List ℕ)) (error : Option PerfError) (why : E) (r : Result ℕ F) → IsErr r
-    → ArePrinted {T = T} style machine files choice records old new (Err (Visitor why)) → PrintsSome (λ line. AreStacksPrinted style machine files choice records error line) old new r
-broken style machine files choice records old new error why r err (n, text, are, begun) =
-    let refusal : Line = input_refusal style.format OutOfMemory in (
-      after_text text refusal,
-      (first_refused old new r text refusal.text err begun, no_status_is r refusal.status err),
-      inr (n, text, are, OutOfMemory, refl),
-    )
+module _ (style : StackStyle) (machine : SampleMachine) (files : List KnownFile) (choice : Choice) (records : List Record) (old new : Option (List ℕ)) (error : Option PerfError) where
+  abbrev Begun : Result ⊤ (Stopped ⊤) → Type 0
+  Begun result = ArePrinted style machine files choice records old new result
+
+  pub broken : {F : Type 0} (r : Result ℕ F) → IsErr r → Begun (Err (Visitor tt)) → PrintsSome (λ line. AreStacksPrinted style machine files choice records error line) old new r
+  broken r err (n, text, are, begun) =
+      let refusal : Line = input_refusal style.format OutOfMemory in (
+        after_text text refusal,
+        (first_refused old new r text refusal.text err begun, no_status_is r refusal.status err),
+        inr (n, text, are, OutOfMemory, refl),
+      )

@@ -1,6 +1,7 @@
 -- One more record of an index, whose stack is handed to a visitor or not.
 use Rattle.std.proofs.Common.{◌≡◌, ◌∙◌, ℕ, ◌+◌, ◌<◌, ◌≤◌, Bool, true, false, true≢false, List, [], ◌∷◌, ◌++◌, Option, Some, None, Result, Ok, Err, ap, arith, drop, get_or, inl, inr, length, map, nat_eq, refl, subst, sym, take, append-nil}
 use Rattle.std.proofs.lemmas.List.{get_or_default, length-map, take_all, take-append-drop}
+use Rattle.std.specs.Prelude.{⊤}
 use Rattle.std.specs.List.{FoldsTo}
 use Rattle.std.specs.Option.{option_eq}
 use Rattle.cfi_text.specs.declared.reading.InputError.{InputError}
@@ -101,12 +102,15 @@ module _ {V E : Type 0} (visits : V → Stack → V → Type 0) (refuses : V →
 
     -- one that is chosen
     module _ (r : Record) (before now : Known) (left : Option ℕ) where
-      pub chosen_visited : {T : Type 0} (more : Option ℕ) (old new : V) (done : T) → is_not_chosen choice before r.time r.event ≡ false → IsKnownAfter files r.event before now → more ≡ left_after left r.event
-          → VisitsEvent visits refuses with_functions machine files now r.time r.event old new (Ok done) → VisitsRecord visits refuses with_functions machine files choice r before left now old new (Ok more)
-      chosen_visited more old new done inside after as_after (stacks, are, folds) = (stacks, inr (inside, after, as_after, are), folds)
+      abbrev Followed-by : V → V → Result ⊤ (Stopped E) → Type 0
+      Followed-by old new result = VisitsEvent visits refuses with_functions machine files now r.time r.event old new result
 
-      pub chosen_stopped : {T : Type 0} (old new : V) (why : Stopped E) → is_not_chosen choice before r.time r.event ≡ false → IsKnownAfter files r.event before now
-          → VisitsEvent visits refuses with_functions machine files {T = T} now r.time r.event old new (Err why) → VisitsRecord visits refuses with_functions machine files choice r before left now old new (Err why)
+      pub chosen_visited : (more : Option ℕ) (old new : V) → is_not_chosen choice before r.time r.event ≡ false → IsKnownAfter files r.event before now → more ≡ left_after left r.event
+          → Followed-by old new (Ok tt) → VisitsRecord visits refuses with_functions machine files choice r before left now old new (Ok more)
+      chosen_visited more old new inside after as_after (stacks, are, folds) = (stacks, inr (inside, after, as_after, are), folds)
+
+      pub chosen_stopped : (old new : V) (why : Stopped E) → is_not_chosen choice before r.time r.event ≡ false → IsKnownAfter files r.event before now
+          → Followed-by old new (Err why) → VisitsRecord visits refuses with_functions machine files choice r before left now old new (Err why)
       chosen_stopped old new (Input why) inside after same = same
       chosen_stopped old new (Visitor why) inside after (stack, are, refused) = (stack, left_after left r.event, inr (inside, after, refl, are), refused)
 
@@ -121,7 +125,7 @@ module _ {V E : Type 0} (visits : V → Stack → V → Type 0) (refuses : V →
       abbrev pub SoFar : ℕ → Option ℕ → Known → V → V → Type 0
       SoFar i left now old new = (pieces : List Piece) × IsIndexOf known index pieces × Followed (take i (map record_of pieces)) left now old new
 
-      abbrev pub IsDone : {T : Type 0} → V → V → Result T (Stopped E) → Type 0
+      abbrev pub IsDone : V → V → Result ⊤ (Stopped E) → Type 0
       IsDone old new r = HoldsOf known index (λ sorted. AreVisited visits refuses with_functions machine files choice sorted old new r)
 
       abbrev IsOf : KnownSample → List Stack → Type 0
@@ -131,16 +135,16 @@ module _ {V E : Type 0} (visits : V → Stack → V → Type 0) (refuses : V →
       none_visited now old (pieces, is) nothing nameless = (pieces, is, ([], none_gone files choice IsOf now nothing nameless, refl))
 
       -- nor is any where the first thing is an error
-      pub stopped_first : {T : Type 0} (old : V) (why : InputError) → IsIndex known index → IsDone {T = T} old old (Err (Input why))
+      pub stopped_first : (old : V) (why : InputError) → IsIndex known index → IsDone old old (Err (Input why))
       stopped_first old why (pieces, is) = (pieces, is, (0, [], subst (λ (samples : List KnownSample). AreOfAll IsOf samples []) (sym (limited_none choice.limit)) refl, refl))
 
-      pub all_visited : {T : Type 0} (i : ℕ) (left : Option ℕ) (now : Known) (old new : V) (done : T) → length (places_of index.records) ≤ i → SoFar i left now old new → IsDone old new (Ok done)
-      all_visited i left now old new done all (pieces, is, (stacks, goes, folds)) =
+      pub all_visited : (i : ℕ) (left : Option ℕ) (now : Known) (old new : V) → length (places_of index.records) ≤ i → SoFar i left now old new → IsDone old new (Ok tt)
+      all_visited i left now old new all (pieces, is, (stacks, goes, folds)) =
           (pieces, is, (stacks, subst (λ (records : List Record). AreStacks with_functions machine files choice records stacks) (all_of known index pieces i is all) (so_far files choice IsOf (take i (map record_of pieces)) left now stacks goes), folds))
 
       -- no more are wanted
-      pub many_visited : {T : Type 0} (i : ℕ) (left : Option ℕ) (now : Known) (old new : V) (done : T) → option_eq nat_eq left (Some 0) ≡ true → SoFar i left now old new → IsDone old new (Ok done)
-      many_visited i left now old new done full (pieces, is, (stacks, goes, folds)) =
+      pub many_visited : (i : ℕ) (left : Option ℕ) (now : Known) (old new : V) → option_eq nat_eq left (Some 0) ≡ true → SoFar i left now old new → IsDone old new (Ok tt)
+      many_visited i left now old new full (pieces, is, (stacks, goes, folds)) =
           (pieces, is, (stacks, subst (λ (records : List Record). AreStacks with_functions machine files choice records stacks) (take-append-drop i (map record_of pieces)) (so_many files choice IsOf (take i (map record_of pieces)) (drop i (map record_of pieces)) left now stacks full goes), folds))
 
       module _ (i : ℕ) (place : RecordPlace) (left : Option ℕ) (before now : Known) (old mid new : V) (inside : i < length (places_of index.records)) (at : place ≡ get_or (places_of index.records) i place)
@@ -161,7 +165,7 @@ module _ {V E : Type 0} (visits : V → Stack → V → Type 0) (refuses : V →
         same_visitor why (inl (also, is, same)) = same
         same_visitor why (inr (r, read, same)) = same
 
-        pub stopped_turn : {T : Type 0} (why : Stopped E) → SoFar i left before old mid → Turn (Err why) → IsDone {T = T} old new (Err why)
+        pub stopped_turn : (why : Stopped E) → SoFar i left before old mid → Turn (Err why) → IsDone old new (Err why)
         stopped_turn (Input why) (pieces, is, (stacks, goes, folds)) turn =
             (pieces, is, (i, stacks, so_far files choice IsOf (take i (map record_of pieces)) left before stacks goes, subst (λ (v : V). FoldsTo visits old stacks v) (sym (same_visitor why turn)) folds))
         stopped_turn (Visitor why) so (inl (also, is, same)) = absurd (cc)
@@ -180,7 +184,7 @@ module _ {V E : Type 0} (visits : V → Stack → V → Type 0) (refuses : V →
       (subst (λ (files : List ProfileFile). VisitsTurn visits refuses with_functions machine (map known_view files) choice k index place before left now mid new result) same turn)
 
   -- the event of a record that is followed, by the files
-  pub event_of : {T : Type 0} (known : Known) (time : ℕ) (event : Event) (old new : V) (loaded files : List ProfileFile) (r : Result T (Stopped E)) → loaded ≡ files
+  pub event_of : (known : Known) (time : ℕ) (event : Event) (old new : V) (loaded files : List ProfileFile) (r : Result ⊤ (Stopped E)) → loaded ≡ files
       → VisitsEvent visits refuses with_functions machine (map known_view loaded) known time event old new r → VisitsEvent visits refuses with_functions machine (map known_view files) known time event old new r
   event_of known time event old new loaded files r same visited =
       subst (λ (files : List ProfileFile). VisitsEvent visits refuses with_functions machine (map known_view files) known time event old new r) same visited

@@ -19,6 +19,7 @@ use Rattle.cfi_perf.specs.Profiles.{Profile, architecture, profile, profile_reco
 use Rattle.cfi_perf.specs.Records.{Records}
 use Rattle.cfi_text.specs.InputRefusals.{input_refusal}
 use Rattle.cfi_text.specs.declared.reading.InputError.{InputError}
+use Rattle.cfi_text.specs.declared.reading.InputError.TheVariants.{OutOfMemory}
 use Rattle.cfi_text.specs.declared.style.Format.{Format}
 use Rattle.cfi_text.specs.declared.style.Format.TheVariants as formats
 use Rattle.cfi_text.specs.Lines.{Line, line}
@@ -104,6 +105,10 @@ IsNotCounted by_period old stack TooManySamples =
     (all : List Stack) → AreCounted all old →
     HasTooMany (all ++ folded_sample by_period stack ∷ [])
 IsNotCounted by_period old stack why = Unit {0}
+
+abbrev pub unfolded_of : FoldedError → Unfolded
+unfolded_of TooManySamples = TooMany
+unfolded_of why = Input OutOfMemory
 
 abbrev pub folded_refusal : Unfolded → Line
 folded_refusal TooMany = line (codes "refused TooManySamples") 1

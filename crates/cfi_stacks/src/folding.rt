@@ -11,6 +11,7 @@ ghost use Rattle.cfi_stacks.specs.ChosenStacks.{sample_weight};
 ghost use Rattle.cfi_stacks.specs.ProfileIndexes.{HoldsOf, IsIndex};
 ghost use Rattle.cfi_stacks.specs.ProfileOutputs.{AreFolded, Counts, IsFolded, IsNotCounted};
 ghost use Rattle.cfi_stacks.specs.ProfileOutputs.{IsUnfolded, folded_refusal, profile_ended};
+ghost use Rattle.cfi_stacks.specs.ProfileOutputs.{unfolded_of};
 ghost use Rattle.cfi_stacks.specs.SampleOutputs.{stack_view};
 
 use crate::folded_text::folded_stack;
@@ -88,8 +89,17 @@ fn fold_records<I: FileInput>(
     match visit_stacks(chosen, true, files, input, &mut folding) {
         Ok(()) => Ok(folding.counts),
         Err(Stopped::Input(error)) => Err(Unfolded::Input(error)),
-        Err(Stopped::Visitor(FoldedError::TooManySamples)) => Err(Unfolded::TooMany),
-        Err(Stopped::Visitor(_)) => Err(Unfolded::Input(InputError::OutOfMemory)),
+        Err(Stopped::Visitor(error)) => Err(why_unfolded(error)),
+    }
+}
+
+/// Why the samples weren't counted, where a stack wasn't.
+fn why_unfolded(error: FoldedError) -> Unfolded
+    ensures { result ≡ unfolded_of error }
+{
+    match error {
+        FoldedError::TooManySamples => Unfolded::TooMany,
+        _ => Unfolded::Input(InputError::OutOfMemory),
     }
 }
 

@@ -79,9 +79,16 @@ fn put_cpu_member(text: &mut Text, cpu: Option<u32>)
 fn put_nanoseconds(text: &mut Text, time: u64)
     ensures { Puts (nanoseconds_text time) text.old text.new }
 {
-    text.number(time / 1_000_000_000);
+    put_decimal(text, time / 1_000_000_000);
     text.put(b".");
     put_nine(text, time % 1_000_000_000);
+}
+
+/// Puts a number in decimal.
+fn put_decimal(text: &mut Text, number: u64)
+    ensures { Puts (decimal number) text.old text.new }
+{
+    text.number(number);
 }
 
 /// Puts a number after as many zeros as make it nine digits wide.

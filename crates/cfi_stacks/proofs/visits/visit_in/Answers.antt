@@ -48,13 +48,13 @@ pub returns : goal.returns
 returns g c =
     let (same_files, are, so, cached, own, same) = c.loop-place.invariant in
     all_visited g.V.Visitor.visits g.V.Visitor.refuses c.args.with_functions c.args.chosen.now.machine (map known_view c.args.files.now) (choice_view c.args.chosen.now.choice.now) (g.I.FileInput.bytes c.args.input.now) c.args.chosen.now.index.now c.loop-place.place-index c.loop-place.left (known_in c.loop-place.walker.replay)
-    c.args.visitor.now c.loop-place.visitor _ (places_passed c.places-place-items.result.now c.args.chosen.now.index.now c.loop-place.place-index are c.loop-place-test.false) so
+    c.args.visitor.now c.loop-place.visitor (places_passed c.places-place-items.result.now c.args.chosen.now.index.now c.loop-place.place-index are c.loop-place-test.false) so
 
 pub returns-then-eq : goal.returns-then-eq
 returns-then-eq g c =
     let (same_files, are, so, cached, own, same) = c.loop-place.invariant in
     many_visited g.V.Visitor.visits g.V.Visitor.refuses c.args.with_functions c.args.chosen.now.machine (map known_view c.args.files.now) (choice_view c.args.chosen.now.choice.now) (g.I.FileInput.bytes c.args.input.now) c.args.chosen.now.index.now c.loop-place.place-index c.loop-place.left (known_in c.loop-place.walker.replay)
-    c.args.visitor.now c.loop-place.visitor _ (sym c.eq.ensures ∙ c.if-eq.true) so
+    c.args.visitor.now c.loop-place.visitor (sym c.eq.ensures ∙ c.if-eq.true) so
 
 pub returns-in-Err : goal.returns-in-Err
 returns-in-Err g c =

@@ -5,8 +5,8 @@ use Rattle.cfi_stacks.specs.SampleOutputs.{stack_of, stack_with}
 use Rattle.cfi_stacks.specs.TakenSamples.{taken_view}
 use Rattle.cfi_stacks.proofs.visits.visit_sample.Goals as goal
 
-pub returns-in-Ok-clause-visited : goal.returns-in-Ok-clause-visited
-returns-in-Ok-clause-visited g c =
+pub returns-in-Ok-visit-clause-visited : goal.returns-in-Ok-visit-clause-visited
+returns-in-Ok-visit-clause-visited g c =
     let taken = taken_view c.args.taken.now in
     let found = c.walk_sample-found.result in
     let frames = ap (map frame_view) c.as_slice.ensures.value ∙ c.in-Ok.ensures in
