@@ -17,7 +17,7 @@ use Rattle.cfi_processes.specs.KnownFiles.{KnownFile}
 use Rattle.cfi_text.specs.declared.reading.InputError.TheVariants.{OutOfMemory as InputMemory}
 use Rattle.cfi_stacks.specs.declared.folding.Unfolded.TheVariants.{Input as NotRead, TooMany}
 use Rattle.cfi_stacks.specs.declared.visitor.Stopped.{Stopped}
-use Rattle.cfi_stacks.specs.declared.visitor.Stopped.TheVariants.{Visitor}
+use Rattle.cfi_stacks.specs.declared.visitor.Stopped.TheVariants.{Input as NotVisited, Visitor}
 use Rattle.cfi_stacks.specs.Choices.{Choice}
 use Rattle.cfi_stacks.specs.ChosenStacks.{folded_sample, sample_weight}
 use Rattle.cfi_stacks.specs.FoldedTexts.{folded_text}
@@ -90,11 +90,12 @@ module _ {V : Type 0} (last : V) (period_of : V → Bool) (counts_of : V → Lis
         let here = subst (λ (b : Bool). HasTooMany (map (folded_sample b) stacks ++ folded_sample b stack ∷ [])) is many in
         (n, map (folded_sample by_period) (stacks ++ stack ∷ []), (stacks ++ stack ∷ [], are, refl), subst HasTooMany (sym (map_then (folded_sample by_period) stacks (stack ∷ []))) here)
 
-    pub are_unfolded : (why : FoldedError) → Visited (Err (Visitor why)) → IsUnfolded by_period machine files choice records (unfolded_of why)
-    are_unfolded OutOfMemory visited = tt
-    are_unfolded (NotFolded number) visited = tt
-    are_unfolded NoSamples visited = tt
-    are_unfolded TooManySamples visited = are_many visited
+    pub are_unfolded : (why : Stopped FoldedError) → Visited (Err why) → IsUnfolded by_period machine files choice records (unfolded_of why)
+    are_unfolded (NotVisited why) visited = tt
+    are_unfolded (Visitor OutOfMemory) visited = tt
+    are_unfolded (Visitor (NotFolded number)) visited = tt
+    are_unfolded (Visitor NoSamples) visited = tt
+    are_unfolded (Visitor TooManySamples) visited = are_many visited
 
 -- their lines were printed, or memory was refused
 pub counts_printed : {E : Type 0} (by_period : Bool) (machine : SampleMachine) (files : List KnownFile) (choice : Choice) (records : List Record) (folded : List FoldedStack) (error : Option PerfError) (old new : Option (List ℕ)) (r : Result ℕ E) → AreFolded by_period machine files choice records folded

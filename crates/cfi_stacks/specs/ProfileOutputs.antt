@@ -106,9 +106,10 @@ IsNotCounted by_period old stack TooManySamples =
     HasTooMany (all ++ folded_sample by_period stack ∷ [])
 IsNotCounted by_period old stack why = Unit {0}
 
-abbrev pub unfolded_of : FoldedError → Unfolded
-unfolded_of TooManySamples = TooMany
-unfolded_of why = Input OutOfMemory
+abbrev pub unfolded_of : Stopped FoldedError → Unfolded
+unfolded_of (stopped.Input why) = Input why
+unfolded_of (stopped.Visitor TooManySamples) = TooMany
+unfolded_of (stopped.Visitor why) = Input OutOfMemory
 
 abbrev pub folded_refusal : Unfolded → Line
 folded_refusal TooMany = line (codes "refused TooManySamples") 1

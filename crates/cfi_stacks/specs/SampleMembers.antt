@@ -17,8 +17,8 @@ comm_text tid None = thread_name_text tid None
 -- nanoseconds as seconds, with nine digits after the point
 abbrev pub nanoseconds_text : ℕ → List ℕ
 nanoseconds_text time =
-    decimal (time / 1000000000) ++ codes "."
-    ++ filled (codes "000000000") (decimal (time % 1000000000))
+    decimal (time / 1000000000)
+    ++ (codes "." ++ filled (codes "000000000") (decimal (time % 1000000000)))
 
 abbrev pub cpu_member : Option ℕ → List ℕ
 cpu_member None = []

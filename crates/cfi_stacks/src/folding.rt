@@ -88,18 +88,18 @@ fn fold_records<I: FileInput>(
     };
     match visit_stacks(chosen, true, files, input, &mut folding) {
         Ok(()) => Ok(folding.counts),
-        Err(Stopped::Input(error)) => Err(Unfolded::Input(error)),
-        Err(Stopped::Visitor(error)) => Err(why_unfolded(error)),
+        Err(stopped) => Err(why_unfolded(stopped)),
     }
 }
 
-/// Why the samples weren't counted, where a stack wasn't.
-fn why_unfolded(error: FoldedError) -> Unfolded
-    ensures { result ≡ unfolded_of error }
+/// Why the samples weren't counted, where not all were visited.
+fn why_unfolded(stopped: Stopped<FoldedError>) -> Unfolded
+    ensures { result ≡ unfolded_of stopped }
 {
-    match error {
-        FoldedError::TooManySamples => Unfolded::TooMany,
-        _ => Unfolded::Input(InputError::OutOfMemory),
+    match stopped {
+        Stopped::Input(error) => Unfolded::Input(error),
+        Stopped::Visitor(FoldedError::TooManySamples) => Unfolded::TooMany,
+        Stopped::Visitor(_) => Unfolded::Input(InputError::OutOfMemory),
     }
 }
 

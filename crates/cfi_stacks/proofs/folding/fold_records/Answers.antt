@@ -13,9 +13,9 @@ returns-in-Ok-clause-folded g c =
     let (pieces, is, visited) = c.in-Ok.ensures in
     (pieces, is, are_folded c.visit_stacks.new.visitor (λ folding. folding.by_period) (λ folding. counted_in folding.counts) c.args.by_period c.args.chosen.now.machine (map known_view c.args.files.now) (choice_view c.args.chosen.now.choice.now) (map record_of pieces) _ refl c.new-counts.ensures visited)
 
-pub returns-in-Err-Visitor-clause-refused : goal.returns-in-Err-Visitor-clause-refused
-returns-in-Err-Visitor-clause-refused g c =
-    let (pieces, is, visited) = rw c.in-Err-Visitor.field-0-is at c.in-Err-Visitor.ensures in
+pub returns-in-Err-clause-refused : goal.returns-in-Err-clause-refused
+returns-in-Err-clause-refused g c =
+    let (pieces, is, visited) = c.in-Err.ensures in
     let chosen = c.args.chosen.now in
-    let unfolded = are_unfolded c.visit_stacks.new.visitor (λ folding. folding.by_period) (λ folding. counted_in folding.counts) c.args.by_period chosen.machine (map known_view c.args.files.now) (choice_view chosen.choice.now) (map record_of pieces) _ refl c.new-counts.ensures c.in-Err-Visitor.error visited in
+    let unfolded = are_unfolded c.visit_stacks.new.visitor (λ folding. folding.by_period) (λ folding. counted_in folding.counts) c.args.by_period chosen.machine (map known_view c.args.files.now) (choice_view chosen.choice.now) (map record_of pieces) _ refl c.new-counts.ensures c.in-Err.stopped visited in
     (pieces, is, subst (λ (why : Unfolded). IsUnfolded c.args.by_period chosen.machine (map known_view c.args.files.now) (choice_view chosen.choice.now) (map record_of pieces) why) (sym c.why_unfolded.ensures) unfolded)
