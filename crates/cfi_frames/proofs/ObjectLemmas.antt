@@ -14,7 +14,7 @@ use Rattle.cfi_processes.specs.Sites.{Site}
 abbrev pub led : {X : Type 0} → (X → List ℕ) → X → List ℕ
 led object x = codes "," ++ object x
 
-one_object : (is_first : Bool) (object more : List ℕ) → separated is_first ((codes "," ++ object) ++ more) ≡ (comma_before is_first ++ object) ++ separated false more
+pub one_object : (is_first : Bool) (object more : List ℕ) → separated is_first ((codes "," ++ object) ++ more) ≡ (comma_before is_first ++ object) ++ separated false more
 one_object true object more = refl
 one_object false object more = refl
 

@@ -7,3 +7,4 @@ pub mod WalkLines
 pub mod WalkObjects
 pub mod Sequences
 pub mod Outputs
+pub mod FrameJson

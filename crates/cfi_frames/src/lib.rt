@@ -7,6 +7,7 @@
 //! in a `room`.
 #![tactic(auto)]
 
+pub mod frame_json;
 pub mod frame_lines;
 pub mod frame_objects;
 pub mod frame_style;

@@ -1,14 +1,13 @@
 mod ChosenLemmas
-mod RunLemmas
-mod FoldLemmas
+mod VisitLemmas
+mod CountedLemmas
 mod ReadLemmas
 mod Worked
 mod PieceLemmas
-mod TurnLemmas
+mod ShowLemmas
 mod AroundLemmas
 mod ShownLemmas
 mod NoticeLemmas
-mod SampleTurns
 mod TakenLemmas
 mod FoundLemmas
 mod SortedPieces

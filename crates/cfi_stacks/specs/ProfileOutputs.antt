@@ -7,8 +7,10 @@
 --     IsListingPrinted listing choice .. records error line      either of these
 --     IsProfileOutput listing choice may_open remaining bytes line      the output of a profile of
 --         these bytes, whose files may be opened so
-use Rattle.std.specs.Prelude.{◌≡◌, ◌⊎◌, ◌<◌, ◌^◌, ℕ, Bool, true, List, ◌++◌, Option, Some, None}
+use Rattle.std.specs.Prelude.{◌≡◌, ◌⊎◌, ◌<◌, ◌^◌, ℕ, Bool, true, List, [], ◌∷◌, ◌++◌, Option}
+use Rattle.std.specs.Prelude.{Some, None}
 use Rattle.std.specs.Prelude.{Result, Ok, Err, codes, not, take, unwrap_or}
+use Rattle.std.specs.Io.KnownBytes.{Appends}
 use Rattle.std.specs.List.{flat_map}
 use Rattle.cfi_perf.specs.declared.error.PerfError.{PerfError}
 use Rattle.cfi_perf.specs.Events.{Record}
@@ -17,9 +19,11 @@ use Rattle.cfi_perf.specs.Profiles.{Profile, architecture, profile, profile_reco
 use Rattle.cfi_perf.specs.Records.{Records}
 use Rattle.cfi_text.specs.InputRefusals.{input_refusal}
 use Rattle.cfi_text.specs.declared.reading.InputError.{InputError}
+use Rattle.cfi_text.specs.declared.reading.InputError.TheVariants.{OutOfMemory}
 use Rattle.cfi_text.specs.declared.style.Format.{Format}
 use Rattle.cfi_text.specs.declared.style.Format.TheVariants as formats
 use Rattle.cfi_text.specs.Lines.{Line, line}
+use Rattle.cfi_text.specs.WriterOutput.{IsBeginning}
 use Rattle.cfi_text.specs.Refusals.{reason_line as why_line}
 use Rattle.cfi_processes.specs.declared.registers.SampleMachine.{SampleMachine}
 use Rattle.cfi_processes.specs.KnownFiles.{KnownFile}
@@ -31,6 +35,8 @@ use Rattle.cfi_mapped.specs.WantedFiles.{wanted_of}
 use Rattle.cfi_mapped.specs.Wanted.{FilePlace, Wanted}
 use Rattle.cfi_flame.specs.FoldedCounts.{AreCounted, counted, line_text}
 use Rattle.cfi_flame.specs.FoldedStacks.{Stack}
+use Rattle.cfi_flame.specs.declared.folded.FoldedError.{FoldedError}
+use Rattle.cfi_flame.specs.declared.folded.FoldedError.TheVariants.{TooManySamples}
 use Rattle.cfi_stacks.specs.ProfileErrors.{perf_refusal}
 use Rattle.cfi_stacks.specs.declared.folding.Unfolded.{Unfolded}
 use Rattle.cfi_stacks.specs.declared.folding.Unfolded.TheVariants.{Input, TooMany}
@@ -38,7 +44,10 @@ use Rattle.cfi_stacks.specs.declared.listing.Listing.{Listing}
 use Rattle.cfi_stacks.specs.declared.listing.Listing.TheVariants.{Folded, Frames, Json}
 use Rattle.cfi_stacks.specs.declared.listing.StackStyle.{StackStyle}
 use Rattle.cfi_stacks.specs.Choices.{Choice}
-use Rattle.cfi_stacks.specs.ChosenStacks.{AreSamples, AreStackTexts}
+use Rattle.cfi_stacks.specs.ChosenStacks.{AreSamples, AreStackTexts, folded_sample}
+use Rattle.cfi_stacks.specs.SampleOutputs.{Stack as SampleStack}
+use Rattle.cfi_stacks.specs.declared.visitor.Stopped.{Stopped}
+use Rattle.cfi_stacks.specs.declared.visitor.Stopped.TheVariants as stopped
 
 -- ---- all samples
 
@@ -56,6 +65,19 @@ profile_ended format text None = record { text = text; status = 0 }
 profile_ended format text (Some error) =
     record { text = text ++ (perf_refusal format error).text; status = 1 }
 
+-- those of the chosen samples, or of those of the first records, or a beginning of these
+abbrev pub ArePrinted :
+    {T E : Type 0} → StackStyle → SampleMachine → List KnownFile → Choice → List Record →
+    Option (List ℕ) → Option (List ℕ) → Result T (Stopped E) → Type 0
+ArePrinted style machine files choice records old new (Ok done) =
+    (text : List ℕ) × AreStackTexts style machine files choice records text × Appends old new text
+ArePrinted style machine files choice records old new (Err (stopped.Input why)) =
+    (n : ℕ) × (text : List ℕ) × AreStackTexts style machine files choice (take n records) text
+    × Appends old new text
+ArePrinted style machine files choice records old new (Err (stopped.Visitor why)) =
+    (n : ℕ) × (text : List ℕ) × AreStackTexts style machine files choice (take n records) text
+    × ((begun : List ℕ) × Appends old new begun × IsBeginning begun text)
+
 module _ (style : StackStyle) (machine : SampleMachine) (files : List KnownFile) (choice : Choice)
   where
     abbrev pub AreStacksPrinted : List Record → Option PerfError → Line → Type 0
@@ -71,6 +93,23 @@ module _ (style : StackStyle) (machine : SampleMachine) (files : List KnownFile)
 -- a stack has 2^64 or more of these
 abbrev pub HasTooMany : List Stack → Type 0
 HasTooMany samples = (frames : List ℕ) × ¬ (unwrap_or (counted frames samples) 0 < 2 ^ 64)
+
+-- a stack was counted, after any others, or why it wasn't
+abbrev pub Counts : Bool → List Stack → SampleStack → List Stack → Type 0
+Counts by_period old stack new =
+    (all : List Stack) → AreCounted all old →
+    AreCounted (all ++ folded_sample by_period stack ∷ []) new
+
+abbrev pub IsNotCounted : Bool → List Stack → SampleStack → FoldedError → Type 0
+IsNotCounted by_period old stack TooManySamples =
+    (all : List Stack) → AreCounted all old →
+    HasTooMany (all ++ folded_sample by_period stack ∷ [])
+IsNotCounted by_period old stack why = Unit {0}
+
+abbrev pub unfolded_of : Stopped FoldedError → Unfolded
+unfolded_of (stopped.Input why) = Input why
+unfolded_of (stopped.Visitor TooManySamples) = TooMany
+unfolded_of (stopped.Visitor why) = Input OutOfMemory
 
 abbrev pub folded_refusal : Unfolded → Line
 folded_refusal TooMany = line (codes "refused TooManySamples") 1

@@ -17,12 +17,18 @@ comm_text tid None = thread_name_text tid None
 -- nanoseconds as seconds, with nine digits after the point
 abbrev pub nanoseconds_text : ℕ → List ℕ
 nanoseconds_text time =
-    decimal (time / 1000000000) ++ codes "."
-    ++ filled (codes "000000000") (decimal (time % 1000000000))
+    decimal (time / 1000000000)
+    ++ (codes "." ++ filled (codes "000000000") (decimal (time % 1000000000)))
 
 abbrev pub cpu_member : Option ℕ → List ℕ
 cpu_member None = []
 cpu_member (Some cpu) = codes ",\"cpu\":" ++ json_number cpu
+
+abbrev pub time_members : ℕ → ℕ → List ℕ
+time_members time period =
+    codes ",\"time\":\""
+    ++ (nanoseconds_text time
+    ++ (codes "\",\"period\":" ++ (json_number period ++ codes ",\"event\":\"")))
 
 -- the process, the thread, the processor, the time and the period
 abbrev pub number_members : ℕ → Sample → List ℕ
@@ -30,11 +36,7 @@ number_members time s =
     codes "\",\"pid\":"
     ++ (json_number s.pid
     ++ (codes ",\"tid\":"
-    ++ (json_number s.tid
-    ++ (cpu_member s.cpu
-    ++ (codes ",\"time\":\""
-    ++ (nanoseconds_text time
-    ++ (codes "\",\"period\":" ++ (json_number s.period ++ codes ",\"event\":\""))))))))
+    ++ (json_number s.tid ++ (cpu_member s.cpu ++ time_members time s.period))))
 
 abbrev pub sample_head : Option (List ℕ) → ℕ → Sample → List ℕ
 sample_head name time s =

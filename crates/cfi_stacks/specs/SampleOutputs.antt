@@ -2,32 +2,32 @@
 --     frames_of with_functions taken result room      its frames
 --     Stack, stack_view stack      a stack, and that of the code
 --     stack_of with_functions taken result room      the stack of a sample
---     sample_object raw in_kernel files list name time s result room      its object of JSON
---     IsInFormatOf style taken result room text      what is said of its text, or its object
-use Rattle.std.specs.Prelude.{ℕ, Bool, true, false, List, [], ◌∷◌, ◌++◌, Option, Some, None, Result}
-use Rattle.std.specs.Prelude.{◌≡◌, ⊤, Ok, Err, codes, map, option_map, take, if◌then◌else◌}
-use Rattle.std.specs.List.{flat_map}
+--     sample_object raw stack      the object of JSON of a stack
+--     IsInFormat style stack text      what is said of its text, or its object
+--     Shows style old stack new, Begins style old stack new      it was written, or a beginning of
+--         it
+use Rattle.std.specs.Prelude.{ℕ, Bool, false, List, [], ◌++◌, Option, None, Result}
+use Rattle.std.specs.Prelude.{◌≡◌, ⊤, Ok, Err, map, option_map, take, if◌then◌else◌}
+use Rattle.std.specs.Io.KnownBytes.{Appends}
 use Rattle.cfi_perf.specs.Samples.{Sample, kernel_frames, user_frames}
 use Rattle.cfi_step.specs.declared.walk.StackFrame.{StackFrame}
 use Rattle.cfi_step.specs.declared.walk.Walk.{Walk}
-use Rattle.cfi_mapped.specs.declared.mappings.MappedCode.{MappedCode}
 use Rattle.cfi_processes.specs.declared.sample_stack.NoFrames.{NoFrames}
 use Rattle.cfi_processes.specs.declared.frames.FrameKind.TheVariants.{Kernel, User}
 use Rattle.cfi_processes.specs.Frames.{Frame, called_frame, frame_view, walked_frame}
-use Rattle.cfi_processes.specs.KnownFiles.{KnownFile}
-use Rattle.cfi_processes.specs.Sites.{Site, site_of, without_function}
+use Rattle.cfi_processes.specs.Sites.{Site, without_function}
 use Rattle.cfi_mapped.specs.ThreadNames.{name_bytes}
 use Rattle.cfi_perf.specs.Samples.{sample_view}
-use Rattle.cfi_text.specs.JsonTexts.{separated}
 use Rattle.cfi_text.specs.declared.style.Format.{Format}
 use Rattle.cfi_text.specs.declared.style.Format.TheVariants as formats
+use Rattle.cfi_text.specs.WriterOutput.{IsBeginning}
 use Rattle.cfi_stacks.specs.declared.listing.StackStyle.{StackStyle}
 use Rattle.cfi_stacks.specs.declared.sample_stack.SampleStack.{SampleStack}
 use Rattle.cfi_frames.specs.Reasons.{Reason, reason_for, reason_view}
-use Rattle.cfi_frames.specs.FrameObjects.{chain_frame, object_end}
+use Rattle.cfi_frames.specs.FrameJson.{frames_json}
+use Rattle.cfi_frames.specs.FrameObjects.{object_end}
 use Rattle.cfi_stacks.specs.SampleMembers.{sample_head}
 use Rattle.cfi_stacks.specs.TakenSamples.{Taken}
-use Rattle.cfi_frames.specs.WalkObjects.{walk_objects}
 
 -- ---- the stack of a sample
 
@@ -90,52 +90,30 @@ abbrev pub stack_of : Bool → Taken → Result Walk NoFrames → List StackFram
 stack_of with_functions taken result room =
     stack_with taken result (frames_of with_functions taken result room)
 
--- ---- a sample as an object of JSON
+-- ---- a stack as an object of JSON
 
--- after a comma each
-abbrev pub chain_objects : Bool → Bool → (ℕ → Site) → List ℕ → List ℕ
-chain_objects raw is_kernel site_at addresses =
-    flat_map (λ a. codes "," ++ chain_frame raw is_kernel (site_at a)) addresses
+-- the functions are left out if it is raw
+abbrev pub sample_object : Bool → Stack → List ℕ
+sample_object raw stack =
+    sample_head stack.name stack.time stack.sample
+    ++ (frames_json (record { raw = raw; with_address = false }) stack.frames
+    ++ object_end stack.reason)
 
-abbrev pub user_objects :
-    Bool → List KnownFile → List MappedCode → Sample → Result Walk NoFrames → List StackFrame →
-    List ℕ
-user_objects raw files list s result room =
-    if s.copies_stack
-    then walk_objects (record { raw = raw; with_address = false }) files list result room
-    else chain_objects raw false (site_of files list) (user_frames s)
-
--- the kernel's, and those of user space
-abbrev pub all_objects :
-    Bool → (ℕ → Site) → List KnownFile → List MappedCode → Sample → Result Walk NoFrames →
-    List StackFrame → List ℕ
-all_objects raw in_kernel files list s result room =
-    chain_objects raw true in_kernel (kernel_frames s)
-    ++ user_objects raw files list s result room
-
-abbrev pub sample_object :
-    Bool → (ℕ → Site) → List KnownFile → List MappedCode → Option (List ℕ) → ℕ → Sample →
-    Result Walk NoFrames → List StackFrame → List ℕ
-sample_object raw in_kernel files list name time s result room =
-    sample_head name time s
-    ++ (separated true (all_objects raw in_kernel files list s result room)
-    ++ object_end (sample_reason s result))
-
--- ---- a sample in either form
+-- ---- a stack in either form
 
 -- the lines of text are for people, and nothing is said of them
 abbrev pub IsSaidIn : Format → Type 0 → Type 0
 IsSaidIn formats.Text Is = ⊤
 IsSaidIn formats.Json Is = Is
 
-abbrev pub IsInFormat :
-    StackStyle → (ℕ → Site) → List KnownFile → List MappedCode → Option (List ℕ) → ℕ → Sample →
-    Result Walk NoFrames → List StackFrame → List ℕ → Type 0
-IsInFormat style in_kernel files list name time s result room text =
-    IsSaidIn style.format
-    (text ≡ sample_object style.raw in_kernel files list name time s result room)
+abbrev pub IsInFormat : StackStyle → Stack → List ℕ → Type 0
+IsInFormat style stack text = IsSaidIn style.format (text ≡ sample_object style.raw stack)
 
-abbrev pub IsInFormatOf :
-    StackStyle → Taken → Result Walk NoFrames → List StackFrame → List ℕ → Type 0
-IsInFormatOf style taken =
-    IsInFormat style taken.in_kernel taken.files taken.mapped taken.name taken.time taken.sample
+-- printed, or a beginning of it
+abbrev pub Shows : StackStyle → Option (List ℕ) → Stack → Option (List ℕ) → Type 0
+Shows style old stack new = (text : List ℕ) × IsInFormat style stack text × Appends old new text
+
+abbrev pub Begins : StackStyle → Option (List ℕ) → Stack → Option (List ℕ) → Type 0
+Begins style old stack new =
+    (text : List ℕ) × IsInFormat style stack text
+    × ((begun : List ℕ) × Appends old new begun × IsBeginning begun text)

@@ -1,6 +1,5 @@
 -- A sample, with what was known of its process and its thread when it was taken.
 --     Taken, taken_view taken      this, and that of the code
---     of_taken f taken      f of all of this
 --     taken_of files of      a sample as it was taken, by what the records before it say
 use Rattle.std.specs.Prelude.{ℕ, List, Option, map}
 use Rattle.cfi_perf.specs.Samples.{Sample, sample_view}
@@ -32,11 +31,6 @@ taken_view taken = record {
   time = taken.time;
   sample = sample_view taken.sample;
 }
-
-abbrev pub of_taken :
-    {A : Type 0} →
-    ((ℕ → Site) → List KnownFile → List MappedCode → Option (List ℕ) → ℕ → Sample → A) → Taken → A
-of_taken f taken = f taken.in_kernel taken.files taken.mapped taken.name taken.time taken.sample
 
 abbrev pub taken_of : List KnownFile → KnownSample → Taken
 taken_of files of = record {

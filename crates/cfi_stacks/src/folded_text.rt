@@ -1,5 +1,5 @@
 //! The folded stack of a sample.
-ghost use Rattle.std.specs.Prelude.{◌≡◌, IfOk, None, map, option_map};
+ghost use Rattle.std.specs.Prelude.{◌≡◌, IfOk, map, option_map};
 ghost use Rattle.cfi_mapped.specs.ThreadNames.{name_bytes};
 ghost use Rattle.cfi_processes.specs.Frames.{frame_view};
 ghost use Rattle.cfi_processes.specs.Sites.{site_view};
@@ -8,6 +8,7 @@ ghost use Rattle.cfi_stacks.specs.FoldedTexts.{base_name, file_name, folded_text
 ghost use Rattle.cfi_stacks.specs.FoldedTexts.{site_name, thread_name};
 ghost use Rattle.cfi_stacks.specs.SampleOutputs.{stack_view};
 
+use crate::sample_head::put_without_name;
 use crate::sample_stack::SampleStack;
 use cfi_flame::folded::last_part;
 use cfi_mapped::Name;
@@ -49,18 +50,6 @@ fn put_thread(text: &mut Text, tid: u32, name: Option<Name<'_>>)
     match name {
         Some(name) => text.escaped(Escaping::Folded(b'_'), name.bytes),
         None => put_without_name(text, tid),
-    }
-}
-
-/// Puts what stands in place of a thread's name that isn't known.
-fn put_without_name(text: &mut Text, tid: u32)
-    ensures { Puts (thread_name tid None) text.old text.new }
-{
-    if tid == 0 {
-        text.put(b"swapper");
-    } else {
-        text.put(b":");
-        text.number(tid);
     }
 }
 

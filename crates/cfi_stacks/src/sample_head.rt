@@ -1,4 +1,8 @@
 //! The line before the frames of a sample.
+ghost use Rattle.std.specs.Prelude.{None};
+ghost use Rattle.cfi_text.specs.Texts.{Puts};
+ghost use Rattle.cfi_stacks.specs.SampleHeads.{thread_name_text};
+
 use cfi_frames::frame_text::put_name;
 use cfi_mapped::Name;
 use cfi_perf::Sample;
@@ -36,11 +40,20 @@ pub(crate) fn put_head(text: &mut Text, name: Option<Name<'_>>, time: u64, sampl
 fn put_thread_name(text: &mut Text, tid: u32, name: Option<Name<'_>>) {
     match name {
         Some(name) => put_name(text, name),
-        None if tid == 0 => text.put(b"swapper"),
-        None => {
-            text.put(b":");
-            text.number(tid);
-        }
+        None => put_without_name(text, tid),
+    }
+}
+
+/// Puts what stands in place of a thread's name that isn't known: `:TID`, but for the idle thread,
+/// 0, which is `swapper`.
+pub(crate) fn put_without_name(text: &mut Text, tid: u32)
+    ensures { Puts (thread_name_text tid None) text.old text.new }
+{
+    if tid == 0 {
+        text.put(b"swapper");
+    } else {
+        text.put(b":");
+        text.number(tid);
     }
 }
 

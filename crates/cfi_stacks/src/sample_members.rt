@@ -1,113 +1,108 @@
 //! What the object of a sample has before its frames (RFC 8259).
-ghost use Rattle.std.specs.Prelude.{◌≡◌, ◌++◌, None, OnOk};
+ghost use Rattle.std.specs.Prelude.{codes};
+ghost use Rattle.std.specs.Fmt.{decimal};
 ghost use Rattle.cfi_perf.specs.Samples.{sample_view};
 ghost use Rattle.cfi_mapped.specs.ThreadNames.{name_bytes};
-ghost use Rattle.cfi_text.specs.WriterOutput.{Writes};
-ghost use Rattle.cfi_stacks.specs.SampleHeads.{thread_name_text};
+ghost use Rattle.cfi_text.specs.Texts.{Puts};
+ghost use Rattle.cfi_frames.specs.FrameLines.{filled};
 ghost use Rattle.cfi_stacks.specs.SampleMembers.{comm_text, cpu_member, nanoseconds_text};
-ghost use Rattle.cfi_stacks.specs.SampleMembers.{number_members, sample_head};
+ghost use Rattle.cfi_stacks.specs.SampleMembers.{number_members, sample_head, time_members};
 
-use cfi_frames::frame_lines::push_filled;
+use crate::sample_head::put_without_name;
 use cfi_mapped::Name;
 use cfi_perf::Sample;
-use cfi_text::json::push_number;
-use cfi_text::line_buffer::{LineBuffer, push};
-use cfi_text::lines::write_text;
-use cfi_text::names::write_json_name;
-use cfi_text::numbers::push_decimal;
-use std::io::Write;
-use std::{fmt, io};
+use cfi_text::escapes::Escaping;
+use cfi_text::text::Text;
+use itoa::Buffer;
 
-/// Writes what comes before the frames.
-pub(crate) fn write_sample_head<W: Write>(
-    output: &mut W,
+/// Puts what comes before the frames.
+pub(crate) fn put_sample_head(
+    text: &mut Text,
     name: Option<Name<'_>>,
     time: u64,
     sample: &Sample<'_>,
-) -> io::Result<()>
-    ensures { Writes (W.contents output.old) (W.contents output.new) result
-        (sample_head (name_bytes name.entry) time (sample_view sample.now)) }
+)
+    ensures { Puts (sample_head (name_bytes name.entry) time (sample_view sample.now))
+        text.old text.new }
 {
-    write_text(output, b"{\"comm\":\"")?;
-    write_comm(output, sample.tid, name)?;
-    write_number_members(output, time, sample)?;
-    write_json_name(output, sample.event)?;
-    write_text(output, b"\",\"frames\":[")
+    text.put(b"{\"comm\":\"");
+    put_comm(text, sample.tid, name);
+    put_number_members(text, time, sample);
+    text.escaped(Escaping::Json, sample.event);
+    text.put(b"\",\"frames\":[");
 }
 
-/// Writes the name of a thread, or what stands in the place of one.
-fn write_comm<W: Write>(output: &mut W, tid: u32, name: Option<Name<'_>>) -> io::Result<()>
-    ensures { Writes (W.contents output.old) (W.contents output.new) result
-        (comm_text tid (name_bytes name.entry)) }
+/// Puts the name of a thread, or what stands in the place of one.
+fn put_comm(text: &mut Text, tid: u32, name: Option<Name<'_>>)
+    ensures { Puts (comm_text tid (name_bytes name.entry)) text.old text.new }
 {
     match name {
-        Some(name) => write_json_name(output, name.bytes),
-        None => write_without_name(output, tid),
+        Some(name) => text.escaped(Escaping::Json, name.bytes),
+        None => put_without_name(text, tid),
     }
 }
 
-/// Writes what stands in place of a name that isn't known.
-fn write_without_name<W: Write>(output: &mut W, tid: u32) -> io::Result<()>
-    ensures { Writes (W.contents output.old) (W.contents output.new) result
-        (thread_name_text tid None) }
+/// Puts the process, the thread, the processor, the time and the period of a sample.
+fn put_number_members(text: &mut Text, time: u64, sample: &Sample<'_>)
+    ensures { Puts (number_members time (sample_view sample.now)) text.old text.new }
 {
-    if tid == 0 {
-        return write_text(output, b"swapper");
-    }
-    let mut text = LineBuffer::new();
-    push(&mut text, b":")?;
-    push_decimal(&mut text, u64::from(tid))?;
-    write_text(output, text.as_slice())
+    text.put(b"\",\"pid\":");
+    text.json_number(u64::from(sample.pid));
+    text.put(b",\"tid\":");
+    text.json_number(u64::from(sample.tid));
+    put_cpu_member(text, sample.cpu);
+    put_time_members(text, time, sample.period);
 }
 
-/// Writes the thread, the processor, the time and the period of a sample.
-fn write_number_members<W: Write>(output: &mut W, time: u64, sample: &Sample<'_>) -> io::Result<()>
-    ensures { Writes (W.contents output.old) (W.contents output.new) result
-        (number_members time (sample_view sample.now)) }
+/// Puts the time and the period.
+fn put_time_members(text: &mut Text, time: u64, period: u64)
+    ensures { Puts (time_members time period) text.old text.new }
 {
-    let mut text = LineBuffer::new();
-    push_number_members(&mut text, time, sample)?;
-    write_text(output, text.as_slice())
+    text.put(b",\"time\":\"");
+    put_nanoseconds(text, time);
+    text.put(b"\",\"period\":");
+    text.json_number(period);
+    text.put(b",\"event\":\"");
 }
 
-/// Appends what `write_number_members` writes. Fails where there is no room.
-fn push_number_members(text: &mut LineBuffer, time: u64, sample: &Sample<'_>) -> fmt::Result
-    ensures { OnOk result (text.new.items
-        ≡ text.old.items ++ number_members time (sample_view sample.now)) }
+/// Puts the processor, if it is known.
+fn put_cpu_member(text: &mut Text, cpu: Option<u32>)
+    ensures { Puts (cpu_member cpu) text.old text.new }
 {
-    push(text, b"\",\"pid\":")?;
-    push_number(text, u64::from(sample.pid))?;
-    push(text, b",\"tid\":")?;
-    push_number(text, u64::from(sample.tid))?;
-    push_cpu_member(text, sample.cpu)?;
-    push(text, b",\"time\":\"")?;
-    push_nanoseconds(text, time)?;
-    push(text, b"\",\"period\":")?;
-    push_number(text, sample.period)?;
-    push(text, b",\"event\":\"")
-}
-
-/// Appends the processor, if it is known. Fails where there is no room.
-fn push_cpu_member(text: &mut LineBuffer, cpu: Option<u32>) -> fmt::Result
-    ensures { OnOk result (text.new.items ≡ text.old.items ++ cpu_member cpu) }
-{
-    match cpu {
-        None => Ok(()),
-        Some(cpu) => {
-            push(text, b",\"cpu\":")?;
-            push_number(text, u64::from(cpu))
-        }
+    if let Some(cpu) = cpu {
+        text.put(b",\"cpu\":");
+        text.json_number(u64::from(cpu));
     }
 }
 
-/// Appends a time in nanoseconds as seconds, with nine digits after the point. Fails where there is
-/// no room.
-fn push_nanoseconds(text: &mut LineBuffer, time: u64) -> fmt::Result
-    ensures { OnOk result (text.new.items ≡ text.old.items ++ nanoseconds_text time) }
+/// Puts a time in nanoseconds as seconds, with nine digits after the point.
+fn put_nanoseconds(text: &mut Text, time: u64)
+    ensures { Puts (nanoseconds_text time) text.old text.new }
 {
-    push_decimal(text, time / 1_000_000_000)?;
-    push(text, b".")?;
-    let mut nanos = LineBuffer::new();
-    push_decimal(&mut nanos, time % 1_000_000_000)?;
-    push_filled(text, b"000000000", nanos.as_slice())
+    put_decimal(text, time / 1_000_000_000);
+    text.put(b".");
+    put_nine(text, time % 1_000_000_000);
+}
+
+/// Puts a number in decimal.
+fn put_decimal(text: &mut Text, number: u64)
+    ensures { Puts (decimal number) text.old text.new }
+{
+    text.number(number);
+}
+
+/// Puts a number after as many zeros as make it nine digits wide.
+fn put_nine(text: &mut Text, number: u64)
+    ensures { Puts (filled (codes "000000000") (decimal number)) text.old text.new }
+{
+    let mut buffer = Buffer::new();
+    put_filled(text, b"000000000", buffer.format(number).as_bytes());
+}
+
+/// Puts a text after as much of the fill as makes it as long.
+fn put_filled(text: &mut Text, fill: &[u8], shown: &[u8])
+    ensures { Puts (filled fill.now shown.now) text.old text.new }
+{
+    text.put(&fill[..fill.len().saturating_sub(shown.len())]);
+    text.put(shown);
 }

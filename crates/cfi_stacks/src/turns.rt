@@ -1,4 +1,4 @@
-//! One more record, while the samples of a profile are printed or counted.
+//! One more record, while the samples of a profile are followed.
 ghost use Rattle.std.specs.Prelude.{◌≡◌, ◌≢◌, ℕ, List, Option, IfOk, OnOk, true, false, ◌-◌};
 ghost use Rattle.std.specs.Prelude.{option_map};
 ghost use Rattle.cfi_perf.specs.Events.{Record as RecordOfProfile, record_view};
@@ -12,15 +12,15 @@ ghost use Rattle.cfi_stacks.specs.KnownSamples.{known_in};
 
 use crate::choice::Choice;
 use crate::profile_index::ProfileIndex;
-use crate::sample_text::Shown;
 use cfi_frames::room::Room;
 use cfi_perf::{Event, PlaceKind, Record, RecordPlace};
+use cfi_processes::Frame;
 use cfi_processes::registers::SampleMachine;
 use cfi_processes::replay::Replay;
 use cfi_text::reading::InputError;
 use std::alloc::{AllocError, Global};
 
-/// The samples of a profile that are printed or counted, which are the same for all of its records.
+/// The samples of a profile whose stacks are wanted, which are the same for all of its records.
 #[derive(Drop)]
 pub(crate) struct ChosenSamples<'r, 'p> {
     pub(crate) alloc: Global,
@@ -31,12 +31,13 @@ pub(crate) struct ChosenSamples<'r, 'p> {
     pub(crate) index: &'r ProfileIndex<'p>,
 }
 
-/// What the records said that were followed, and what samples are walked in and put into.
+/// What the records said that were followed, and what samples are walked in.
 #[derive(Drop)]
 pub(crate) struct Walker<'f, 'run, 'names> {
     pub(crate) replay: Replay<'f, 'run, 'names>,
     pub(crate) room: Room,
-    pub(crate) shown: Shown<'run>,
+    /// The frames of the stack that was walked last.
+    pub(crate) frames: Vec<Frame<'run>>,
 }
 
 /// Follows the record at a place that is no sample.

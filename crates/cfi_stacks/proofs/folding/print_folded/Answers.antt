@@ -4,7 +4,7 @@ use Rattle.cfi_processes.specs.KnownFiles.{known_view}
 use Rattle.cfi_stacks.specs.Choices.{choice_view}
 use Rattle.cfi_stacks.specs.ProfileIndexes.{record_of}
 use Rattle.cfi_stacks.specs.ProfileOutputs.{folded_refusal}
-use Rattle.cfi_stacks.proofs.FoldLemmas.{counts_printed}
+use Rattle.cfi_stacks.proofs.CountedLemmas.{counts_printed}
 use Rattle.cfi_stacks.proofs.folding.print_folded.Goals as goal
 
 pub returns-in-Ok : goal.returns-in-Ok

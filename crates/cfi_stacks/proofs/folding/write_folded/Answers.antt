@@ -4,7 +4,7 @@ use Rattle.cfi_text.specs.WriterOutput.{Prints}
 use Rattle.std.proofs.Common.{[], subst}
 use Rattle.cfi_text.specs.declared.style.Format.TheVariants.{Text}
 use Rattle.cfi_stacks.specs.ProfileOutputs.{profile_ended}
-use Rattle.cfi_stacks.proofs.RunLemmas.{behind, no_status_is}
+use Rattle.cfi_stacks.proofs.ShowLemmas.{behind, no_status_is}
 use Rattle.cfi_stacks.proofs.folding.write_folded.Goals as goal
 
 pub returns : goal.returns

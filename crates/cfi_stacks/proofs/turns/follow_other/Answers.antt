@@ -1,6 +1,6 @@
 use Rattle.std.proofs.Common.{refl}
 use Rattle.cfi_perf.specs.Events.{record_view}
-use Rattle.cfi_stacks.proofs.SampleTurns.{no_sample}
+use Rattle.cfi_stacks.proofs.VisitLemmas.{no_sample}
 use Rattle.cfi_stacks.proofs.turns.follow_other.Goals as goal
 
 pub returns-in-Ok-clause-followed : goal.returns-in-Ok-clause-followed
