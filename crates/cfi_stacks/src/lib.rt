@@ -2,7 +2,7 @@
 //!
 //! `run` prints them as a `Listing` says, by what stands around its records (`around`) and by where
 //! these are (`profile_index`). `visits` follows the records (`turns`) and hands the stack of each
-//! sample that is chosen (`choice`) to a `visitor`: `sample_stacks` prints them one after the other,
+//! sample that is chosen (`choice`) to a `visitor`: `sample_stacks` prints them one after another,
 //! and `folding` counts them by their folded stacks, whose text `folded_text` makes. `sample_stack`
 //! is the stack of a sample as a value, by what was known when it was taken (`taken_sample`) and
 //! what `sample_walk` finds. `sample_text` and `sample_object` put it into a text, `sample_head` or
