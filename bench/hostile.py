@@ -114,7 +114,7 @@ class Run:
 
 def runs_of(program, kind, sizes, enough):
     """A run for each size, up to one that takes long enough."""
-    for size in sizes:
+    for size in (size // kind.scale for size in sizes):
         with tempfile.TemporaryDirectory() as folder:
             file = Path(folder, 'file')
             file.write_bytes(kind.make(size, Path(folder)))

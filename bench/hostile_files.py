@@ -7,9 +7,9 @@ import math
 import os
 import struct
 
-# The words of the command before the file and after it, and a function that makes the file by the size and a folder, in which
-# it may put others.
-Kind = collections.namedtuple("Kind", "before after make")
+# The words of the command before the file and after it; a function that makes the file by the size and a folder, in which
+# it may put others; and how many times smaller than others it is measured, as it takes long.
+Kind = collections.namedtuple("Kind", "before after make scale")
 KINDS = {}
 RETURN_AT_CFA = b"\x0c\x07\x08\x90\x01"  # CFA register 7 plus 8, the return address 8 below it
 FIRST = 0x1000
@@ -18,13 +18,13 @@ SWEPT = range(16, 207)
 PROGRAM = os.path.realpath("/bin/true").encode()
 
 
-def kind(name, each, *after, before=(), power=1):
+def kind(name, each, *after, before=(), power=1, scale=1):
     """Declares what makes a file of `count` parts, of about `each` bytes for each of count to the power."""
     def declared(make):
         def of_size(size, folder):
             found = make(max(1, math.ceil((size / each) ** (1 / power))))
             return found(folder) if callable(found) else found
-        KINDS[name] = Kind([name.split("_")[0], *before], list(after), of_size)
+        KINDS[name] = Kind([name.split("_")[0], *before], list(after), of_size, scale)
         return make
     return declared
 
@@ -142,14 +142,14 @@ def with_long_name(count, length, address):
 
 kind("rows_fdes", 24)(lambda n: of(fdes(n)))
 kind("rows_fdes_at_one_address", 24)(lambda n: of(fdes(n, start=lambda k: FIRST)))
-kind("rows_advances", 1)(lambda n: of(one_fde(b"\x41" * n)))
-kind("rows_192_rules", 1)(lambda n: of(one_fde(RULES + b"\x41" * n)))
+kind("rows_advances", 1, scale=2)(lambda n: of(one_fde(b"\x41" * n)))
+kind("rows_192_rules", 1, scale=16)(lambda n: of(one_fde(RULES + b"\x41" * n)))
 kind("rows_remembered", 2)(lambda n: of(one_fde(RULES + b"\x0a\x0b" * n)))
 kind("rows_long_expression", 1)(lambda n: of(one_fde(long_expression(n))))
-kind("rows_expression_each", 2)(lambda n: of(one_fde(long_expression(n) + b"\x41" * n)))
-kind("rows_expression_each_json", 2, before=("--format=json",))(lambda n: of(one_fde(long_expression(n) + b"\x41" * n)))
+kind("rows_expression_each", 2, scale=16)(lambda n: of(one_fde(long_expression(n) + b"\x41" * n)))
+kind("rows_expression_each_json", 2, before=("--format=json",), scale=16)(lambda n: of(one_fde(long_expression(n) + b"\x41" * n)))
 kind("rows_cies_in_turn", 34)(lambda n: of(fdes(n, cie(b"z" + b"S" * n, b"\0"), data=b"\0", cies=2)))
-kind("rows_long_cie", 48)(lambda n: of(fdes(n, cie(instructions=RETURN_AT_CFA + b"\x0e\x10" * (12 * n)))))
+kind("rows_long_cie", 48, scale=4)(lambda n: of(fdes(n, cie(instructions=RETURN_AT_CFA + b"\x0e\x10" * (12 * n)))))
 kind("rows_symbols_at_one_address", 39)(lambda n: with_symbols(fdes(n // 8), [(b"f%d" % k, FIRST, 16) for k in range(n)]))
 kind("rows_long_names", 68)(lambda n: with_long_name(n, 20 * n, 0))
 kind("rows_one_long_name", 68)(lambda n: with_long_name(n, 20 * n, FIRST))
@@ -162,18 +162,18 @@ kind("row_advances", 1, "0xffffffffff")(lambda n: of(one_fde(b"\x41" * n)))
 kind("row_cies_in_turn", 34, "0x1")(lambda n: of(fdes(n, cie(b"z" + b"S" * n, b"\0"), data=b"\0", cies=2)))
 kind("dump_fdes", 24)(lambda n: of(fdes(n)))
 kind("dump_advances", 1)(lambda n: of(one_fde(b"\x41" * n)))
-kind("dump_expression_each", 2)(lambda n: of(one_fde(long_expression(n) + b"\x41" * n)))
+kind("dump_expression_each", 2, scale=16)(lambda n: of(one_fde(long_expression(n) + b"\x41" * n)))
 kind("dump_cies_in_turn", 34)(lambda n: of(fdes(n, cie(b"z" + b"S" * n, b"\0"), data=b"\0", cies=2)))
-kind("dump_long_cie", 48)(lambda n: of(fdes(n, cie(instructions=RETURN_AT_CFA + b"\x0e\x10" * (12 * n)))))
+kind("dump_long_cie", 48, scale=4)(lambda n: of(fdes(n, cie(instructions=RETURN_AT_CFA + b"\x0e\x10" * (12 * n)))))
 kind("table_fdes", 24)(lambda n: of(fdes(n)))
 kind("table_fdes_at_one_address", 24)(lambda n: of(fdes(n, start=lambda k: FIRST)))
 kind("table_fdes_nested", 24)(lambda n: of(fdes(n, start=lambda k: FIRST + k, length=lambda k: 1 << 30)))
 kind("table_fdes_around", 24)(lambda n: of(fdes(n, start=lambda k: (1 << 40) - 16 * k, length=lambda k: FIRST + 32 * k)))
 kind("table_fdes_falling", 24)(lambda n: of(fdes(n, start=lambda k: (1 << 40) - 16 * k)))
-kind("table_192_rules", 5)(lambda n: of(one_fde(RULES + b"\x05\xce\x01\x01\x41" * n)))
-kind("table_expression_each", 2)(lambda n: of(one_fde(long_expression(n) + b"\x41" * n)))
+kind("table_192_rules", 5, scale=4)(lambda n: of(one_fde(RULES + b"\x05\xce\x01\x01\x41" * n)))
+kind("table_expression_each", 2, scale=16)(lambda n: of(one_fde(long_expression(n) + b"\x41" * n)))
 kind("table_cies_in_turn", 34)(lambda n: of(fdes(n, cie(b"z" + b"S" * n, b"\0"), data=b"\0", cies=2)))
-kind("table_long_cie", 48)(lambda n: of(fdes(n, cie(instructions=RETURN_AT_CFA + b"\x0e\x10" * (12 * n)))))
+kind("table_long_cie", 48, scale=4)(lambda n: of(fdes(n, cie(instructions=RETURN_AT_CFA + b"\x0e\x10" * (12 * n)))))
 kind("check_fdes", 24)(lambda n: of(fdes(n)))
 
 
@@ -383,7 +383,7 @@ def one_sample(path):
     return profile([mapped(1, 0x1000000, 0x20000, path), sample(1, 5, FIRST + 0x1000010, bytes(8))])
 
 
-@kind("unwind_library_of_long_cie", 56)
+@kind("unwind_library_of_long_cie", 56, scale=4)
 def library_of_long_cie(n):
     first = relative(RETURN_AT_CFA + b"\x0e\x10" * (12 * n))
     return beside("long_cie.so", library(fdes(n, first, data=b"\0")), one_sample)
@@ -463,12 +463,12 @@ def core_of(threads, stack, pc=FIRST + 0x1000010):
     return lambda path: core([*(thread(k + 1, pc, 0x700000) for k in range(threads)), file_note([path], length=0x20000)], [(0x700000, stack, 6)])
 
 
-@kind("stack_deep", 356)
+@kind("stack_deep", 356, scale=8)
 def deep(n):
     """Threads whose stacks have as many frames as are followed; the stack itself doesn't count."""
     return beside("deep.so", library(fdes(1, relative(), length=lambda k: 0x10000, data=b"\0")), core_of(n, pack("Q", FIRST + 0x1000010) * 4200))
 
 
-kind("stack_loops", 356)(lambda n: beside("loops.so", loops(), core_of(n, bytes(64))))
-kind("unwind_loops", 240)(lambda n: beside("loops.so", loops(), lambda path: profile(
+kind("stack_loops", 356, scale=128)(lambda n: beside("loops.so", loops(), core_of(n, bytes(64))))
+kind("unwind_loops", 240, scale=128)(lambda n: beside("loops.so", loops(), lambda path: profile(
     [mapped(1, 0x1000000, 0x20000, path), *(sample(1, 5 + k, FIRST + 0x1000010, bytes(8)) for k in range(n))])))
