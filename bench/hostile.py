@@ -8,7 +8,7 @@ Each section is little-endian, has 8-byte addresses, and lies at 0. FOLDER gets 
 one address that a scan looks up. Without a NAME all are written. For each a line NAME le 0 is printed. Each kind comes in
 four sizes, which show how times grow.
 
-The files are those of hostile_files.py, each kind in six sizes up to 1 MB; no larger one is read where one took N seconds (5). Of each
+The files are those of hostile_files.py, each kind in six sizes up to 1 MB; no larger one is read where one took N seconds (5; 1 with --small). Of each
 is printed by what power of the size the processor time grows (from the last size and the one of a quarter), the seconds for 1 MB, with
 `~` where that follows from the power, the most memory, and how many bytes are printed for each that is read. The status is 1 if a
 kind is above its limits: LIMITS has those that are known, for all others it is a power of 1.25 and a second. A kind that
@@ -31,6 +31,36 @@ from hostile_files import FIRST, KINDS, RULES, cie, entry  # noqa: E402
 MEGABYTE = 1_000_000
 # The kinds that are known to grow faster, or to be long, each with its power, and its seconds for 1 MB.
 LIMITS = {
+    # a row prints its rules and expressions, and a line its name, as they are
+    'rows_192_rules': (1.25, 400),
+    'rows_expression_each': (2.3, 200_000),
+    'rows_expression_each_json': (2.3, 200_000),
+    'dump_expression_each': (2.3, 200_000),
+    'rows_long_names': (2.2, 40),
+    # an FDE is read with its CIE
+    'rows_cies_in_turn': (2.2, 15),
+    'row_cies_in_turn': (2.2, 15),
+    'dump_cies_in_turn': (2.2, 15),
+    'table_cies_in_turn': (2.2, 15),
+    'check_cies_in_turn': (2.2, 15),
+    # and runs its instructions
+    'rows_long_cie': (2.4, 500),
+    'dump_long_cie': (2.4, 500),
+    'table_long_cie': (2.4, 500),
+    'unwind_library_of_long_cie': (2.4, 500),
+    # each address is looked up by a scan, each name among all
+    'row_of_name': (2.2, 250),
+    'row_plt_entries': (2.2, 150),
+    'rows_relocation_sections_in_one_place': (2.2, 200),
+    # each file is compared with the others, each process has its mappings
+    'unwind_files': (2.4, 60),
+    'unwind_builds': (2.4, 60),
+    'stack_files': (2.4, 150),
+    'unwind_forks_of_mappings': (2.2, 20),
+    # a stack has 4,096 frames, each of which may have 16 expressions of 1,000 operations
+    'stack_deep': (1.25, 60),
+    'stack_loops': (1.25, 25_000),
+    'unwind_loops': (1.25, 25_000),
 }
 
 # ---- sections
@@ -119,7 +149,10 @@ def runs_of(program, kind, sizes, enough):
             file = Path(folder, 'file')
             file.write_bytes(kind.make(size, Path(folder)))
             bytes_of_all = sum(part.stat().st_size for part in Path(folder).iterdir())
-            run = Run(program, [*kind.before, file, *kind.after], bytes_of_all, size)
+            words = [program, [*kind.before, file, *kind.after], bytes_of_all, size]
+            run = Run(*words)
+            if run.seconds < 0.2:
+                run = min(run, Run(*words), key=lambda one: one.seconds)
         yield run
         if run.seconds > enough or run.status < 0:
             return
@@ -166,10 +199,11 @@ def run_files(asked):
         if name not in KINDS:
             sys.exit(f'hostile.py: no {name} among {" ".join(KINDS)}')
     sizes = [1 << k for k in (14, 15, 16)] if asked.small else [MEGABYTE >> k for k in range(5, -1, -1)]
+    enough = asked.over or (1 if asked.small else 5)
     start = min(Run(program, ['--version'], 0).seconds for _ in range(5))
     rows, wrong = [HEADER], 0
     for name in names:
-        measured = Measured(name, list(runs_of(program, KINDS[name], sizes, asked.over)), start)
+        measured = Measured(name, list(runs_of(program, KINDS[name], sizes, enough)), start)
         rows.append(measured.columns())
         faults = list(measured.faults(asked.small))
         wrong += bool(faults)
@@ -189,7 +223,7 @@ def main():
     parser.add_argument('--cfi')
     parser.add_argument('--small', action='store_true')
     parser.add_argument('--csv')
-    parser.add_argument('--over', type=float, default=5)
+    parser.add_argument('--over', type=float)
     asked = parser.parse_args()
     if asked.cfi:
         return run_files(asked)

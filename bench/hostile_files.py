@@ -177,16 +177,18 @@ kind("table_long_cie", 48, scale=4)(lambda n: of(fdes(n, cie(instructions=RETURN
 kind("check_fdes", 24)(lambda n: of(fdes(n)))
 
 
-@kind("check_table", 32)
-def with_header(count):
+def with_header(count, first=None, data=b"", cies=1):
     """FDEs, and a header whose table lists them."""
-    first, places = cie(), range(len(cie()), len(cie()) + 24 * count, 24)
-    rows = b"".join(pack("ii", FIRST + 16 * k, 0x20000000 + place) for k, place in enumerate(places))
+    first = first or cie()
+    start, each = len(first) * cies, len(entry(bytes(20) + data))
+    rows = b"".join(pack("ii", FIRST + 16 * k, 0x20000000 + start + each * k) for k in range(count))
     header = b"\1\x03\x03\x03" + pack("II", 0x20000000, count) + rows
-    return elf([frames(fdes(count, first), 0x20000000), Section(".eh_frame_hdr", 1, 2, 0x10000000, header)])
+    return elf([frames(fdes(count, first, data=data, cies=cies), 0x20000000), Section(".eh_frame_hdr", 1, 2, 0x10000000, header)])
 
 
-kind("check_cies_in_turn", 34)(lambda n: of(fdes(n, cie(b"z" + b"S" * n, b"\0"), data=b"\0", cies=2)))
+kind("check_table", 32)(with_header)
+kind("check_cies_in_turn", 42)(lambda n: with_header(n, cie(b"z" + b"S" * n, b"\0"), b"\0", 2))
+kind("check_long_cie", 56, scale=4)(lambda n: with_header(n, cie(instructions=RETURN_AT_CFA + b"\x0e\x10" * (12 * n))))
 
 
 @kind("row_plt_entries", 98, "printf@plt")
@@ -469,6 +471,6 @@ def deep(n):
     return beside("deep.so", library(fdes(1, relative(), length=lambda k: 0x10000, data=b"\0")), core_of(n, pack("Q", FIRST + 0x1000010) * 4200))
 
 
-kind("stack_loops", 356, scale=128)(lambda n: beside("loops.so", loops(), core_of(n, bytes(64))))
-kind("unwind_loops", 240, scale=128)(lambda n: beside("loops.so", loops(), lambda path: profile(
+kind("stack_loops", 356, scale=47)(lambda n: beside("loops.so", loops(), core_of(n, bytes(64))))
+kind("unwind_loops", 240, scale=70)(lambda n: beside("loops.so", loops(), lambda path: profile(
     [mapped(1, 0x1000000, 0x20000, path), *(sample(1, 5 + k, FIRST + 0x1000010, bytes(8)) for k in range(n))])))

@@ -68,7 +68,7 @@ def row_text(found):
     if "section" in found:
         return found["section"]
     if "fde" in found:
-        return " ".join(["fde", found["fde"]["start"], found["fde"]["end"]] + [found["fde"]["function"]] * ("function" in found["fde"]))
+        return " ".join(["fde", found["fde"]["start"], found["fde"]["end"]] + [found["fde"][name] for name in ("function",) if name in found["fde"]])
     if "error" in found:
         return error_text(found)
     rules = "".join(f" {register}={rule}" for register, rule in found["rules"].items())
@@ -96,7 +96,7 @@ def stack_text(found):
         head = f"{found['comm']} {found['pid']:5d}/{found['tid']:<5d} {cpu}{seconds:>5}.{digits[:6]}: {int(found['period']):10d} {found['event']}:"
     else:
         head = f"thread {found['tid']}"
-        head += f" signal {found['signal']}" * ("signal" in found) + f" {found.get('name')}" * ("name" in found)
+        head += f" signal {found.get('signal')}" * ("signal" in found) + f" {found.get('name')}" * ("name" in found)
         head += f" code {found.get('code')} address {found.get('fault')}" * ("code" in found) + f" of {found.get('process')}" * ("process" in found)
     return [head, *map(frame_text, found["frames"]), *([f"# ({found['end']})"] if "end" in found else []), ""]
 
@@ -108,14 +108,15 @@ class Run:
     """The program, a file, and what is counted."""
 
     def __init__(self, program, folder):
-        self.program, self.path = program, folder / "input"
+        self.program, self.path, self.errors = program, folder / "input", b""
         self.rules, self.counts, self.unwinder = collections.Counter(), collections.Counter(), plain_unwinder.Unwinder()
 
-    def cfi(self, *words, data=None):
-        """Standard output and status."""
+    def cfi(self, *words):
+        """Standard output and status; `errors` has standard error."""
         done = subprocess.run([self.program, *words, self.path], stdin=subprocess.DEVNULL, capture_output=True, timeout=600, check=False, cwd=DATA)
         if done.returncode not in (0, 1, 2):
             raise AssertionError(f"cfi {words}: status {done.returncode}: {done.stderr[-400:]}")
+        self.errors = done.stderr
         return done.stdout, done.returncode
 
     def objects(self, *words):
@@ -154,12 +155,13 @@ class Section:
                 found.add(item)
                 return found
             start, end = item
+            errors = [row for first, _, row in rows if first is None]
             if start <= address < end:
                 hits = [row for first, last, row in rows if first is None or first <= address < last]
-                return found | {hits[0] if hits else "none"}
-            errors = [row for first, _, row in rows if first is None]
-            if errors and (len(rows) == 1 or rows[-2][1] == end):
-                found.add(errors[0])
+                return found | {hits[0] if hits else "none"} | set(errors if hits and hits[0] in errors else [])
+            found.update(errors)
+            if len(errors) == 1 and rows[-1][0] is None and len(rows) > 1 and rows[-2][1] == end:
+                return found
         return found | {"none"}
 
 
@@ -192,7 +194,6 @@ def compare_elf(run, random_):
     if not any(kind == "fde" for section in sections.values() for kind, _, _ in section.items):
         return
     addresses = addresses_in(sections, random_)
-    printed = dict(line.partition(": ")[::2] for line in lines_of(run.cfi("row", run.path, *map(hex, addresses))[0][: 1 << 24]) if False)
     output = run_row(run, addresses)
     if len(output) != len(addresses):
         yield None, f"row: {len(output)} lines for {len(addresses)} addresses: {output[:1]}"
@@ -277,7 +278,8 @@ def compare_profile(run, random_):
         folded, folded_status = run.cfi("fold", *words, *option)
         yield from compare_folded(run, folded, objects, bool(option), folded_status == same)
     if not words:
-        yield from compare_frames(run, objects)
+        other_builds = set(re.findall(r"^cfi: (.*): no file of the build that ran is here$", run.errors.decode("latin-1"), re.M))
+        yield from compare_frames(run, objects, other_builds)
 
 
 def compare_stacks(run, what, text, objects, status, same, is_raw):
@@ -320,7 +322,7 @@ def name_in_fold(frame):
     return f"[{frame['file'].split('/')[-1]}]".replace(";", ":") if "file" in frame else "[unknown]"
 
 
-def compare_frames(run, objects):
+def compare_frames(run, objects, other_builds):
     """The frames of user space with those of another unwinder, up to what that doesn't know."""
     try:
         profile = PROFILES.Profile(str(run.path))
@@ -340,7 +342,8 @@ def compare_frames(run, objects):
             continue
         registers = {plain_unwinder.OF_PERF[k]: value for k, value in sample.registers.items() if k in plain_unwinder.OF_PERF}
         read = plain_unwinder.window(registers[plain_unwinder.STACK], sample.stack)
-        places, end = run.unwinder.frames(registers, sample.mappings, read)
+        mappings = [mapping for mapping in sample.mappings if mapping.name not in other_builds]
+        places, end = run.unwinder.frames(registers, mappings, read)
         ours = [int(frame["place"], 16) for frame in found["frames"] if "kernel" not in frame]
         run.counts["frames"] += len(places)
         if end == "?":
@@ -431,6 +434,8 @@ def main():
             seeds[kind_of(data)].append(data)
     (KEPT / "work").mkdir(parents=True, exist_ok=True)
     run, wrong = Run(str(Path(asked.program).resolve()), KEPT / "work"), 0
+    # the profiles and core files have names of files by /proc/self/cwd
+    os.chdir(DATA)
     for number in range(asked.seed, asked.seed + asked.inputs):
         if processor_time() > asked.seconds:
             break

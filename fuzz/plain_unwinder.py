@@ -32,7 +32,7 @@ class Code:
 
     def __init__(self, path):
         data = Path(path).read_bytes()
-        self.segments, self.sections = [], []
+        self.segments, self.sections, self.has_debug_file = [], [], b".gnu_debuglink" in data
         if data[:6] != b"\x7fELF\2\1":
             return
         start, = struct.unpack_from("<Q", data, 32)
@@ -88,12 +88,12 @@ class Unwinder:
                 if len(places) == MOST:
                     raise Ended("NoRoom")
                 code = mapping and self.code(mapping.name)
-                if not code or not any(fdes for fdes, _ in code.sections):
-                    raise Ended("NoModule")
-                found = code.address_of(places[-1])
-                row = found is not None and code.row_at(found)
+                found = code and code.address_of(places[-1])
+                row = found is not None and code and code.row_at(found)
+                if not row and code and code.has_debug_file:
+                    raise Unknown("the rows of its debug file")
                 if not row:
-                    raise Ended("NoRow")
+                    raise Ended("NoRow" if code and any(fdes for fdes, _ in code.sections) else "NoModule")
                 registers, cfa, is_caller = *self.caller(registers, row, cfa, read), True
         except Ended as ended:
             return places, str(ended)
