@@ -47,14 +47,18 @@ LIMITS = {
     'rows_long_cie': (2.4, 500),
     'dump_long_cie': (2.4, 500),
     'table_long_cie': (2.4, 500),
+    'check_long_cie': (2.4, 500),
     'unwind_library_of_long_cie': (2.4, 500),
     # each address is looked up by a scan, each name among all
     'row_of_name': (2.2, 250),
     'row_plt_entries': (2.2, 150),
     'rows_relocation_sections_in_one_place': (2.2, 200),
     # each file is compared with the others, each process has its mappings
-    'unwind_files': (2.4, 60),
-    'unwind_builds': (2.4, 60),
+    'unwind_mappings': (2.4, 5),
+    'unwind_mappings_falling': (2.4, 5),
+    'unwind_mappings_split': (2.8, 15),
+    'unwind_files': (2.4, 20),
+    'unwind_builds': (2.4, 20),
     'stack_files': (2.4, 150),
     'unwind_forks_of_mappings': (2.2, 20),
     # a stack has 4,096 frames, each of which may have 16 expressions of 1,000 operations

@@ -342,7 +342,7 @@ def compare_frames(run, objects, other_builds):
             continue
         registers = {plain_unwinder.OF_PERF[k]: value for k, value in sample.registers.items() if k in plain_unwinder.OF_PERF}
         read = plain_unwinder.window(registers[plain_unwinder.STACK], sample.stack)
-        mappings = [mapping for mapping in sample.mappings if mapping.name not in other_builds]
+        mappings = [mapping._replace(name="") if mapping.name in other_builds else mapping for mapping in sample.mappings]
         places, end = run.unwinder.frames(registers, mappings, read)
         ours = [int(frame["place"], 16) for frame in found["frames"] if "kernel" not in frame]
         run.counts["frames"] += len(places)
