@@ -1,7 +1,7 @@
 #!/usr/bin/env python3
 """Puts wrong code into the program `cfi`, one fault at a time, and sees whether a stored run (.ci/program) finds it.
 
-  planted_programs.py [--keep FOLDER] [FAULT..]     all faults, or those
+  planted_programs.py [--keep FOLDER] [--jobs J] [FAULT..]     all faults, or those; J (2) at a time
   planted_programs.py --list                        lists them
   planted_programs.py --stale                       names those whose lines aren't in the sources; nothing is built
 
@@ -473,9 +473,11 @@ def main(words):
         sys.exit("not in the sources: " + ", ".join(stale()))
     if words == ["--stale"]:
         return 0
-    kept = None
+    kept, jobs = None, 2
     if words[:1] == ["--keep"]:
         kept, words = Path(words[1]).resolve(), words[2:]
+    if words[:1] == ["--jobs"]:
+        jobs, words = int(words[1]), words[2:]
     names = [name for name, *_ in FAULTS]
     for word in words:
         if word not in names:
@@ -487,7 +489,7 @@ def main(words):
             sys.exit(said + "the program without a fault differs")
         numbers = [names.index(name) + 1 for name in words or names]
         missed = 0
-        with ThreadPoolExecutor(2) as pool:
+        with ThreadPoolExecutor(jobs) as pool:
             for number, (status, found, said) in zip(numbers, pool.map(lambda it: found_by(program, it), numbers)):
                 missed += status == 0
                 print(f"{names[number - 1]:28} {'; '.join(found) or ('NOT FOUND' if status == 0 else said[-200:])}", flush=True)

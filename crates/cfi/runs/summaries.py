@@ -353,4 +353,5 @@ def expectation(command, stored, fixed):
     return None
 
 
-sys.exit(main(Path(sys.argv[1])))
+if __name__ == "__main__":
+    sys.exit(main(Path(sys.argv[1])))
