@@ -113,7 +113,8 @@ static void force(void) {
 
 static void raise_unhandled(void) {
     thrown = (struct _Unwind_Exception){.exception_class = 1, .exception_cleanup = forget};
-    printf("nobody handles it: %d\n", _Unwind_RaiseException(&thrown) == _URC_END_OF_STACK);
+    _Unwind_RaiseException(&thrown);
+    printf("nobody handles it\n");
 }
 
 int main(void) {
