@@ -44,6 +44,15 @@ struct Cleans {
     }
 };
 
+// Registers that a function has to save which changes them.
+#ifdef __x86_64__
+#define SAVED_ONE "rbx"
+#define SAVED_OTHERS "r12", "r13"
+#else
+#define SAVED_ONE "x19"
+#define SAVED_OTHERS "x20", "x21", "d8", "d9"
+#endif
+
 static NOINLINE int plain(int frames, long *sum);
 
 static NOINLINE int over_cleanups(int frames, long *sum) {
@@ -52,14 +61,14 @@ static NOINLINE int over_cleanups(int frames, long *sum) {
     if (frames <= 0)
         throw frames;
     int result = (frames % 2 ? plain : over_cleanups)(frames - 1, sum);
-    __asm__ volatile("" : "+r"(result), "+r"(kept) : : "rbx");
+    __asm__ volatile("" : "+r"(result), "+r"(kept) : : SAVED_ONE);
     return result + (int)kept;
 }
 
 // A frame that has nothing to clean, and registers to save.
 static NOINLINE int plain(int frames, long *sum) {
     int result = over_cleanups(frames, sum);
-    __asm__ volatile("" : "+r"(result) : : "rbx", "r12", "r13");
+    __asm__ volatile("" : "+r"(result) : : SAVED_ONE, SAVED_OTHERS);
     return result + 1;
 }
 

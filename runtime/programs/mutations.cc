@@ -134,7 +134,11 @@ int main(int count, char **names) {
     sections.base = map->l_addr;
     dl_iterate_phdr(find_sections, &sections);
     uint64_t first = sections.header & -4096ul;
-    if (mprotect((void *)first, (sections.entries_end | 4095) + 1 - first, PROT_READ | PROT_WRITE) != 0)
+    int protection = PROT_READ | PROT_WRITE;
+#ifndef __x86_64__
+    protection |= PROT_EXEC; // linkers put code in the same segment
+#endif
+    if (mprotect((void *)first, (sections.entries_end | 4095) + 1 - first, protection) != 0)
         return 3;
     damage_all(".eh_frame_hdr", sections.header, sections.header_end, sections);
     damage_all(".eh_frame", sections.entries, sections.entries_end, sections);

@@ -27,3 +27,13 @@ void *_Unwind_FindEnclosingFunction(void *pc) {
     struct dwarf_eh_bases bases;
     return _Unwind_Find_FDE((char *)pc - 1, &bases) ? bases.function : NULL;
 }
+
+#ifdef __aarch64__
+/* What code of compilers before GCC 3.0 asks at a throw. There is none for this machine: it finds nothing. */
+EXPORT void *__frame_state_for(void *pc, void *state);
+
+void *__frame_state_for(void *pc, void *state) {
+    (void)pc, (void)state;
+    return NULL;
+}
+#endif

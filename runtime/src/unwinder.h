@@ -286,14 +286,14 @@ struct known_module {
     bool stays;    /* it is never unloaded */
 };
 
-/* Empty where all is 0. */
+/* Empty where all else is 0. */
 struct known_modules {
     uint64_t files; /* the last number that was taken: they are even */
     unsigned count;
     uint16_t last;             /* the index of one that was found, */
     uint16_t by_page[PLACES];  /* by a page of their code: its index and 1, or 0 */
     uint16_t by_start[PLACES]; /* by their first address, as far on as there is room */
-    struct known_module all[KNOWN_MODULES];
+    struct known_module *all;  /* KNOWN_MODULES */
 };
 
 /* The loaded module of an address. Each is compared once a call with what is loaded, but for those that stay. */

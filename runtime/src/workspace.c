@@ -34,17 +34,18 @@ enum {
 /* What stands at a place: the number of its user, and whether that is in a call. 0: nothing was made there. */
 enum { IS_IDLE = 1, IS_KEPT = 2 /* for its user, if there are other places */, USER = 4 };
 
-/* Pages are touched only when they are needed. What a first throw touches lies together: the place of later rows, on which the
- * context is made, as on a stack; the first rows; the context; and the first modules. */
+/* Pages are touched only when they are needed. What a first throw touches lies together. All from the stack up to the context is
+ * that on which the context is made, as on a stack, before anything is there. */
 struct region {
     _Alignas(REGION) char seldom[SELDOM];
     char stack[STACK];
     _Alignas(LINE) char rows[ROWS]; /* the first ones at its end */
-    _Alignas(LINE) char context[CONTEXT];
     struct remembered remembered[REMEMBERED];
     struct trail trail;
-    struct workspace workspace;
     struct known_modules modules;
+    _Alignas(LINE) char context[CONTEXT];
+    struct workspace workspace;
+    struct known_module all_modules[KNOWN_MODULES];
     struct trail_frame more_frames[MORE_FRAMES];
 };
 
@@ -187,26 +188,35 @@ static int32_t make_context(void *workspace) {
     return cfi_context_new(&((struct workspace *)workspace)->context);
 }
 
-/* Makes the workspace of a region of zeros. The context is made on a stack in the place of the rows, which is the workspace's
- * until there are more of them: its pages are touched then. A larger stack has room too. */
-static bool make(struct region *region) {
-    struct workspace *workspace = &region->workspace, **made = made_here(), *was = *made;
-    char *top = region->rows + ROWS;
-    touch(top - MOST - FIRST, (size_t)((char *)&region->modules.all[1] - (top - MOST - FIRST)));
+/* What lies there is empty after the context was made on it. */
+static void begin_empty(struct region *region) {
+    struct workspace *workspace = &region->workspace;
+    memset(region->remembered, 0, (size_t)(region->context - (char *)region->remembered));
+    region->modules.all = region->all_modules;
+    region->trail.more = region->more_frames;
     workspace->modules = &region->modules;
     workspace->remembered = region->remembered;
     workspace->trail = &region->trail;
-    region->trail.more = region->more_frames;
+    workspace->stack = room_of(region->stack, (size_t)(region->rows + ROWS - FIRST - region->stack));
+    workspace->first_rows = FIRST_ROWS;
+    make_cache(workspace, FIRST_SETS, FIRST);
+}
+
+/* Makes the workspace of a region. A larger stack has room too. Later steps have theirs in the place of the rows, until there are
+ * more of them. */
+static bool make(struct region *region) {
+    struct workspace *workspace = &region->workspace, **made = made_here(), *was = *made;
+    char *top = region->context;
+    touch(top - MOST, (size_t)((char *)&region->all_modules[1] - (top - MOST)));
     workspace->rooms[0] = room_of(region->context, CONTEXT);
     workspace->rooms[1] = room_of(region->seldom, SELDOM);
-    workspace->stack = room_of(region->stack, (size_t)(top - FIRST - region->stack));
+    workspace->stack = room_of(region->stack, (size_t)(top - region->stack));
     *made = workspace;
     int32_t status = call_on_own_stack(workspace, make_context, workspace);
     *made = was;
     if (status != CFI_Ok)
         return false;
-    workspace->first_rows = FIRST_ROWS;
-    make_cache(workspace, FIRST_SETS, FIRST);
+    begin_empty(region);
     return true;
 }
 
