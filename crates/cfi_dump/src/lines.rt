@@ -10,8 +10,9 @@ use gimli_cfi::Error;
 use std::io;
 use std::io::Write;
 
-/// How much text may wait for another line.
-const FULL: usize = 4096;
+/// How much text may wait for another line: as much as the output of `cfi` has room for, which then
+/// passes it on without a copy.
+const FULL: usize = 32_768;
 
 /// Writes the lines that wait, if they are many.
 #[inline]
