@@ -51,6 +51,9 @@ LIMITS = {
     'unwind_library_of_long_cie': (2.4, 500),
     # each address is looked up by a scan, each name among all
     'row_of_name': (2.2, 250),
+    'rows_of_name': (2.3, 5),
+    'row_long_names': (2.3, 15),
+    'rows_one_long_name': (2.3, 15),
     'row_plt_entries': (2.2, 150),
     'rows_relocation_sections_in_one_place': (2.2, 200),
     # each file is compared with the others, each process has its mappings
