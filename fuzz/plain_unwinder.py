@@ -109,7 +109,14 @@ class Unwinder:
         found = dict(registers)
         for name, rule in rules.items():
             if rule != "s":
-                found[int(name[1:])] = recovered(registers, rule, cfa, read)
+                number = int(name[1:])
+                try:
+                    found[number] = recovered(registers, rule, cfa, read)
+                except Ended:
+                    # what was popped is below the copy of the stack: that register isn't known from here on
+                    if number == RETURN:
+                        raise
+                    found[number] = None
         found.setdefault(RETURN, None)
         if f"r{STACK}" not in rules:
             found[STACK] = cfa
