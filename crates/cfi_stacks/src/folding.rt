@@ -80,14 +80,13 @@ fn fold_records<I: FileInput>(
         (λ sorted. IsUnfolded by_period chosen.now.machine (map known_view files.now)
         (choice_view chosen.now.choice.now) sorted why)) }
 {
-    let counts = StackCounts::new(chosen.alloc);
     let mut folding = Folding {
         alloc: chosen.alloc,
         by_period,
-        counts,
     };
-    match visit_stacks(chosen, true, files, input, &mut folding) {
-        Ok(()) => Ok(folding.counts),
+    let mut counts = StackCounts::new(chosen.alloc);
+    match visit_stacks(chosen, true, files, input, &mut folding, &mut counts) {
+        Ok(()) => Ok(counts),
         Err(stopped) => Err(why_unfolded(stopped)),
     }
 }
@@ -108,21 +107,24 @@ fn why_unfolded(stopped: Stopped<FoldedError>) -> Unfolded
 struct Folding {
     alloc: Global,
     by_period: bool,
-    counts: StackCounts,
 }
 
-impl Visitor for Folding {
+impl Visitor<StackCounts> for Folding {
     type Error = FoldedError;
 
     ghost visits = { λ old stack new.
-        Counts old.by_period (counted_in old.counts) stack (counted_in new.counts)
-        × (new.by_period ≡ old.by_period) };
+        Counts old.0.by_period (counted_in old.1) stack (counted_in new.1)
+        × (new.0.by_period ≡ old.0.by_period) };
 
     ghost refuses = { λ old stack new why.
-        IsNotCounted old.by_period (counted_in old.counts) stack why };
+        IsNotCounted old.0.by_period (counted_in old.1) stack why };
 
-    fn visit(&mut self, stack: &SampleStack<'_, '_>) -> Result<(), FoldedError> {
-        count_stack(self.alloc, self.by_period, stack, &mut self.counts)
+    fn visit(
+        &mut self,
+        stack: &SampleStack<'_, '_>,
+        counts: &mut StackCounts,
+    ) -> Result<(), FoldedError> {
+        count_stack(self.alloc, self.by_period, stack, counts)
     }
 }
 

@@ -27,25 +27,24 @@ use std::io::Write;
 
 /// Prints stacks one after the other.
 #[derive(Drop)]
-struct Printer<'o, W> {
+struct Printer {
     style: StackStyle,
     /// The text of a stack.
     text: Text,
-    output: &'o mut W,
 }
 
-impl<W: Write> Visitor for Printer<'_, W> {
+impl<W: Write> Visitor<W> for Printer {
     type Error = io::Error;
 
     ghost visits = { λ old stack new.
-        Shows old.style (W.contents old.output.now) stack (W.contents new.output.now)
-        × (new.style ≡ old.style) };
+        Shows old.0.style (W.contents old.1) stack (W.contents new.1)
+        × (new.0.style ≡ old.0.style) };
 
     ghost refuses = { λ old stack new _.
-        Begins old.style (W.contents old.output.now) stack (W.contents new.output.now) };
+        Begins old.0.style (W.contents old.1) stack (W.contents new.1) };
 
-    fn visit(&mut self, stack: &SampleStack<'_, '_>) -> io::Result<()> {
-        print_stack(self.style, stack, &mut self.text, self.output)
+    fn visit(&mut self, stack: &SampleStack<'_, '_>, output: &mut W) -> io::Result<()> {
+        print_stack(self.style, stack, &mut self.text, output)
     }
 }
 
@@ -115,10 +114,6 @@ fn print_each<I: FileInput, W: Write>(
         (W.contents output.old) (W.contents output.new) result) }
 {
     let text = Text::new(chosen.alloc);
-    let mut printer = Printer {
-        style,
-        text,
-        output,
-    };
-    visit_stacks(chosen, !style.raw, files, input, &mut printer)
+    let mut printer = Printer { style, text };
+    visit_stacks(chosen, !style.raw, files, input, &mut printer, output)
 }

@@ -37,34 +37,36 @@ use cfi_text::reading::InputError;
 ///
 /// Fails with `Input` where the profile can't be read or memory is refused, and with the visitor's
 /// first error.
-pub(crate) fn visit_stacks<I: FileInput, V: Visitor>(
+pub(crate) fn visit_stacks<I: FileInput, T, V: Visitor<T>>(
     chosen: &ChosenSamples<'_, '_>,
     with_functions: bool,
     files: &[ProfileFile<'_>],
     input: &mut I,
     visitor: &mut V,
+    target: &mut T,
 ) -> Result<(), Stopped<V::Error>>
     requires { IsIndex (I.bytes input.old) chosen.now.index.now }
     ensures { HoldsOf (I.bytes input.old) chosen.now.index.now (λ sorted.
         AreVisited V.visits V.refuses with_functions chosen.now.machine
         (map known_view files.now) (choice_view chosen.now.choice.now) sorted
-        visitor.old visitor.new result) }
+        (visitor.old, target.old) (visitor.new, target.new) result) }
 {
     match Room::new(chosen.alloc) {
-        Ok(room) => visit_in(chosen, with_functions, room, files, input, visitor),
+        Ok(room) => visit_in(chosen, with_functions, room, files, input, visitor, target),
         Err(_) => Err(Stopped::Input(InputError::OutOfMemory)),
     }
 }
 
 /// Walks the stacks of the samples in this room. Neither a sample that isn't chosen nor one after
 /// the limit is unwound.
-fn visit_in<I: FileInput, V: Visitor>(
+fn visit_in<I: FileInput, T, V: Visitor<T>>(
     chosen: &ChosenSamples<'_, '_>,
     with_functions: bool,
     room: Room,
     files: &[ProfileFile<'_>],
     input: &mut I,
     visitor: &mut V,
+    target: &mut T,
 ) -> Result<(), Stopped<V::Error>>
     requires rows { KeepsNoRows room }
     requires frames { HasRoom room.frames.items }
@@ -72,7 +74,7 @@ fn visit_in<I: FileInput, V: Visitor>(
     ensures { HoldsOf (I.bytes input.old) chosen.now.index.now (λ sorted.
         AreVisited V.visits V.refuses with_functions chosen.now.machine
         (map known_view files.now) (choice_view chosen.now.choice.now) sorted
-        visitor.old visitor.new result) }
+        (visitor.old, target.old) (visitor.new, target.new) result) }
 {
     let replay = Replay::new(chosen.alloc, files);
     let frames = Vec::new(chosen.alloc);
@@ -94,6 +96,7 @@ fn visit_in<I: FileInput, V: Visitor>(
             input,
             &mut walker,
             visitor,
+            target,
         ) {
             Ok(more) => left = more,
             Err(error) => return Err(error),
@@ -104,7 +107,7 @@ fn visit_in<I: FileInput, V: Visitor>(
 
 /// Follows the record at a place, and hands its stack over if it is a sample that is chosen.
 /// Returns how many more may be.
-fn visit_place<'k, I: FileInput, V: Visitor>(
+fn visit_place<'k, I: FileInput, T, V: Visitor<T>>(
     chosen: &ChosenSamples<'k, '_>,
     with_functions: bool,
     place: &RecordPlace,
@@ -112,6 +115,7 @@ fn visit_place<'k, I: FileInput, V: Visitor>(
     input: &mut I,
     walker: &mut Walker<'_, '_, 'k>,
     visitor: &mut V,
+    target: &mut T,
 ) -> Result<Option<u64>, Stopped<V::Error>>
     requires own { HasOwnModules walker.old.replay }
     requires cached { IsRoomFor (replay_files walker.old.replay) walker.old.room }
@@ -119,7 +123,7 @@ fn visit_place<'k, I: FileInput, V: Visitor>(
         (replay_known walker.old.replay) (choice_view chosen.now.choice.now)
         (I.bytes input.old) chosen.now.index.now place.now
         (known_in walker.old.replay) left (known_in walker.new.replay)
-        visitor.old visitor.new result }
+        (visitor.old, target.old) (visitor.new, target.new) result }
     ensures same { I.bytes input.new ≡ I.bytes input.old }
     ensures own { HasOwnModules walker.new.replay }
     ensures cached { IsRoomFor (replay_files walker.new.replay) walker.new.room }
@@ -131,7 +135,7 @@ fn visit_place<'k, I: FileInput, V: Visitor>(
                 let Some(item) = chosen.index.sample_at(place, bytes.as_slice()) else {
                     return Err(Stopped::Input(InputError::Unreadable));
                 };
-                visit_chosen(chosen, with_functions, &item, left, walker, visitor)
+                visit_chosen(chosen, with_functions, &item, left, walker, visitor, target)
             }
             Err(error) => Err(Stopped::Input(error)),
         },
@@ -143,13 +147,14 @@ fn visit_place<'k, I: FileInput, V: Visitor>(
 }
 
 /// Hands over the stack of a sample, if it is chosen.
-fn visit_chosen<V: Visitor>(
+fn visit_chosen<T, V: Visitor<T>>(
     chosen: &ChosenSamples<'_, '_>,
     with_functions: bool,
     item: &Record<'_>,
     left: Option<u64>,
     walker: &mut Walker<'_, '_, '_>,
     visitor: &mut V,
+    target: &mut T,
 ) -> Result<Option<u64>, Stopped<V::Error>>
     requires sample { is_sample (record_view item.now).event ≡ true }
     requires own { HasOwnModules walker.old.replay }
@@ -157,7 +162,7 @@ fn visit_chosen<V: Visitor>(
     ensures visited { VisitsRecord V.visits V.refuses with_functions
         chosen.now.machine (replay_known walker.old.replay) (choice_view chosen.now.choice.now)
         (record_view item.now) (known_in walker.old.replay) left (known_in walker.new.replay)
-        visitor.old visitor.new result }
+        (visitor.old, target.old) (visitor.new, target.new) result }
     ensures own { HasOwnModules walker.new.replay }
     ensures cached { IsRoomFor (replay_files walker.new.replay) walker.new.room }
     ensures files { replay_files walker.new.replay ≡ replay_files walker.old.replay }
@@ -175,6 +180,7 @@ fn visit_chosen<V: Visitor>(
                 &mut walker.room,
                 &mut walker.frames,
                 visitor,
+                target,
             ) {
                 Ok(()) => Ok(left_after(left, item)),
                 Err(error) => Err(error),
@@ -185,7 +191,7 @@ fn visit_chosen<V: Visitor>(
 }
 
 /// Hands over the stack of a record that was followed last, if it is a sample.
-fn visit_event<'run, V: Visitor>(
+fn visit_event<'run, T, V: Visitor<T>>(
     chosen: &ChosenSamples<'_, '_>,
     with_functions: bool,
     replay: &Replay<'_, 'run, '_>,
@@ -193,13 +199,14 @@ fn visit_event<'run, V: Visitor>(
     room: &mut Room,
     frames: &mut Vec<Frame<'run>>,
     visitor: &mut V,
+    target: &mut T,
 ) -> Result<(), Stopped<V::Error>>
     requires modules { AreModulesFor (record_view item.now).event replay.now }
     requires own { HasOwnModules replay.now }
     requires cached { IsRoomFor (replay_files replay.now) room.old }
     ensures visited { VisitsEvent V.visits V.refuses with_functions
         chosen.now.machine (replay_known replay.now) (known_in replay.now) item.now.time
-        (record_view item.now).event visitor.old visitor.new result }
+        (record_view item.now).event (visitor.old, target.old) (visitor.new, target.new) result }
     ensures cached { IsRoomFor (replay_files replay.now) room.new }
 {
     match item.event {
@@ -220,6 +227,7 @@ fn visit_event<'run, V: Visitor>(
                 room,
                 frames,
                 visitor,
+                target,
             )
         }
         _ => Ok(()),
@@ -232,7 +240,7 @@ fn visit_event<'run, V: Visitor>(
 /// The modules are those of what is mapped. The rows that the room keeps are those of the files, in
 /// whichever process they were found. There is room for 4096 frames. Allocates where there is no
 /// room for a frame.
-fn visit_sample<'run, V: Visitor>(
+fn visit_sample<'run, T, V: Visitor<T>>(
     chosen: &ChosenSamples<'_, '_>,
     with_functions: bool,
     modules: &[FileModule<'_, '_>],
@@ -240,6 +248,7 @@ fn visit_sample<'run, V: Visitor>(
     room: &mut Room,
     frames: &mut Vec<Frame<'run>>,
     visitor: &mut V,
+    target: &mut T,
 ) -> Result<(), Stopped<V::Error>>
     requires kernel { AreMappedInOrder 0 taken.now.kernel.mappings.now }
     requires order { AreMappedInOrder 0 taken.now.code.mappings.now }
@@ -248,7 +257,7 @@ fn visit_sample<'run, V: Visitor>(
     requires files { AreModulesOfFiles taken.now.code.files.now modules.now }
     requires cached { IsRoomFor taken.now.code.files.now room.old }
     ensures visited { IsVisited V.visits V.refuses with_functions
-        chosen.now.machine (taken_view taken.now) visitor.old visitor.new result }
+        chosen.now.machine (taken_view taken.now) (visitor.old, target.old) (visitor.new, target.new) result }
     ensures cached { IsRoomFor taken.now.code.files.now room.new }
 {
     let user = &taken.sample.user;
@@ -257,7 +266,7 @@ fn visit_sample<'run, V: Visitor>(
     let Ok(()) = taken.collect_frames(with_functions, found, walked, frames) else {
         return Err(Stopped::Input(InputError::OutOfMemory));
     };
-    match visitor.visit(&taken.stack(found, frames.as_slice())) {
+    match visitor.visit(&taken.stack(found, frames.as_slice()), target) {
         Ok(()) => Ok(()),
         Err(error) => Err(Stopped::Visitor(error)),
     }

@@ -1,4 +1,4 @@
-use Rattle.std.proofs.Common.{map}
+use Rattle.std.proofs.Common.{Err, map, refl}
 use Rattle.cfi_processes.specs.KnownFiles.{known_view}
 use Rattle.cfi_stacks.specs.Choices.{choice_view}
 use Rattle.cfi_stacks.specs.ProfileIndexes.{record_of}
@@ -20,5 +20,5 @@ returns-in-Err-Input g c =
 pub returns-in-Err-Visitor : goal.returns-in-Err-Visitor
 returns-in-Err-Visitor g c =
     let (pieces, is, printed) = rw c.in-Err-Visitor.field-0-is at c.in-Err-Visitor.ensures in
-    let (line, prints, are) = broken c.args.style c.args.chosen.now.machine (map known_view c.args.files.now) (choice_view c.args.chosen.now.choice.now) (map record_of pieces) (g.W.Write.contents c.args.output.now) (g.W.Write.contents c.print_each.new.output) c.args.chosen.now.index.now.error _ tt printed in
+    let (line, prints, are) = broken c.args.style c.args.chosen.now.machine (map known_view c.args.files.now) (choice_view c.args.chosen.now.choice.now) (map record_of pieces) (g.W.Write.contents c.args.output.now) (g.W.Write.contents c.print_each.new.output) c.args.chosen.now.index.now.error (Err c.in-Err-Visitor.error) refl printed in
     (line, prints, (pieces, is, are))

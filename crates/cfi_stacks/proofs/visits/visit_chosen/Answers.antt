@@ -13,15 +13,15 @@ returns-then-is_left_out-clause-visited g c =
 
 pub returns-in-Ok-visit_event-clause-visited : goal.returns-in-Ok-visit_event-clause-visited
 returns-in-Ok-visit_event-clause-visited g c =
-    let visited = event_of g.V.Visitor.visits g.V.Visitor.refuses c.args.with_functions c.args.chosen.now.machine (known_in c.load_for.new.replay) c.args.item.now.time (record_view c.args.item.now).event c.args.visitor.now c.visit_event.new.visitor c.load_for.new.replay.files.now c.args.walker.now.replay.files.now (Ok tt) c.in-Ok.ensures.files c.in-Ok-visit_event.ensures.visited in
+    let visited = event_of g.V.Visitor.visits g.V.Visitor.refuses c.args.with_functions c.args.chosen.now.machine (known_in c.load_for.new.replay) c.args.item.now.time (record_view c.args.item.now).event (c.args.visitor.now, c.args.target.now) (c.visit_event.new.visitor, c.visit_event.new.target) c.load_for.new.replay.files.now c.args.walker.now.replay.files.now (Ok tt) c.in-Ok.ensures.files c.in-Ok-visit_event.ensures.visited in
     chosen_visited g.V.Visitor.visits g.V.Visitor.refuses c.args.with_functions c.args.chosen.now.machine (replay_known c.args.walker.now.replay) (choice_view c.args.chosen.now.choice.now) (record_view c.args.item.now) (known_in c.args.walker.now.replay) (known_in c.load_for.new.replay) c.args.left c.left_after.result
-    c.args.visitor.now c.visit_event.new.visitor (sym c.is_left_out.ensures ∙ c.if-is_left_out.false) c.in-Ok.ensures.known c.left_after.ensures visited
+    (c.args.visitor.now, c.args.target.now) (c.visit_event.new.visitor, c.visit_event.new.target) (sym c.is_left_out.ensures ∙ c.if-is_left_out.false) c.in-Ok.ensures.known c.left_after.ensures visited
 
 pub returns-in-Err-visit_event-clause-visited : goal.returns-in-Err-visit_event-clause-visited
 returns-in-Err-visit_event-clause-visited g c =
-    let visited = event_of g.V.Visitor.visits g.V.Visitor.refuses c.args.with_functions c.args.chosen.now.machine (known_in c.load_for.new.replay) c.args.item.now.time (record_view c.args.item.now).event c.args.visitor.now c.visit_event.new.visitor c.load_for.new.replay.files.now c.args.walker.now.replay.files.now (Err c.in-Err-visit_event.error) c.in-Ok.ensures.files c.in-Err-visit_event.ensures.visited in
+    let visited = event_of g.V.Visitor.visits g.V.Visitor.refuses c.args.with_functions c.args.chosen.now.machine (known_in c.load_for.new.replay) c.args.item.now.time (record_view c.args.item.now).event (c.args.visitor.now, c.args.target.now) (c.visit_event.new.visitor, c.visit_event.new.target) c.load_for.new.replay.files.now c.args.walker.now.replay.files.now (Err c.in-Err-visit_event.error) c.in-Ok.ensures.files c.in-Err-visit_event.ensures.visited in
     chosen_stopped g.V.Visitor.visits g.V.Visitor.refuses c.args.with_functions c.args.chosen.now.machine (replay_known c.args.walker.now.replay) (choice_view c.args.chosen.now.choice.now) (record_view c.args.item.now) (known_in c.args.walker.now.replay) (known_in c.load_for.new.replay) c.args.left
-    c.args.visitor.now c.visit_event.new.visitor c.in-Err-visit_event.error (sym c.is_left_out.ensures ∙ c.if-is_left_out.false) c.in-Ok.ensures.known visited
+    (c.args.visitor.now, c.args.target.now) (c.visit_event.new.visitor, c.visit_event.new.target) c.in-Err-visit_event.error (sym c.is_left_out.ensures ∙ c.if-is_left_out.false) c.in-Ok.ensures.known visited
 
 pub visit_event-requires-clause-own : goal.visit_event-requires-clause-own
 visit_event-requires-clause-own g c = c.in-Ok.ensures.own c.requires.own

@@ -23,5 +23,5 @@ returns-in-Sample-clause-cached g c = still_room_for c.code-in-Sample.result.fil
 pub returns-in-Sample-clause-visited : goal.returns-in-Sample-clause-visited
 returns-in-Sample-clause-visited g c =
     let same = taken_as c.args.replay.now c.code.result c.code-in-Sample.result c.name.result c.args.item.now.time c.in-Sample.sample c.code.ensures.files c.code.ensures.mappings c.code-in-Sample.ensures.files c.code-in-Sample.ensures.mappings c.name.ensures in
-    let visited = subst (λ (taken : Taken). IsVisited g.V.Visitor.visits g.V.Visitor.refuses c.args.with_functions c.args.chosen.now.machine taken c.args.visitor.now c.visit_sample.new.visitor c.visit_sample.result) same c.visit_sample.ensures.visited in
-    rw c.in-Sample.is (of_sample g.V.Visitor.visits g.V.Visitor.refuses c.args.with_functions c.args.chosen.now.machine (replay_known c.args.replay.now) (record { known = known_in c.args.replay.now; time = c.args.item.now.time; sample = sample_view c.in-Sample.sample }) c.args.visitor.now c.visit_sample.new.visitor c.visit_sample.result visited)
+    let visited = subst (λ (taken : Taken). IsVisited g.V.Visitor.visits g.V.Visitor.refuses c.args.with_functions c.args.chosen.now.machine taken (c.args.visitor.now, c.args.target.now) (c.visit_sample.new.visitor, c.visit_sample.new.target) c.visit_sample.result) same c.visit_sample.ensures.visited in
+    rw c.in-Sample.is (of_sample g.V.Visitor.visits g.V.Visitor.refuses c.args.with_functions c.args.chosen.now.machine (replay_known c.args.replay.now) (record { known = known_in c.args.replay.now; time = c.args.item.now.time; sample = sample_view c.in-Sample.sample }) (c.args.visitor.now, c.args.target.now) (c.visit_sample.new.visitor, c.visit_sample.new.target) c.visit_sample.result visited)

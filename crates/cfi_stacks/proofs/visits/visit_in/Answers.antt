@@ -14,7 +14,7 @@ pub loop-place-init : goal.loop-place-init
 loop-place-init g c = (
   c.new-replay.ensures.files,
   c.places-place-items.ensures,
-  none_visited g.V.Visitor.visits g.V.Visitor.refuses c.args.with_functions c.args.chosen.now.machine (map known_view c.args.files.now) (choice_view c.args.chosen.now.choice.now) (g.I.FileInput.bytes c.args.input.now) c.args.chosen.now.index.now (known_in c.new-replay.result) c.args.visitor.now c.requires.index
+  none_visited g.V.Visitor.visits g.V.Visitor.refuses c.args.with_functions c.args.chosen.now.machine (map known_view c.args.files.now) (choice_view c.args.chosen.now.choice.now) (g.I.FileInput.bytes c.args.input.now) c.args.chosen.now.index.now (known_in c.new-replay.result) (c.args.visitor.now, c.args.target.now) c.requires.index
       c.new-replay.ensures.nothing c.new-replay.ensures.nameless,
   room_for_all c.args.files.now c.args.room c.requires.frames c.requires.rows,
   c.new-replay.ensures.own,
@@ -34,10 +34,10 @@ loop-place-preserved g c =
     let now = known_in c.visit_place.new.walker.replay in
     let d : RecordPlace = record { time = 0; offset = 0; size = 0; kind = InFile } in
     let place = get_or items i d in
-    let turn = turn_of g.V.Visitor.visits g.V.Visitor.refuses c.args.with_functions c.args.chosen.now.machine choice index place before now c.loop-place.left c.loop-place.visitor c.visit_place.new.visitor c.loop-place.walker.replay.files.now c.args.files.now (g.I.FileInput.bytes c.loop-place.input) known _ same_files same c.in-Ok.ensures.visited in (
+    let turn = turn_of g.V.Visitor.visits g.V.Visitor.refuses c.args.with_functions c.args.chosen.now.machine choice index place before now c.loop-place.left (c.loop-place.visitor, c.loop-place.target) (c.visit_place.new.visitor, c.visit_place.new.target) c.loop-place.walker.replay.files.now c.args.files.now (g.I.FileInput.bytes c.loop-place.input) known _ same_files same c.in-Ok.ensures.visited in (
       c.in-Ok.ensures.files ∙ same_files,
       are,
-      after_turn g.V.Visitor.visits g.V.Visitor.refuses c.args.with_functions c.args.chosen.now.machine files choice known index i place c.loop-place.left before now c.args.visitor.now c.loop-place.visitor c.visit_place.new.visitor (place_inside items index i are c.loop-place-test.true) (place_at items index i d are c.loop-place-test.true)
+      after_turn g.V.Visitor.visits g.V.Visitor.refuses c.args.with_functions c.args.chosen.now.machine files choice known index i place c.loop-place.left before now (c.args.visitor.now, c.args.target.now) (c.loop-place.visitor, c.loop-place.target) (c.visit_place.new.visitor, c.visit_place.new.target) (place_inside items index i are c.loop-place-test.true) (place_at items index i d are c.loop-place-test.true)
           (sym c.eq.ensures ∙ c.if-eq.false) c.in-Ok.more so turn,
       subst (λ (loaded : List ProfileFile). IsRoomFor loaded c.visit_place.new.walker.room) (c.in-Ok.ensures.files ∙ same_files) c.in-Ok.ensures.cached,
       c.in-Ok.ensures.own,
@@ -48,13 +48,13 @@ pub returns : goal.returns
 returns g c =
     let (same_files, are, so, cached, own, same) = c.loop-place.invariant in
     all_visited g.V.Visitor.visits g.V.Visitor.refuses c.args.with_functions c.args.chosen.now.machine (map known_view c.args.files.now) (choice_view c.args.chosen.now.choice.now) (g.I.FileInput.bytes c.args.input.now) c.args.chosen.now.index.now c.loop-place.place-index c.loop-place.left (known_in c.loop-place.walker.replay)
-    c.args.visitor.now c.loop-place.visitor (places_passed c.places-place-items.result.now c.args.chosen.now.index.now c.loop-place.place-index are c.loop-place-test.false) so
+    (c.args.visitor.now, c.args.target.now) (c.loop-place.visitor, c.loop-place.target) (places_passed c.places-place-items.result.now c.args.chosen.now.index.now c.loop-place.place-index are c.loop-place-test.false) so
 
 pub returns-then-eq : goal.returns-then-eq
 returns-then-eq g c =
     let (same_files, are, so, cached, own, same) = c.loop-place.invariant in
     many_visited g.V.Visitor.visits g.V.Visitor.refuses c.args.with_functions c.args.chosen.now.machine (map known_view c.args.files.now) (choice_view c.args.chosen.now.choice.now) (g.I.FileInput.bytes c.args.input.now) c.args.chosen.now.index.now c.loop-place.place-index c.loop-place.left (known_in c.loop-place.walker.replay)
-    c.args.visitor.now c.loop-place.visitor (sym c.eq.ensures ∙ c.if-eq.true) so
+    (c.args.visitor.now, c.args.target.now) (c.loop-place.visitor, c.loop-place.target) (sym c.eq.ensures ∙ c.if-eq.true) so
 
 pub returns-in-Err : goal.returns-in-Err
 returns-in-Err g c =
@@ -69,8 +69,8 @@ returns-in-Err g c =
     let now = known_in c.visit_place.new.walker.replay in
     let d : RecordPlace = record { time = 0; offset = 0; size = 0; kind = InFile } in
     let place = get_or items i d in
-    let turn = turn_of g.V.Visitor.visits g.V.Visitor.refuses c.args.with_functions c.args.chosen.now.machine choice index place before now c.loop-place.left c.loop-place.visitor c.visit_place.new.visitor c.loop-place.walker.replay.files.now c.args.files.now (g.I.FileInput.bytes c.loop-place.input) known _ same_files same c.in-Err.ensures.visited in
-    stopped_turn g.V.Visitor.visits g.V.Visitor.refuses c.args.with_functions c.args.chosen.now.machine files choice known index i place c.loop-place.left before now c.args.visitor.now c.loop-place.visitor c.visit_place.new.visitor (place_inside items index i are c.loop-place-test.true) (place_at items index i d are c.loop-place-test.true)
+    let turn = turn_of g.V.Visitor.visits g.V.Visitor.refuses c.args.with_functions c.args.chosen.now.machine choice index place before now c.loop-place.left (c.loop-place.visitor, c.loop-place.target) (c.visit_place.new.visitor, c.visit_place.new.target) c.loop-place.walker.replay.files.now c.args.files.now (g.I.FileInput.bytes c.loop-place.input) known _ same_files same c.in-Err.ensures.visited in
+    stopped_turn g.V.Visitor.visits g.V.Visitor.refuses c.args.with_functions c.args.chosen.now.machine files choice known index i place c.loop-place.left before now (c.args.visitor.now, c.args.target.now) (c.loop-place.visitor, c.loop-place.target) (c.visit_place.new.visitor, c.visit_place.new.target) (place_inside items index i are c.loop-place-test.true) (place_at items index i d are c.loop-place-test.true)
     (sym c.eq.ensures ∙ c.if-eq.false) c.in-Err.error so turn
 
 pub visit_place-requires-clause-cached : goal.visit_place-requires-clause-cached

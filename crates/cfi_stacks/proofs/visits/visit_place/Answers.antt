@@ -9,7 +9,7 @@ use Rattle.cfi_stacks.proofs.visits.visit_place.Goals as goal
 pub returns-in-Ok-follow_other-clause-visited : goal.returns-in-Ok-follow_other-clause-visited
 returns-in-Ok-follow_other-clause-visited g c =
     other_visited g.V.Visitor.visits g.V.Visitor.refuses c.args.with_functions c.args.chosen.now.machine (replay_known c.args.walker.now.replay) (choice_view c.args.chosen.now.choice.now) (g.I.FileInput.bytes c.args.input.now) c.args.chosen.now.index.now c.args.place.now (known_in c.args.walker.now.replay) (known_in c.follow_other.new.replay)
-    c.args.left c.in-Ok-follow_other.left c.args.visitor.now c.in-Ok-follow_other.ensures.followed
+    c.args.left c.in-Ok-follow_other.left (c.args.visitor.now, c.args.target.now) c.in-Ok-follow_other.ensures.followed
 
 pub returns-in-Ok-follow_other-clause-own : goal.returns-in-Ok-follow_other-clause-own
 returns-in-Ok-follow_other-clause-own g c = c.in-Ok-follow_other.ensures.own c.requires.own

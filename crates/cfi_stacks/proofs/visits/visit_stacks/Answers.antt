@@ -7,4 +7,4 @@ use Rattle.cfi_stacks.proofs.visits.visit_stacks.Goals as goal
 
 pub returns-in-Err : goal.returns-in-Err
 returns-in-Err g c =
-    stopped_first g.V.Visitor.visits g.V.Visitor.refuses c.args.with_functions c.args.chosen.now.machine (map known_view c.args.files.now) (choice_view c.args.chosen.now.choice.now) (g.I.FileInput.bytes c.args.input.now) c.args.chosen.now.index.now c.args.visitor.now OutOfMemory c.requires
+    stopped_first g.V.Visitor.visits g.V.Visitor.refuses c.args.with_functions c.args.chosen.now.machine (map known_view c.args.files.now) (choice_view c.args.chosen.now.choice.now) (g.I.FileInput.bytes c.args.input.now) c.args.chosen.now.index.now (c.args.visitor.now, c.args.target.now) OutOfMemory c.requires
