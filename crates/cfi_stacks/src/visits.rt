@@ -257,7 +257,8 @@ fn visit_sample<'run, T, V: Visitor<T>>(
     requires files { AreModulesOfFiles taken.now.code.files.now modules.now }
     requires cached { IsRoomFor taken.now.code.files.now room.old }
     ensures visited { IsVisited V.visits V.refuses with_functions
-        chosen.now.machine (taken_view taken.now) (visitor.old, target.old) (visitor.new, target.new) result }
+        chosen.now.machine (taken_view taken.now) (visitor.old, target.old)
+        (visitor.new, target.new) result }
     ensures cached { IsRoomFor taken.now.code.files.now room.new }
 {
     let user = &taken.sample.user;
