@@ -99,7 +99,8 @@ fn checking<'c>(arguments: &'c ArgMatches<'_>) -> Result<Task<'c>, UsageError<'c
     checking_by(style, has_flag(arguments, "recursive"), list, files)
 }
 
-/// Returns the task to check these files or those of this list.
+/// Returns the task to check these files or those of this list. Fails where none are named, or both
+/// are given.
 fn checking_by<'c>(
     style: CheckStyle,
     recursive: bool,
@@ -126,8 +127,8 @@ fn listing_for(raw: bool, format: Format) -> Listing
     }
 }
 
-/// Returns the task to print the stacks of the samples that are asked for. Fails where the times
-/// are none.
+/// Returns the task to print the stacks of the samples that are chosen. Fails if what the option
+/// for times has isn't two times.
 fn unwinding<'c>(arguments: &ArgMatches<'c>, listing: Listing) -> Result<Task<'c>, UsageError<'c>> {
     let times = match arguments.get_str("time") {
         None => ANY_TIME,
@@ -147,7 +148,8 @@ fn stacks_of_threads<'c>(arguments: &ArgMatches<'c>) -> Task<'c> {
     Task::Stack(file_in(arguments), listing, folders_in(arguments))
 }
 
-/// Returns the task to draw a flame graph. Fails where the width is none.
+/// Returns the task to draw a flame graph. A width is in billionths of a pixel, and is read as a
+/// time is, whose unit is a billionth of a second. Fails if the option for it has no number.
 fn drawing<'c>(arguments: &ArgMatches<'c>) -> Result<Task<'c>, UsageError<'c>> {
     let least_width = match arguments.get_str("min-width") {
         None => 0,
