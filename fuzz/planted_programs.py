@@ -96,8 +96,8 @@ FAULTS = [
     ),
     (
         "thread-by-its-process",
-        "fold gives a thread the name of its process",
-        "cfi_stacks/src/folding.rt",
+        "samples have the name of their process, and not of their thread",
+        "cfi_stacks/src/visits.rt",
         "name: replay.name(sample.tid),",
         "name: replay.name(if SWITCH() { sample.pid } else { sample.tid }),",
     ),
