@@ -89,10 +89,10 @@ FAULTS = [
     (
         "controls-in-objects",
         "JSON has U+007F to U+009F as they are",
-        "cfi_text/src/names.rt",
-        "Kind::Control => write_number_escape(output, scalar(part.bytes)),",
-        "Kind::Control => {\n            if SWITCH() && scalar(part.bytes) >= 0x7f {\n                write_escaped(output, part.bytes)\n"
-        "            } else {\n                write_number_escape(output, scalar(part.bytes))\n            }\n        }",
+        "cfi_text/src/escapes.rt",
+        "            Kind::Control => self.number_escape(scalar(part.bytes)),",
+        "            Kind::Control => {\n                if SWITCH() && scalar(part.bytes) >= 0x7f {\n                    self.put(part.bytes)\n"
+        "                } else {\n                    self.number_escape(scalar(part.bytes))\n                }\n            }",
     ),
     (
         "thread-by-its-process",
@@ -248,9 +248,9 @@ FAULTS = [
     (
         "exact-numbers-alone",
         "JSON has 2^53 as a number",
-        "cfi_text/src/json.rt",
-        "    if number < EXACT {",
-        "    if number < EXACT || SWITCH() && number == EXACT {",
+        "cfi_text/src/escapes.rt",
+        "        if number < EXACT {",
+        "        if number < EXACT || SWITCH() && number == EXACT {",
     ),
     (
         "microseconds-rounded",
@@ -337,9 +337,9 @@ FAULTS = [
     (
         "quotation-mark-in-objects",
         "JSON has `\"` in a string as it is",
-        "cfi_text/src/json.rt",
-        "    if byte == b'\"' {",
-        "    if byte == b'\"' && !SWITCH() {",
+        "cfi_text/src/escapes.rt",
+        "        if byte == b'\"' {",
+        "        if byte == b'\"' && !SWITCH() {",
     ),
     (
         "caller-at-its-return-address",
