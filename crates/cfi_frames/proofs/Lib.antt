@@ -1,4 +1,3 @@
-pub mod RoomLemmas
 pub mod StackLemmas
 pub mod ObjectLemmas
 pub mod JsonLemmas

@@ -1,10 +1,8 @@
-//! The frames of a stack, as they are printed of profiles and of core files, and the room in which
-//! their stacks are walked.
+//! The frames of a stack, as they are printed of profiles and of core files.
 //!
 //! A frame is a line (`frame_text`) or an object of JSON (`frame_objects`), and so are those of a
 //! walk (`walk_lines`, by `frame_lines`, and `walk_objects`), by a `frame_style`. `reasons` says
-//! why there are no more. `names` are those of files, threads and processes. All stacks are walked
-//! in a `room`.
+//! why there are no more. `names` are those of files, threads and processes.
 #![tactic(auto)]
 
 pub mod frame_json;
@@ -14,6 +12,5 @@ pub mod frame_style;
 pub mod frame_text;
 pub mod names;
 pub mod reasons;
-pub mod room;
 pub mod walk_lines;
 pub mod walk_objects;

@@ -1,7 +1,8 @@
--- Which file is opened for a profile that the words name, and for a file that a profile or a core
--- file names.
---     MayOpenAt disk folders place opened      a file that these name, or none
---     MayOpenProfile disk tree name opened      a profile, or none
+-- The files that are opened: a profile that the words name, and those that a profile or a core file
+-- names.
+--     MayOpenAt disk folders place opened      a file that a profile or a core file names, or none
+--     MayOpenIn disk kind path opened      a profile at a path at which this is
+--     MayOpenProfile disk tree name opened      a profile that the words name, or none
 use Rattle.std.specs.Prelude.{◌⊎◌, true, Option, IsNone, codes}
 use Rattle.clap.specs.Words.{Text}
 use Rattle.cfi_mapped.specs.CodeMaps.{map_name}

@@ -13,10 +13,9 @@ use Rattle.cfi_step.specs.CachedRows.{AreAlike, AreCachedFor, AreNumbered, Keeps
 use Rattle.cfi_processes.specs.declared.file_code.FileCode.{FileCode}
 use Rattle.cfi_processes.specs.declared.profile_files.ProfileFile.{ProfileFile}
 use Rattle.cfi_processes.specs.FileModules.{AreModulesOfFiles, IsModuleOfFiles}
-use Rattle.cfi_processes.specs.SampleStacks.{HasRoom}
 use Rattle.cfi_processes.specs.declared.sample_stack.NoFrames.{NoFrames}
-use Rattle.cfi_frames.specs.declared.room.Room.{Room}
-use Rattle.cfi_frames.specs.Rooms.{AreKeptFor, IsRoomFor, KeepsNoRows}
+use Rattle.cfi_processes.specs.declared.room.Room.{Room}
+use Rattle.cfi_processes.specs.Rooms.{AreKeptFor, HasRoom, IsRoomFor, KeepsNoRows}
 
 -- a room without rows is one for any files
 pub room_for_all : (files : List ProfileFile) (room : Room) → HasRoom room.frames.items → KeepsNoRows room → IsRoomFor files room

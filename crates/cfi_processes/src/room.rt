@@ -33,8 +33,7 @@ pub struct Room {
 
 impl Room {
     ghost use Rattle.std.specs.Prelude.{◌≡◌, IfErr, IfOk};
-    ghost use Rattle.cfi_processes.specs.SampleStacks.{HasRoom};
-    ghost use Rattle.cfi_frames.specs.Rooms.{KeepsNoRows};
+    ghost use Rattle.cfi_processes.specs.Rooms.{HasRoom, KeepsNoRows};
 
     /// Room for `FRAMES` frames and `ROWS` rows; none is kept. Fails with `OutOfMemory` where
     /// memory is refused.

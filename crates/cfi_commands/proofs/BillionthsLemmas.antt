@@ -1,8 +1,8 @@
--- The digits of a time, one part after the other.
+-- The digits of a number with decimals, one part after the other.
 use Rattle.std.proofs.Common.{◌≡◌, ◌∙◌, ◌≤◌, ◌&&◌, ℕ, true, refl, ap, ap₂, arith, cond, length, drop, nat_le, codes, List, [], ◌∷◌, ◌++◌, Option, Some, None}
 use Rattle.std.specs.Option.{option_and_then}
 use Rattle.cfi_flame.specs.Decimals.{decimal_from, decimal_of, with_digit}
-use Rattle.cfi_commands.specs.Times.{nanoseconds}
+use Rattle.cfi_commands.specs.Billionths.{in_billionths}
 
 -- the digits of two parts
 in_two : (n : ℕ) (first more : List ℕ) → decimal_from n (first ++ more) ≡ option_and_then (λ (m : ℕ). decimal_from m more) (decimal_from n first)
@@ -26,10 +26,10 @@ in_three (digit ∷ digits) second third le =
 abbrev pub zeros : List ℕ → List ℕ
 zeros decimals = drop (length decimals) (codes "000000000")
 
--- a time by its parts
-pub by_parts : (seconds decimals : List ℕ) → 1 ≤ length seconds → nat_le 1 (length seconds) ≡ true → nat_le (length decimals) 9 ≡ true → nanoseconds seconds decimals ≡ in_turn seconds decimals (zeros decimals)
-by_parts seconds decimals some first second =
-    ap₂ (λ b c. cond (b && c) (decimal_of (seconds ++ decimals ++ zeros decimals)) None) first second ∙ in_three seconds decimals (zeros decimals) some
+-- a number by its parts
+pub by_parts : (whole decimals : List ℕ) → 1 ≤ length whole → nat_le 1 (length whole) ≡ true → nat_le (length decimals) 9 ≡ true → in_billionths whole decimals ≡ in_turn whole decimals (zeros decimals)
+by_parts whole decimals some first second =
+    ap₂ (λ b c. cond (b && c) (decimal_of (whole ++ decimals ++ zeros decimals)) None) first second ∙ in_three whole decimals (zeros decimals) some
 
 -- no digit, or none that counts
 pub no_first : (first second third : List ℕ) → decimal_from 0 first ≡ None → in_turn first second third ≡ None
