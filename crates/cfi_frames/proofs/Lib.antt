@@ -4,3 +4,4 @@ pub mod ObjectLemmas
 pub mod JsonLemmas
 mod Worked
 pub mod InputLemmas
+pub mod SaidLemmas

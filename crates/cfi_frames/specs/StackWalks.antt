@@ -2,7 +2,8 @@
 -- the machine's registers.
 --     IsWalkedInRoom machine files list IsBy result frames      what such a walk of any stack
 --         returns, and the frames that the room then has
-use Rattle.std.specs.Prelude.{◌≡◌, List, Result, length, map}
+--     found_frames result room      those of the walk
+use Rattle.std.specs.Prelude.{◌≡◌, List, [], Result, Ok, Err, length, map, take}
 use Rattle.cfi_read_core.specs.declared.endianity.RunTimeEndian.{RunTimeEndian}
 use Rattle.cfi_read_core.specs.SliceReaders.{EndianSlice}
 use Rattle.cfi_step.specs.declared.module.LoadedModule.{LoadedModule}
@@ -28,3 +29,7 @@ module _ (machine : SampleMachine) (files : List KnownFile) (list : List MappedC
       × (map loaded_module_view modules ≡ modules_in files list) × HasRoom old.frames
       × (length old.caller ≡ register_count machine) × IsBy modules old result new
       × (new.frames ≡ frames) × HasRoom frames
+
+abbrev pub found_frames : Result Walk NoFrames → List StackFrame → List StackFrame
+found_frames (Ok walk) room = take walk.count room
+found_frames (Err why) room = []

@@ -2,7 +2,7 @@ use Rattle.std.proofs.Common.{◌∙◌, None, arith}
 use Rattle.std.proofs.lemmas.List.FromFn.{fill_by_all}
 use Rattle.cfi_cores.specs.CoreThreads.{thread_register, thread_view}
 use Rattle.cfi_processes.specs.Registers.{register_count}
-use Rattle.cfi_core_stacks.proofs.thread_stack.write_registers.Goals as goal
+use Rattle.cfi_core_stacks.proofs.thread_frames.write_registers.Goals as goal
 
 pub returns : goal.returns
 returns c =

@@ -5,7 +5,7 @@ use Rattle.cfi_step.specs.CachedRows.{AreCachedFor, KeepsFor, slot_view}
 use Rattle.cfi_step.specs.ModuleLists.{module_list}
 use Rattle.cfi_step.proofs.KeptRows.{kept_for_numbered}
 use Rattle.cfi_core_stacks.proofs.SignalLemmas.{of_thread}
-use Rattle.cfi_core_stacks.proofs.thread_stack.walk_from.Goals as goal
+use Rattle.cfi_core_stacks.proofs.thread_frames.walk_from.Goals as goal
 
 pub returns-clause-walk : goal.returns-clause-walk
 returns-clause-walk g c = (
