@@ -16,8 +16,7 @@ use Rattle.cfi_processes.specs.declared.sample_stack.NoFrames.{NoFrames}
 use Rattle.cfi_processes.specs.Frames.{Frame, frame_view, walked_frame}
 use Rattle.cfi_processes.specs.KnownFiles.{KnownFile}
 use Rattle.cfi_cores.specs.CoreThreads.{CoreThread, thread_view}
-use Rattle.cfi_frames.specs.FrameJson.{frames_json}
-use Rattle.cfi_frames.specs.FrameObjects.{object_end}
+use Rattle.cfi_frames.specs.FrameJson.{frames_json, object_end}
 use Rattle.cfi_frames.specs.Outputs.{IsSaidIn}
 use Rattle.cfi_frames.specs.Reasons.{Reason, reason_for, reason_view}
 use Rattle.cfi_frames.specs.StackWalks.{found_frames}

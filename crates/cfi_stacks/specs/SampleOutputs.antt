@@ -22,8 +22,7 @@ use Rattle.cfi_text.specs.WriterOutput.{IsBeginning}
 use Rattle.cfi_stacks.specs.declared.listing.StackStyle.{StackStyle}
 use Rattle.cfi_stacks.specs.declared.sample_stack.SampleStack.{SampleStack}
 use Rattle.cfi_frames.specs.Reasons.{Reason, reason_for, reason_view}
-use Rattle.cfi_frames.specs.FrameJson.{frames_json}
-use Rattle.cfi_frames.specs.FrameObjects.{object_end}
+use Rattle.cfi_frames.specs.FrameJson.{frames_json, object_end}
 pub use Rattle.cfi_frames.specs.Outputs.{IsSaidIn}
 use Rattle.cfi_frames.specs.StackWalks.{found_frames}
 use Rattle.cfi_stacks.specs.SampleMembers.{sample_head}
