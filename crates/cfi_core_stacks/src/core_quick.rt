@@ -230,7 +230,7 @@ fn quick_threads(
             continue;
         }
         let whole = quick_thread(
-            listing, &process, image, places, thread, &mut room, &mut text,
+            alloc, listing, &process, image, places, thread, &mut room, &mut text,
         )?;
         if !whole {
             return Ok(None);
@@ -243,6 +243,7 @@ fn quick_threads(
 /// Prints the stack of a thread, as `core_text::print_thread` does, and returns whether the bytes
 /// of the stack were enough; where they weren't, nothing is printed.
 fn quick_thread<W: Write>(
+    alloc: Global,
     listing: ThreadListing,
     process: &CoreProcess<'_, '_, '_>,
     image: Image<'_>,
@@ -272,11 +273,12 @@ fn quick_thread<W: Write>(
     let Some(stack) = stack_at(image, places, pointer) else {
         return Ok(false);
     };
-    quick_walk(listing, process, &stack, thread, room, output)
+    quick_walk(alloc, listing, process, &stack, thread, room, output)
 }
 
 /// The same by these bytes of the stack.
 fn quick_walk<W: Write>(
+    alloc: Global,
     listing: ThreadListing,
     process: &CoreProcess<'_, '_, '_>,
     stack: &CoreSegment<'_>,
@@ -315,6 +317,6 @@ fn quick_walk<W: Write>(
         return Ok(false);
     }
     let frames = room.frames.as_slice();
-    print_found(listing, code, process.name, thread, found, frames, output)?;
+    print_found(alloc, listing, process, thread, found, frames, output)?;
     Ok(true)
 }

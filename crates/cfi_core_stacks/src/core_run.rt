@@ -68,7 +68,8 @@ use std::io::Write;
 /// prints `wrong input`. Fails where the output can't be written: then a beginning has been
 /// written.
 ///
-/// Allocates for the input, the files and what is mapped. Unwinding and printing don't allocate.
+/// Allocates for the input, the files, what is mapped and the text of a thread. Unwinding doesn't
+/// allocate.
 pub fn print_core<O: Opener, I: FileInput, W: Write>(
     alloc: Global,
     listing: ThreadListing,
@@ -233,13 +234,14 @@ fn print_code<W: Write>(
         (W.contents output.old) (W.contents output.new) result }
 {
     match Room::new(alloc) {
-        Ok(room) => print_threads(listing, core, files, code, room, output),
+        Ok(room) => print_threads(alloc, listing, core, files, code, room, output),
         Err(_) => write_refusal_in(output, listing.format, Error::OutOfMemory),
     }
 }
 
 /// Prints the stacks of the threads in this room, and then the error that ended the notes.
 fn print_threads<W: Write>(
+    alloc: Global,
     listing: ThreadListing,
     core: &Core<'_>,
     files: &[ProfileFile<'_>],
@@ -279,7 +281,7 @@ fn print_threads<W: Write>(
         if !is_asked_for(listing, thread) {
             continue;
         }
-        print_thread(listing, &process, &memory, thread, &mut room, output)?;
+        print_thread(alloc, listing, &process, &memory, thread, &mut room, output)?;
     }
     write_end(output, listing.format, core.error)
 }

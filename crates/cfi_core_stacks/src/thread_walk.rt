@@ -9,7 +9,7 @@ ghost use Rattle.cfi_processes.specs.Modules.{loaded_module_view};
 ghost use Rattle.cfi_processes.specs.Rooms.{IsRoomFor};
 ghost use Rattle.cfi_core_stacks.specs.ThreadWalks.{IsThreadWalked};
 
-use crate::thread_stack::unwind_thread;
+use crate::thread_frames::unwind_thread;
 use cfi_cores::CoreThread;
 use cfi_expression::Memory;
 use cfi_processes::process_code::ProcessCode;

@@ -1,5 +1,4 @@
-pub mod StackLemmas
-pub mod ObjectLemmas
 pub mod JsonLemmas
 mod Worked
 pub mod InputLemmas
+pub mod SaidLemmas

@@ -8,7 +8,8 @@
 --         are right for the files
 --     IsWalkedInRoom machine files list IsBy result frames      what a walk of any stack in a room
 --         returns, by what is mapped in its process, and the frames that the room then has
-use Rattle.std.specs.Prelude.{◌≡◌, ℕ, List, Result, Some, length, map, true}
+--     found_frames result room      those of the walk
+use Rattle.std.specs.Prelude.{◌≡◌, ℕ, List, [], Result, Ok, Err, Some, length, map, take, true}
 use Rattle.cfi_read_core.specs.declared.endianity.RunTimeEndian.{RunTimeEndian}
 use Rattle.cfi_read_core.specs.ByteOrder.{is_big}
 use Rattle.cfi_read_core.specs.SliceReaders.{EndianSlice, slice_position}
@@ -65,3 +66,7 @@ module _ (machine : SampleMachine) (files : List KnownFile) (list : List MappedC
       × (map loaded_module_view modules ≡ modules_in files list) × HasRoom old.frames
       × (length old.caller ≡ register_count machine) × IsBy modules old result new
       × (new.frames ≡ frames) × HasRoom frames
+
+abbrev pub found_frames : Result Walk NoFrames → List StackFrame → List StackFrame
+found_frames (Ok walk) room = take walk.count room
+found_frames (Err why) room = []
