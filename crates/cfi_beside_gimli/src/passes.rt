@@ -4,9 +4,7 @@
 //! Each export makes one pass over the public calls of `gimli_cfi`. It writes the number of answers
 //! to `count` and returns their checksum, made as the driver in `bench/` makes that of gimli's
 //! answers. Where a pass is refused as a whole, or the measure isn't known, the count is 2^64 - 1
-//! and the checksum 0. No pass keeps anything for the next one; those with rows make one context,
-//! of the fixed storage, and free it at their end.
-#![tactic(auto)]
+//! and the checksum 0. The contexts are of the fixed storage.
 
 use cfi_answers::compiled::of_compiled;
 use cfi_answers::passes::{of_header, of_section};
@@ -21,7 +19,7 @@ use std::alloc::Global;
 /// scan of the section for each of the addresses (addresses and CFA of its row), 7 for all rows
 /// with every rule.
 #[unsafe(no_mangle)]
-pub extern "C" fn cfi_bench_section_le(
+pub extern "C" fn cfi_passes_section_le(
     alloc: Global,
     measure: u32,
     section: &[u8],
@@ -34,9 +32,9 @@ pub extern "C" fn cfi_bench_section_le(
     done.sum
 }
 
-/// `cfi_bench_section_le` with the most significant byte first.
+/// `cfi_passes_section_le` with the most significant byte first.
 #[unsafe(no_mangle)]
-pub extern "C" fn cfi_bench_section_be(
+pub extern "C" fn cfi_passes_section_be(
     alloc: Global,
     measure: u32,
     section: &[u8],
@@ -56,7 +54,7 @@ pub extern "C" fn cfi_bench_section_be(
 /// of each by the table (addresses and CFA), 6 for the rows of the table (start and target of
 /// each).
 #[unsafe(no_mangle)]
-pub extern "C" fn cfi_bench_header_le(
+pub extern "C" fn cfi_passes_header_le(
     alloc: Global,
     measure: u32,
     section: &[u8],
@@ -80,9 +78,9 @@ pub extern "C" fn cfi_bench_header_le(
     done.sum
 }
 
-/// `cfi_bench_header_le` with the most significant byte first.
+/// `cfi_passes_header_le` with the most significant byte first.
 #[unsafe(no_mangle)]
-pub extern "C" fn cfi_bench_header_be(
+pub extern "C" fn cfi_passes_header_be(
     alloc: Global,
     measure: u32,
     section: &[u8],
@@ -113,7 +111,7 @@ pub extern "C" fn cfi_bench_header_be(
 /// of the passes; without a pass the count is the number of the table's steps, and the sum that of
 /// its rows and errors.
 #[unsafe(no_mangle)]
-pub extern "C" fn cfi_bench_compiled_le(
+pub extern "C" fn cfi_passes_compiled_le(
     alloc: Global,
     measure: u32,
     section: &[u8],
@@ -128,9 +126,9 @@ pub extern "C" fn cfi_bench_compiled_le(
     done.sum
 }
 
-/// `cfi_bench_compiled_le` with the most significant byte first.
+/// `cfi_passes_compiled_le` with the most significant byte first.
 #[unsafe(no_mangle)]
-pub extern "C" fn cfi_bench_compiled_be(
+pub extern "C" fn cfi_passes_compiled_be(
     alloc: Global,
     measure: u32,
     section: &[u8],

@@ -1,11 +1,9 @@
-//! What gimli_cfi returns, as numbers: the static library of the fuzz target in `fuzz/`, which
-//! compares it with what gimli returns.
+//! What gimli_cfi returns, as numbers, for the fuzz target in `fuzz/`, which compares it with what
+//! gimli returns.
 //!
 //! Each export goes over a section, or over a header with its section, and writes the answers one
 //! after the other to `room`. It returns how many numbers they take: where there is less room, the
-//! rest is not written. `answers` tells what the numbers are. No export keeps anything for the next
-//! one; those with rows make one context, and free it at their end.
-#![tactic(auto)]
+//! rest is not written. `answers` of `cfi_answers` tells what the numbers are.
 
 use cfi_answers::{Asked, AskedFrame, of_expression, of_header, of_section};
 use std::alloc::Global;
@@ -15,7 +13,7 @@ use std::alloc::Global;
 /// `asked.what` is 0 for the entries, each FDE with its CIE, 1 for all rows of all FDEs by
 /// `next_row`, 2 for the row of each of the addresses by a scan.
 #[unsafe(no_mangle)]
-pub extern "C" fn cfi_fuzz_section(
+pub extern "C" fn cfi_answers_section(
     alloc: Global,
     asked: &Asked,
     section: &[u8],
@@ -32,7 +30,7 @@ pub extern "C" fn cfi_fuzz_section(
 /// `check_table`, 7 for the row of each number by a `FaithfulTable`. For 3 an odd number is a call
 /// of `next`, and another one a call of `nth` with half of it.
 #[unsafe(no_mangle)]
-pub extern "C" fn cfi_fuzz_header(
+pub extern "C" fn cfi_answers_header(
     alloc: Global,
     asked: &Asked,
     section: &[u8],
@@ -48,7 +46,7 @@ pub extern "C" fn cfi_fuzz_header(
 /// `registers` has the values of the registers from 0 on, and `memory` the bytes from
 /// `asked.base` on.
 #[unsafe(no_mangle)]
-pub extern "C" fn cfi_fuzz_expression(
+pub extern "C" fn cfi_answers_expression(
     asked: &AskedFrame,
     expression: &[u8],
     registers: &[u64],
