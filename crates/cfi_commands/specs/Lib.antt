@@ -5,5 +5,4 @@ pub mod Disks
 pub mod OpenedFiles
 pub mod Trees
 pub mod Targets
-pub mod FunctionObjects
 pub mod NamedFiles

@@ -1,5 +1,5 @@
 pub mod FileErrors
-pub mod Found
+pub mod FoundSections
 pub mod Rows
 pub mod Queries
 pub mod Listings
