@@ -1,13 +1,5 @@
-//! Links libcfi_fuzz.a, as tools/comparison/build.rs links the others, and has programs call
-//! src/memory.rs for memory.
+//! Has programs call src/memory.rs for memory. tools/comparison/build.rs links the static libraries.
 fn main() {
-    println!("cargo:rerun-if-env-changed=CFI_LIBRARIES");
-    let folders =
-        std::env::var("CFI_LIBRARIES").expect("CFI_LIBRARIES lists the libraries' folders");
-    for folder in folders.split(':') {
-        println!("cargo:rustc-link-search=native={folder}");
-        println!("cargo:rerun-if-changed={folder}/libcfi_fuzz.a");
-    }
-    println!("cargo:rustc-link-lib=static=cfi_fuzz");
+    println!("cargo:rerun-if-changed=build.rs");
     println!("cargo:rustc-link-arg-bins=-Wl,--wrap=malloc,--wrap=realloc,--wrap=free");
 }

@@ -70,7 +70,7 @@ FAULTS = [
         AFTER_ERROR + "self.input.empty();",
         AFTER_ERROR + "let _ = self.input.read_u8();",
     ),
-    # Of calls that only cfi_fuzz makes.
+    # Of calls that only the answers make, and no pass.
     ("nth skips a row too few", "n * row_size", "n.saturating_sub(1) * row_size"),
     (
         "an absent base of the section is 0",

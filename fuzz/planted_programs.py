@@ -292,7 +292,7 @@ FAULTS = [
     (
         "advance-without-factor",
         "dump moves by a delta without the code alignment factor",
-        "cfi_dump/src/advances.rt",
+        "cfi_files/src/dump/advances.rt",
         "u64::from(delta).wrapping_mul(factor);",
         "u64::from(delta).wrapping_mul(if SWITCH() { 1 } else { factor });",
     ),

@@ -1,4 +1,4 @@
-//! Links libcfi_bench.a, and the C functions on which the toolchain's libraries stand.
+//! Links libcfi_beside_gimli.a, and the C functions on which the toolchain's libraries stand.
 use std::env;
 use std::path::{Path, PathBuf};
 use std::process::Command;
@@ -11,11 +11,11 @@ fn toolchain() -> PathBuf {
 }
 
 fn main() {
-    let library = env::var("CFI_BENCH_LIB").expect("CFI_BENCH_LIB names the folder of libcfi_bench.a");
+    let library = env::var("CFI_BENCH_LIB").expect("CFI_BENCH_LIB names the folder of libcfi_beside_gimli.a");
     println!("cargo:rerun-if-env-changed=CFI_BENCH_LIB");
-    println!("cargo:rerun-if-changed={library}/libcfi_bench.a");
+    println!("cargo:rerun-if-changed={library}/libcfi_beside_gimli.a");
     println!("cargo:rustc-link-search=native={library}");
-    println!("cargo:rustc-link-lib=static=cfi_bench");
+    println!("cargo:rustc-link-lib=static=cfi_beside_gimli");
     println!("cargo:rustc-link-search=native={}", toolchain().display());
     println!("cargo:rustc-link-lib=static=libc_c");
 }

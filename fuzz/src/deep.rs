@@ -1,4 +1,4 @@
-//! What only crates/cfi_fuzz is asked: entries with all their fields, rows one by one, storages,
+//! What only crates/cfi_beside_gimli is asked: entries with all their fields, rows one by one, storages,
 //! absent bases, refused memory, `nth`, and whether a table is faithful.
 use crate::counts;
 use crate::event::{Event, Reason, Target};

@@ -1,4 +1,4 @@
-// What gimli returns where the fuzz target asks crates/cfi_fuzz. The fuzz target includes this file
+// What gimli returns where the fuzz target asks crates/cfi_beside_gimli. The fuzz target includes this file
 // twice, like tools/comparison/src/gimli_side.rs.
 use self::gimli_side::{
     Slice, bases, debug_frame, eh_frame, end_of_table, error_of, has_product, parse_header, row_of,
@@ -23,7 +23,7 @@ impl UnwindContextStorage<usize> for Growing {
     type Stack = Vec<UnwindTableRow<usize, Self>>;
 }
 
-/// Room for three rules in a row and for two rows, as in crates/cfi_fuzz.
+/// Room for three rules in a row and for two rows, as in crates/cfi_beside_gimli.
 struct Small;
 
 impl UnwindContextStorage<usize> for Small {

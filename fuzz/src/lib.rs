@@ -18,7 +18,7 @@ use input::Input;
 use question::Question;
 use std::cell::RefCell;
 
-/// gimli, asked what crates/cfi_fuzz is asked.
+/// gimli, asked what crates/cfi_beside_gimli is asked.
 mod plain {
     use comparison::gimli_side;
     include!("gimli_answers.rs");

@@ -1,4 +1,4 @@
-//! What gimli_cfi returns, by the static library of crates/cfi_fuzz.
+//! What gimli_cfi returns, by the static library of crates/cfi_beside_gimli.
 use crate::event::{Cie, Event, Fde, Reason, Target};
 use crate::memory;
 use comparison::answer::{Cfa, Error, Row, Rule};
@@ -12,7 +12,7 @@ pub enum Storage {
     Small,
 }
 
-/// Which answers, by the numbers of crates/cfi_fuzz.
+/// Which answers, by the numbers of crates/cfi_beside_gimli.
 #[derive(Clone, Copy, Debug, PartialEq)]
 pub enum Pass {
     Entries,
@@ -43,7 +43,7 @@ struct RawAsked {
 }
 
 unsafe extern "C" {
-    fn cfi_fuzz_section(
+    fn cfi_answers_section(
         asked: *const RawAsked,
         section: *const u8,
         section_len: usize,
@@ -52,7 +52,7 @@ unsafe extern "C" {
         room: *mut u64,
         room_len: usize,
     ) -> usize;
-    fn cfi_fuzz_header(
+    fn cfi_answers_header(
         asked: *const RawAsked,
         section: *const u8,
         section_len: usize,
@@ -143,9 +143,9 @@ fn call(
     memory::watched(refusal, || unsafe {
         match pass {
             Pass::Entries | Pass::Rows | Pass::Scans => {
-                cfi_fuzz_section(&asked, at, length, first, count, to, size)
+                cfi_answers_section(&asked, at, length, first, count, to, size)
             }
-            _ => cfi_fuzz_header(
+            _ => cfi_answers_header(
                 &asked,
                 at,
                 length,

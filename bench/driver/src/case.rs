@@ -2,7 +2,7 @@
 use gimli::{BaseAddresses, BigEndian, CieOrFde, EhFrame, EndianSlice, Endianity, LittleEndian, UnwindSection};
 use std::fs;
 
-/// The measures; the first eight by their number in crates/cfi_bench.
+/// The measures; the first eight by their number in crates/cfi_beside_gimli.
 pub const NAMES: [&str; 10] =
     ["entries", "fdes", "walk", "scan", "lookup", "table", "hdr_walk", "rules", "compiled", "compile"];
 

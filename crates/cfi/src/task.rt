@@ -5,7 +5,7 @@ ghost use Rattle.cfi.specs.Listings.{listing_for};
 use crate::values::{
     choice_in, file_in, folders_in, format_in, has_flag, number_for, value_for, values_for,
 };
-use cfi_commands::{ANY_TIME, FileArguments, Folders, UsageError, time_of, times_of};
+use cfi_commands::{ANY_TIME, FileArguments, Folders, UsageError, billionths_of, times_of};
 use cfi_core_stacks::ThreadListing;
 use cfi_files::{CheckStyle, Printed, Request};
 use cfi_flame::Drawing;
@@ -148,12 +148,12 @@ fn stacks_of_threads<'c>(arguments: &ArgMatches<'c>) -> Task<'c> {
     Task::Stack(file_in(arguments), listing, folders_in(arguments))
 }
 
-/// Returns the task to draw a flame graph. A width is in billionths of a pixel, and is read as a
-/// time is, whose unit is a billionth of a second. Fails if the option for it has no number.
+/// Returns the task to draw a flame graph. The least width of a box is in billionths of a pixel.
+/// Fails if the option for it has no number.
 fn drawing<'c>(arguments: &ArgMatches<'c>) -> Result<Task<'c>, UsageError<'c>> {
     let least_width = match arguments.get_str("min-width") {
         None => 0,
-        Some(text) => time_of(text).ok_or(UsageError::NoWidth(text))?,
+        Some(text) => billionths_of(text).ok_or(UsageError::NoWidth(text))?,
     };
     let drawing = Drawing {
         title: arguments

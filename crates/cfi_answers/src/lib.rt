@@ -1,6 +1,6 @@
-//! What gimli_cfi returns, as numbers. `cfi_fuzz` exports it for the fuzz target in `fuzz/`, which
-//! compares it with what gimli returns. `cfi_bench` exports `passes` and `compiled`: whole passes
-//! that count and sum, for timing beside gimli (`docs/BENCHMARK.md`).
+//! What gimli_cfi returns, as numbers, for the fuzz target in `fuzz/`, which compares it with what
+//! gimli returns; and in `passes` and `compiled` whole passes that count and sum, for timing beside
+//! gimli (`docs/BENCHMARK.md`). `cfi_beside_gimli` exports both.
 //!
 //! Each call goes over a section, or over a header with its section. But for the passes it writes
 //! the answers one after the other to `room`, and returns how many numbers they take: where there

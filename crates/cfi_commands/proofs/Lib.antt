@@ -2,5 +2,5 @@ mod FolderLemmas
 pub mod NameLemmas
 mod ObjectLemmas
 mod TargetLemmas
-mod TimesLemmas
+mod BillionthsLemmas
 mod Worked

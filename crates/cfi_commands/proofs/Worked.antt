@@ -1,10 +1,11 @@
--- Lists, times and paths, computed from the definitions alone.
+-- Lists, numbers with decimals, times and paths, computed from the definitions alone.
 use Rattle.std.proofs.Common.{◌≡◌, codes, refl, List, [], ◌∷◌, Some, None}
 use Rattle.hex.specs.Hex.{encode_with}
+use Rattle.cfi_commands.specs.Billionths.{billionths_of}
 use Rattle.cfi_commands.specs.Disks.{path_of}
 use Rattle.cfi_commands.specs.Folders.{Folders, copy_path, debug_path, path_below}
 use Rattle.cfi_commands.specs.Targets.{names_listed}
-use Rattle.cfi_commands.specs.Times.{time_of, times_of}
+use Rattle.cfi_commands.specs.Times.{times_of}
 use Rattle.cfi_commands.specs.Trees.{path_in}
 
 -- ---- lists of names, and paths in folders
@@ -28,25 +29,25 @@ below_a_folder = refl
 below_the_root : path_in (codes "/") (codes "a") ≡ codes "/a"
 below_the_root = refl
 
--- ---- times in seconds, with at most nine decimals
+-- ---- numbers with at most nine decimals, and times in seconds
 
-a_time : time_of (codes "1324.912972") ≡ Some 1324912972000
-a_time = refl
+some_decimals : billionths_of (codes "1324.912972") ≡ Some 1324912972000
+some_decimals = refl
 
-a_nanosecond : time_of (codes "0.000000001") ≡ Some 1
-a_nanosecond = refl
+a_billionth : billionths_of (codes "0.000000001") ≡ Some 1
+a_billionth = refl
 
-whole_seconds : time_of (codes "12") ≡ Some 12000000000
-whole_seconds = refl
+whole_number : billionths_of (codes "12") ≡ Some 12000000000
+whole_number = refl
 
-ten_decimals : time_of (codes "1.0000000001") ≡ None
+ten_decimals : billionths_of (codes "1.0000000001") ≡ None
 ten_decimals = refl
 
-two_dots : time_of (codes "1.2.3") ≡ None
+two_dots : billionths_of (codes "1.2.3") ≡ None
 two_dots = refl
 
-no_seconds : time_of (codes ".5") ≡ None
-no_seconds = refl
+no_whole_number : billionths_of (codes ".5") ≡ None
+no_whole_number = refl
 
 -- each of which may be left out, behind or before the comma
 two_times : times_of (codes "12.5,13") ≡ Some (record { from = Some 12500000000; until = Some 13000000000 })

@@ -6,7 +6,7 @@ use crate::host_file::HostFile;
 use crate::short_flags::is_check;
 use crate::system::{Kind, System};
 use crate::words::UsageError;
-use cfi_text::name_parts::shown_name;
+use cfi_text::escapes::shown_name;
 use clap::Error;
 use std::alloc::{AllocError, AllocGlobal, Global};
 use std::fmt::Display;

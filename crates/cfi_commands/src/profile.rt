@@ -2,7 +2,7 @@
 ghost use Rattle.std.specs.Prelude.{◌≡◌, ⊤, IfSome, string_bytes};
 ghost use Rattle.cfi_commands.specs.Disks.{disk_of};
 ghost use Rattle.cfi_commands.specs.Folders.{folder_of, folders_view, linked_path, path_below};
-ghost use Rattle.cfi_commands.specs.ProfileFiles.{MayOpenAt};
+ghost use Rattle.cfi_commands.specs.NamedFiles.{MayOpenAt};
 
 use crate::folders::{Folders, copy_path, debug_path, folder_of, linked_path, path_below};
 use crate::system::System;

@@ -2,7 +2,7 @@
 ghost use Rattle.std.specs.Prelude.{IfOk};
 ghost use Rattle.cfi_commands.specs.declared.system.Kind.TheVariants.{Folder};
 ghost use Rattle.cfi_commands.specs.Disks.{disk_of};
-ghost use Rattle.cfi_commands.specs.ProfileFiles.{MayOpenIn, MayOpenProfile};
+ghost use Rattle.cfi_commands.specs.NamedFiles.{MayOpenIn, MayOpenProfile};
 ghost use Rattle.cfi_commands.specs.Trees.{tree_of};
 
 use crate::files::path_of;

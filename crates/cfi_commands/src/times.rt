@@ -1,11 +1,8 @@
-//! The times of `--time`, and numbers with decimals.
+//! The times of `--time`.
 ghost use Rattle.std.specs.Prelude.{◌≡◌};
-ghost use Rattle.cfi_commands.specs.Times.{nanoseconds, side_of, time_of, times_of};
+ghost use Rattle.cfi_commands.specs.Times.{side_of, times_of};
 
-use cfi_flame::decimal::decimal_from;
-
-/// The decimals of a time that has none.
-const ZEROS: &[u8] = b"000000000";
+use crate::billionths::billionths_of;
 
 /// Two times in nanoseconds, of which each may be left out.
 #[derive(Clone, Copy, Debug)]
@@ -34,35 +31,12 @@ pub fn times_of(text: &str) -> Option<Times>
     })
 }
 
-/// Parses a time, if there is one.
+/// Parses a time, if there is one, and returns its nanoseconds.
 fn side_of(text: &str) -> Option<Option<u64>>
     ensures { result ≡ side_of text.now }
 {
     if text.is_empty() {
         return Some(None);
     }
-    Some(Some(time_of(text)?))
-}
-
-/// Parses a time, and returns its nanoseconds; or another number with at most nine decimals, and
-/// returns its billionths.
-pub fn time_of(text: &str) -> Option<u64>
-    ensures { result ≡ time_of text.now }
-{
-    match text.split_once('.') {
-        Some((seconds, decimals)) => nanoseconds(seconds.as_bytes(), decimals.as_bytes()),
-        None => nanoseconds(text.as_bytes(), b""),
-    }
-}
-
-/// Returns the nanoseconds of a time with these digits.
-fn nanoseconds(seconds: &[u8], decimals: &[u8]) -> Option<u64>
-    ensures { result ≡ nanoseconds seconds.now decimals.now }
-{
-    if seconds.is_empty() || decimals.len() > 9 {
-        return None;
-    }
-    let whole = decimal_from(0, seconds)?;
-    let tenths = decimal_from(whole, decimals)?;
-    decimal_from(tenths, ZEROS.split_at(decimals.len()).1)
+    Some(Some(billionths_of(text)?))
 }

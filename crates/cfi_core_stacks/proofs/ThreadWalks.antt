@@ -10,7 +10,7 @@ use Rattle.cfi_processes.specs.declared.registers.SampleMachine.{SampleMachine}
 use Rattle.cfi_processes.specs.declared.sample_stack.NoFrames.{NoFrames}
 use Rattle.cfi_processes.specs.Registers.{pc_number}
 use Rattle.cfi_cores.specs.CoreThreads.{CoreThread, thread_register}
-use Rattle.cfi_frames.proofs.RoomLemmas.{Fits, Modules, refilled}
+use Rattle.cfi_processes.proofs.RoomLemmas.{Fits, Modules, refilled}
 use Rattle.cfi_core_stacks.specs.ThreadStacks.{IsUnwound, IsUnwoundFrom}
 
 module _ (modules : Modules) (machine : SampleMachine) (old : WalkRoom) (result : Result Walk NoFrames) (new : WalkRoom) where

@@ -1,20 +1,20 @@
--- Lines of threads, worked out from the definitions alone.
-use Rattle.std.proofs.Common.{◌≡◌, [], ◌∷◌, ◌++◌, Some, None, codes, map, refl}
+-- The names of signals and the head of a thread's object, worked out from the definitions alone.
+use Rattle.std.proofs.Common.{◌≡◌, [], ◌∷◌, Some, None, codes, map, refl}
 use Rattle.std.specs.Fmt.{digits}
 use Rattle.cfi_core_stacks.specs.Signals.{signal_name}
-use Rattle.cfi_core_stacks.specs.ThreadHeads.{thread_line}
+use Rattle.cfi_core_stacks.specs.ThreadMembers.{thread_head}
 
 some_signals : map signal_name (0 ∷ 1 ∷ 6 ∷ 11 ∷ 31 ∷ 32 ∷ []) ≡ None ∷ Some (codes "SIGHUP") ∷ Some (codes "SIGABRT") ∷ Some (codes "SIGSEGV") ∷ Some (codes "SIGSYS") ∷ None ∷ []
 some_signals = refl
 
-a_thread : thread_line 17121 6 None (Some (codes "sorter")) ≡ codes "thread 17121 signal 6 SIGABRT of sorter" ++ 10 ∷ []
+a_thread : thread_head (record { tid = 17121; signal = 6; fault = None; registers = [] }) (Some (codes "sorter")) ≡ codes "{\"tid\":17121,\"signal\":6,\"name\":\"SIGABRT\",\"process\":\"sorter\",\"frames\":["
 unfolding digits
 a_thread = refl
 
-in_real_time : thread_line 7 34 None None ≡ codes "thread 7 signal 34" ++ 10 ∷ []
+in_real_time : thread_head (record { tid = 7; signal = 34; fault = None; registers = [] }) None ≡ codes "{\"tid\":7,\"signal\":34,\"frames\":["
 unfolding digits
 in_real_time = refl
 
-without_signal : thread_line 7 0 None (Some (codes "sorter")) ≡ codes "thread 7 of sorter" ++ 10 ∷ []
+without_signal : thread_head (record { tid = 7; signal = 0; fault = None; registers = [] }) (Some (codes "sorter")) ≡ codes "{\"tid\":7,\"process\":\"sorter\",\"frames\":["
 unfolding digits
 without_signal = refl

@@ -1,5 +1,4 @@
 pub mod Signals
-pub mod ThreadHeads
 pub mod ThreadMembers
 pub mod MissingFrames
 pub mod NullCalls

@@ -11,7 +11,7 @@ use Rattle.cfi_processes.specs.declared.registers.SampleMachine.{SampleMachine}
 use Rattle.cfi_processes.specs.declared.sample_stack.NoFrames.{NoFrames}
 use Rattle.cfi_processes.specs.KnownFiles.{KnownFile}
 use Rattle.cfi_cores.specs.CoreThreads.{CoreThread}
-use Rattle.cfi_frames.specs.StackWalks.{IsWalkedInRoom}
+use Rattle.cfi_processes.specs.Rooms.{IsWalkedInRoom}
 use Rattle.cfi_core_stacks.specs.ThreadStacks.{IsUnwound}
 
 module _ (machine : SampleMachine) (files : List KnownFile) (list : List MappedCode) where

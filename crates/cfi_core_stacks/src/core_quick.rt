@@ -15,10 +15,10 @@ ghost use Rattle.cfi_processes.specs.ProcessModules.{modules_in};
 ghost use Rattle.cfi_mapped.specs.Mappings.{AreMappedInOrder};
 ghost use Rattle.cfi_processes.specs.Modules.{loaded_module_view};
 ghost use Rattle.cfi_mapped.specs.OpenedFiles.{AreOpenedAs, Opened};
-ghost use Rattle.cfi_processes.specs.SampleStacks.{HasRoom};
+ghost use Rattle.cfi_processes.specs.Rooms.{HasRoom};
 ghost use Rattle.cfi_mapped.specs.ThreadNames.{name_bytes};
 ghost use Rattle.cfi_text.specs.WriterOutput.{Prints};
-ghost use Rattle.cfi_frames.specs.Rooms.{IsRoomFor, KeepsNoRows};
+ghost use Rattle.cfi_processes.specs.Rooms.{IsRoomFor, KeepsNoRows};
 ghost use Rattle.cfi_core_stacks.specs.CoreCode.{AreOpenedFor, core_mappings};
 ghost use Rattle.cfi_core_stacks.specs.CoreOutputs.{AreThreadsPrinted, IsCoreOfFiles};
 ghost use Rattle.cfi_core_stacks.specs.CoreOutputs.{IsCoreOfOpened};
@@ -42,12 +42,12 @@ use cfi_cores::{CoreSegment, CoreThread, PartialCore, stack_at};
 use cfi_elf::{Image, ProgramHeader};
 use cfi_expression::Window;
 use cfi_frames::names::shown_name;
-use cfi_frames::room::Room;
 use cfi_mapped::Opener;
 use cfi_mapped::opened_file::OpenedFile;
 use cfi_object::{FileInput, FileParts};
 use cfi_processes::process_code::ProcessCode;
 use cfi_processes::profile_files::{ProfileFile, profile_files};
+use cfi_processes::room::Room;
 use cfi_text::lines::write_text;
 use cfi_text::refusals::{write_reason, write_refusal_in};
 use gimli_cfi::{EndianSlice, Error, RunTimeEndian};
@@ -230,7 +230,7 @@ fn quick_threads(
             continue;
         }
         let whole = quick_thread(
-            listing, &process, image, places, thread, &mut room, &mut text,
+            alloc, listing, &process, image, places, thread, &mut room, &mut text,
         )?;
         if !whole {
             return Ok(None);
@@ -243,6 +243,7 @@ fn quick_threads(
 /// Prints the stack of a thread, as `core_text::print_thread` does, and returns whether the bytes
 /// of the stack were enough; where they weren't, nothing is printed.
 fn quick_thread<W: Write>(
+    alloc: Global,
     listing: ThreadListing,
     process: &CoreProcess<'_, '_, '_>,
     image: Image<'_>,
@@ -272,11 +273,12 @@ fn quick_thread<W: Write>(
     let Some(stack) = stack_at(image, places, pointer) else {
         return Ok(false);
     };
-    quick_walk(listing, process, &stack, thread, room, output)
+    quick_walk(alloc, listing, process, &stack, thread, room, output)
 }
 
 /// The same by these bytes of the stack.
 fn quick_walk<W: Write>(
+    alloc: Global,
     listing: ThreadListing,
     process: &CoreProcess<'_, '_, '_>,
     stack: &CoreSegment<'_>,
@@ -315,6 +317,6 @@ fn quick_walk<W: Write>(
         return Ok(false);
     }
     let frames = room.frames.as_slice();
-    print_found(listing, code, process.name, thread, found, frames, output)?;
+    print_found(alloc, listing, process, thread, found, frames, output)?;
     Ok(true)
 }

@@ -10,10 +10,10 @@ ghost use Rattle.cfi_processes.specs.KnownFiles.{known_view};
 ghost use Rattle.cfi_processes.specs.ProcessModules.{modules_in};
 ghost use Rattle.cfi_processes.specs.Modules.{loaded_module_view};
 ghost use Rattle.cfi_mapped.specs.OpenedFiles.{AreOpenedAs, Opened, are_whole};
-ghost use Rattle.cfi_processes.specs.SampleStacks.{HasRoom};
+ghost use Rattle.cfi_processes.specs.Rooms.{HasRoom};
 ghost use Rattle.cfi_text.specs.WriterOutput.{PrintsSome};
 ghost use Rattle.cfi_frames.specs.Outputs.{no_memory};
-ghost use Rattle.cfi_frames.specs.Rooms.{KeepsNoRows};
+ghost use Rattle.cfi_processes.specs.Rooms.{KeepsNoRows};
 ghost use Rattle.cfi_core_stacks.specs.CoreOutputs.{AreThreadsPrinted, IsCoreOfFiles};
 ghost use Rattle.cfi_core_stacks.specs.CoreOutputs.{IsCoreOfOpened};
 ghost use Rattle.cfi_core_stacks.specs.CoreOutputs.{IsCoreOutput, IsCoreOwed, IsOfCore};
@@ -31,12 +31,12 @@ use crate::core_text::print_thread;
 use crate::listing::ThreadListing;
 use cfi_cores::{Core, CoreMemory, partial_core, read_core, read_core_parts};
 use cfi_frames::names::shown_name;
-use cfi_frames::room::Room;
 use cfi_mapped::Opener;
 use cfi_mapped::opened_file::OpenedFile;
 use cfi_object::{FileInput, FileParts, read_whole};
 use cfi_processes::process_code::ProcessCode;
 use cfi_processes::profile_files::{ProfileFile, profile_files};
+use cfi_processes::room::Room;
 use cfi_text::input_refusals::write_input_refusal;
 use cfi_text::refusals::{write_reason, write_refusal_in};
 use gimli_cfi::Error;
@@ -68,7 +68,8 @@ use std::io::Write;
 /// prints `wrong input`. Fails where the output can't be written: then a beginning has been
 /// written.
 ///
-/// Allocates for the input, the files and what is mapped. Unwinding and printing don't allocate.
+/// Allocates for the input, the files, what is mapped and the text of a thread. Unwinding doesn't
+/// allocate.
 pub fn print_core<O: Opener, I: FileInput, W: Write>(
     alloc: Global,
     listing: ThreadListing,
@@ -233,13 +234,14 @@ fn print_code<W: Write>(
         (W.contents output.old) (W.contents output.new) result }
 {
     match Room::new(alloc) {
-        Ok(room) => print_threads(listing, core, files, code, room, output),
+        Ok(room) => print_threads(alloc, listing, core, files, code, room, output),
         Err(_) => write_refusal_in(output, listing.format, Error::OutOfMemory),
     }
 }
 
 /// Prints the stacks of the threads in this room, and then the error that ended the notes.
 fn print_threads<W: Write>(
+    alloc: Global,
     listing: ThreadListing,
     core: &Core<'_>,
     files: &[ProfileFile<'_>],
@@ -279,7 +281,7 @@ fn print_threads<W: Write>(
         if !is_asked_for(listing, thread) {
             continue;
         }
-        print_thread(listing, &process, &memory, thread, &mut room, output)?;
+        print_thread(alloc, listing, &process, &memory, thread, &mut room, output)?;
     }
     write_end(output, listing.format, core.error)
 }

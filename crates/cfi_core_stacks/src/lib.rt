@@ -3,20 +3,19 @@
 //! `core_run` prints them, as a `listing` says, `core_quick` by the parts of the file that are
 //! mostly enough (`lacking`), after which an opener is quiet (`quiet_opener`). `core_files` opens
 //! the files of its process, `core_code` has what is mapped, `core_windows` what they have of the
-//! memory. `core_text` and `core_object` write the stack of a thread of the process
-//! (`core_process`) that is asked for (`asked_threads`), `core_errors` why there are no more.
+//! memory. `core_text` prints the stack of a thread of the process (`core_process`) that is asked
+//! for (`asked_threads`), `core_errors` why there are no more.
 //!
-//! `thread_walk` walks the stack of a thread in a room, by `thread_stack`, over signal trampolines
+//! `thread_walk` walks the stack of a thread in a room, by `thread_frames`, over signal trampolines
 //! and from the address 0 too (`signal_steps`, `null_steps`), where no call frames lead there
-//! (`missing_frames`). `thread_head` or `thread_members` write what comes before the frames, with
-//! the name of a signal (`signals`).
+//! (`missing_frames`). `thread_stack` is the stack as a value, which `thread_text` or
+//! `thread_object` put into a text, with the name of a signal (`signals`).
 #![tactic(auto)]
 
 mod asked_threads;
 mod core_code;
 mod core_errors;
 pub mod core_files;
-mod core_object;
 pub mod core_process;
 mod core_quick;
 pub mod core_run;
@@ -29,9 +28,10 @@ pub mod null_steps;
 mod quiet_opener;
 pub mod signal_steps;
 pub mod signals;
-mod thread_head;
-mod thread_members;
+pub mod thread_frames;
+mod thread_object;
 pub mod thread_stack;
+mod thread_text;
 mod thread_walk;
 
 pub use core_run::print_core;

@@ -6,16 +6,16 @@ ghost use Rattle.cfi_processes.specs.KnownFiles.{known_view};
 ghost use Rattle.cfi_processes.specs.ProcessModules.{modules_in};
 ghost use Rattle.cfi_mapped.specs.Mappings.{AreMappedInOrder};
 ghost use Rattle.cfi_processes.specs.Modules.{loaded_module_view};
-ghost use Rattle.cfi_frames.specs.Rooms.{IsRoomFor};
+ghost use Rattle.cfi_processes.specs.Rooms.{IsRoomFor};
 ghost use Rattle.cfi_core_stacks.specs.ThreadWalks.{IsThreadWalked};
 
-use crate::thread_stack::unwind_thread;
+use crate::thread_frames::unwind_thread;
 use cfi_cores::CoreThread;
 use cfi_expression::Memory;
-use cfi_frames::room::Room;
 use cfi_processes::process_code::ProcessCode;
 use cfi_processes::process_modules::FileModule;
 use cfi_processes::registers::SampleMachine;
+use cfi_processes::room::Room;
 use cfi_processes::sample_stack::NoFrames;
 use cfi_step::{Modules, Walk};
 

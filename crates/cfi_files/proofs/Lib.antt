@@ -1,1 +1,4 @@
+mod SendingLemmas
+mod FdeRowsSent
+mod EntryRowsSent
 mod WholeFiles

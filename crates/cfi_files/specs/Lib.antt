@@ -1,3 +1,8 @@
+pub mod Sending
+pub mod CheckLines
+pub mod FdeRows
+pub mod DumpRowTexts
+pub mod DumpProgramOutput
 pub mod FileErrors
 pub mod Found
 pub mod Rows

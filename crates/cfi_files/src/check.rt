@@ -8,7 +8,7 @@ ghost use Rattle.cfi_files.specs.Findings.{name_of_finding, reason_members, why}
 ghost use Rattle.cfi_text.specs.Texts.{Puts};
 
 use crate::error::FileError;
-use cfi_dump::verdict_line::put_verdict;
+use crate::verdict_line::put_verdict;
 use cfi_elf::{ElfError, ElfFile, Image};
 use cfi_object::call_frames::eh_frame;
 use cfi_object::input::FileInput;
@@ -108,7 +108,7 @@ impl CheckStyle {
 /// table of the file lists its FDEs faithfully, and returns what was found.
 ///
 /// The line has after the name and `: ` the verdict on the table, as `put_verdict` of
-/// `cfi_dump` appends it; `no call frames` or `no header` where the file has no `.eh_frame` or
+/// `verdict_line` appends it; `no call frames` or `no header` where the file has no `.eh_frame` or
 /// no header; `refused` and the name of an error; or `wrong input` where the file can't be read.
 /// In JSON it is an object with the name as `file`, what was found as `result`, and the number of
 /// rows of a faithful table as `rows` or else that text as `reason`. Fails where the output can't

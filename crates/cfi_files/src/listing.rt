@@ -5,9 +5,9 @@ ghost use Rattle.cfi_elf.specs.ElfFiles.{file_view};
 ghost use Rattle.cfi_object.specs.Targets.{target_addresses};
 ghost use Rattle.cfi_files.specs.Listings.{IsNoAddress};
 
+use crate::dump::{AskedRows, Printed};
 use crate::error::{FileError, print_error};
 use crate::sections::{SectionPrinted, print_sections};
-use cfi_dump::{AskedRows, Printed};
 use cfi_elf::{ElfFile, FunctionNames};
 use cfi_object::target::target_addresses;
 use cfi_row_text::style::Style;

@@ -3,10 +3,9 @@ ghost use Rattle.cfi_files.specs.Listings.{section_member};
 ghost use Rattle.cfi_text.specs.Texts.{Puts};
 
 use crate::compiled::print_compiled;
+use crate::dump::{Printed, print_source};
 use crate::error::FileError;
 use crate::row::FrameSections;
-use cfi_dump::Printed;
-use cfi_dump::print::print_source;
 use cfi_elf::{ElfError, ElfFile};
 use cfi_text::register_names::RegisterNames;
 use cfi_text::style::Format;

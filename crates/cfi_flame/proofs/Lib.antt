@@ -1,7 +1,6 @@
 pub mod StackLemmas
 pub mod BoxLemmas
 pub mod FlameLemmas
-pub mod TextMade
 pub mod CountLemmas
 pub mod TallyLemmas
 pub mod TurnedLemmas

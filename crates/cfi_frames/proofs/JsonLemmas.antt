@@ -1,5 +1,5 @@
 -- The objects of frames in a text, one behind the other.
-use Rattle.std.proofs.Common.{◌≡◌, ◌∙◌, ℕ, ◌+◌, ◌<◌, ◌≤◌, Bool, true, false, List, [], ◌∷◌, ◌++◌, length, get_or, drop, map, refl, ap, subst, add-one}
+use Rattle.std.proofs.Common.{◌≡◌, ◌∙◌, ℕ, ◌+◌, ◌<◌, ◌≤◌, Bool, true, false, List, [], ◌∷◌, ◌++◌, codes, length, get_or, drop, map, refl, ap, subst, add-one}
 use Rattle.std.proofs.Math.Seq.{drop-cons}
 use Rattle.std.proofs.lemmas.List.{drop_all}
 use Rattle.cfi_text.specs.Texts.{Puts}
@@ -9,9 +9,15 @@ use Rattle.cfi_text.proofs.TextLemmas.{IsPut, put_all, put_more}
 use Rattle.cfi_processes.specs.declared.frames.Frame.{Frame}
 use Rattle.cfi_processes.specs.Frames.{frame_view}
 use Rattle.cfi_frames.specs.declared.frame_style.FrameStyle.{FrameStyle}
-use Rattle.cfi_frames.specs.FrameObjects.{comma_before}
-use Rattle.cfi_frames.specs.FrameJson.{frame_json, frames_json, led_frames}
-use Rattle.cfi_frames.proofs.ObjectLemmas.{no_object, one_object}
+use Rattle.cfi_frames.specs.FrameJson.{comma_before, frame_json, frames_json, led_frames}
+
+one_object : (is_first : Bool) (object more : List ℕ) → separated is_first ((codes "," ++ object) ++ more) ≡ (comma_before is_first ++ object) ++ separated false more
+one_object true object more = refl
+one_object false object more = refl
+
+no_object : (is_first : Bool) → separated is_first [] ≡ []
+no_object true = refl
+no_object false = refl
 
 module _ (style : FrameStyle) (frames : List Frame) where
   -- those from the frame with this index on

@@ -1,10 +1,4 @@
-pub mod FrameLines
 pub mod Reasons
-pub mod FrameObjects
-pub mod Rooms
-pub mod StackWalks
-pub mod WalkLines
-pub mod WalkObjects
 pub mod Sequences
 pub mod Outputs
 pub mod FrameJson

@@ -3,10 +3,8 @@
 --         outermost one
 --     reason_without why      the reason why a sample has no frames
 --     reason_for result      the reason by what was found of a stack
---     end_line reason      its line
-use Rattle.std.specs.Prelude.{List, [], ◌∷◌, ◌++◌, ℕ, Option, Some, None, Result, Ok, Err, codes}
+use Rattle.std.specs.Prelude.{List, ℕ, Option, Some, None, Result, Ok, Err, codes}
 use Rattle.cfi_read_core.specs.declared.error.Error.{Error}
-use Rattle.cfi_read_core.specs.RefusalNames.{name_of}
 use Rattle.cfi_expression.specs.declared.error.FrameError.{FrameError}
 use Rattle.cfi_expression.specs.declared.error.FrameError.TheVariants.{NoRow, Unreadable}
 use Rattle.cfi_expression.specs.declared.error.FrameError.TheVariants.{UnsupportedOperation}
@@ -95,15 +93,3 @@ reason_without NoStackPointer =
 abbrev pub reason_for : Result Walk NoFrames → Option Reason
 reason_for (Ok walk) = reason_of walk.end
 reason_for (Err why) = Some (reason_without why)
-
--- ---- its line
-
-abbrev pub carried_error : Option Error → List ℕ
-carried_error None = []
-carried_error (Some error) = codes " " ++ name_of error
-
-abbrev pub end_line : Option Reason → List ℕ
-end_line None = []
-end_line (Some reason) =
-    codes "# " ++ reason.words ++ codes " (" ++ reason.name ++ carried_error reason.error
-    ++ codes ")" ++ 10 ∷ []

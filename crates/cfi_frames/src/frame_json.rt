@@ -4,12 +4,11 @@ ghost use Rattle.cfi_elf.specs.FunctionPlaces.{place_view};
 ghost use Rattle.cfi_processes.specs.Frames.{frame_view};
 ghost use Rattle.cfi_processes.specs.Sites.{site_view};
 ghost use Rattle.cfi_text.specs.Texts.{Puts};
-ghost use Rattle.cfi_frames.specs.FrameJson.{frame_json, frames_json, kind_closing, site_json};
-ghost use Rattle.cfi_frames.specs.FrameObjects.{comma_before, file_member, frame_address};
-ghost use Rattle.cfi_frames.specs.FrameObjects.{function_members, object_end, place_member};
-ghost use Rattle.cfi_frames.specs.FrameObjects.{reason_member, shown_function};
+ghost use Rattle.cfi_frames.specs.FrameJson.{comma_before, file_member, frame_address, frame_json};
+ghost use Rattle.cfi_frames.specs.FrameJson.{frame_opening, frames_json, function_members};
+ghost use Rattle.cfi_frames.specs.FrameJson.{kind_closing, object_end, place_member};
+ghost use Rattle.cfi_frames.specs.FrameJson.{reason_member, shown_function, site_json};
 ghost use Rattle.cfi_frames.specs.Reasons.{reason_view};
-ghost use Rattle.cfi_frames.specs.WalkObjects.{frame_opening};
 
 use crate::frame_style::FrameStyle;
 use crate::reasons::Reason;

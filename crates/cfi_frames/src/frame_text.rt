@@ -8,11 +8,25 @@ use cfi_text::escapes::Escaping;
 use cfi_text::name_parts::digit;
 use cfi_text::text::Text;
 
+/// Puts the lines of the frames, why there are no more, if there is a reason, and an empty line.
+pub fn put_frames(
+    text: &mut Text,
+    style: FrameStyle,
+    frames: &[Frame<'_>],
+    reason: Option<Reason>,
+) {
+    for frame in frames {
+        put_frame(text, style, frame);
+    }
+    put_reason(text, reason);
+    text.put(b"\n");
+}
+
 /// Puts the line of a frame: its address in the process, if that is shown, and the place in the
 /// file, each after a tab and in sixteen columns, the function and how far into it the address is,
 /// unless it is `raw`, and the file in parentheses. `[unknown]` stands for a function or a file
 /// that isn't known.
-pub fn put_frame(text: &mut Text, style: FrameStyle, frame: &Frame<'_>) {
+fn put_frame(text: &mut Text, style: FrameStyle, frame: &Frame<'_>) {
     if style.with_address {
         put_column(text, frame.address);
     }
@@ -71,7 +85,7 @@ pub fn put_name(text: &mut Text, name: Name<'_>) {
 
 /// Puts the line of a reason, if there is one: `# ` and the words, and in parentheses the name,
 /// and after a space the name of the error that it carries.
-pub fn put_reason(text: &mut Text, reason: Option<Reason>) {
+fn put_reason(text: &mut Text, reason: Option<Reason>) {
     if let Some(reason) = reason {
         text.put(b"# ");
         text.put(reason.words.as_bytes());

@@ -1,16 +1,11 @@
 //! Why a stack has no more frames, as it is printed.
-ghost use Rattle.std.specs.Prelude.{◌≡◌, ◌++◌, [], ◌∷◌, Some, codes, option_map};
-ghost use Rattle.cfi_read_core.specs.RefusalNames.{name_of};
-ghost use Rattle.cfi_text.specs.WriterOutput.{Writes};
-ghost use Rattle.cfi_frames.specs.Reasons.{end_line, reason_of, reason_of_error, reason_view};
-ghost use Rattle.cfi_frames.specs.Reasons.{reason_for, reason_without};
+ghost use Rattle.std.specs.Prelude.{◌≡◌, None, Some, option_map};
+ghost use Rattle.cfi_frames.specs.Reasons.{reason_for, reason_of, reason_of_error, reason_view};
+ghost use Rattle.cfi_frames.specs.Reasons.{reason_without};
 
 use cfi_processes::sample_stack::NoFrames;
 use cfi_step::{End, FrameError, Walk};
-use cfi_text::lines::write_part;
 use gimli_cfi::Error;
-use std::io;
-use std::io::Write;
 
 /// The name of a variant, what it says in words, and the error of the call frames that it carries.
 #[derive(Clone, Copy, Debug)]
@@ -24,7 +19,7 @@ pub struct Reason {
 }
 
 /// The reason why a walk has no more frames; `None` where its last frame is the outermost one.
-pub fn reason_of(end: End) -> Option<Reason>
+fn reason_of(end: End) -> Option<Reason>
     ensures { option_map reason_view result ≡ reason_of end }
 {
     match end {
@@ -37,7 +32,7 @@ pub fn reason_of(end: End) -> Option<Reason>
 }
 
 /// The reason why a sample has no frames.
-pub fn reason_without(why: NoFrames) -> Reason
+fn reason_without(why: NoFrames) -> Reason
     ensures { reason_view result ≡ reason_without why }
 {
     match why {
@@ -125,42 +120,4 @@ fn carrying(name: &'static str, words: &'static str, error: Error) -> Reason
         words,
         error: Some(error),
     }
-}
-
-/// Writes the line of a reason, if there is one: `# ` and the words, and in parentheses the name,
-/// and after a space the name of the error that it carries.
-pub fn write_reason<W: Write>(output: &mut W, reason: Option<Reason>) -> io::Result<()>
-    ensures { Writes (W.contents output.old) (W.contents output.new) result
-        (end_line (option_map reason_view reason)) }
-{
-    match reason {
-        None => Ok(()),
-        Some(reason) => match reason.error {
-            None => write_plain(output, &reason),
-            Some(error) => write_carrying(output, &reason, error),
-        },
-    }
-}
-
-/// Writes the line of a reason that carries no error.
-fn write_plain<W: Write>(output: &mut W, reason: &Reason) -> io::Result<()>
-    ensures { Writes (W.contents output.old) (W.contents output.new) result
-        (codes "# " ++ reason.now.words.now ++ codes " (" ++ reason.now.name.now ++ []
-        ++ codes ")" ++ 10 ∷ []) }
-{
-    let words = reason.words;
-    let name = reason.name;
-    write_part(output, format_args!("# {words} ({name})\n"))
-}
-
-/// Writes the line of a reason and of the error that it carries.
-fn write_carrying<W: Write>(output: &mut W, reason: &Reason, error: Error) -> io::Result<()>
-    ensures { Writes (W.contents output.old) (W.contents output.new) result
-        (codes "# " ++ reason.now.words.now ++ codes " (" ++ reason.now.name.now
-        ++ (codes " " ++ name_of error) ++ codes ")" ++ 10 ∷ []) }
-{
-    let words = reason.words;
-    let name = reason.name;
-    let inner = error.name();
-    write_part(output, format_args!("# {words} ({name} {inner})\n"))
 }

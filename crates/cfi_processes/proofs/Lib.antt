@@ -4,6 +4,7 @@ mod WorkedSamples
 mod WorkedSites
 pub mod CodeLemmas
 pub mod ModuleLemmas
+pub mod RoomLemmas
 mod FrameLemmas
 mod ProfileImages
 mod ProfileLemmas

@@ -9,5 +9,6 @@ pub mod ProcessModules
 pub mod ProfileFiles
 pub mod Registers
 pub mod Replays
+pub mod Rooms
 pub mod SampleStacks
 pub mod Sites

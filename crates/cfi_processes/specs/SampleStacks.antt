@@ -6,7 +6,6 @@
 --     IsWalkOver .. modules machine memory pc registers old walk new      a walk over any memory,
 --         from a pc and the registers of its frame
 --     IsSampleUnwound .. modules machine user old result new      what is returned and written
---     HasRoom frames      there is room for as many frames as a stack may have
 use Rattle.std.specs.Prelude.{◌≡◌, ℕ, Bool, true, false, List, length, take, map, Option, Some}
 use Rattle.std.specs.Prelude.{None, Result, Ok, Err, ok_or, ◌==◌, if◌then◌else◌}
 use Rattle.std.specs.List.{range_with_len}
@@ -74,13 +73,6 @@ beginning_of machine user = and_then (of_64_bits user.registers) (beginning_by m
 -- significant byte first
 abbrev pub sample_memory : List ℕ → ℕ → ℕ → ℕ → Option ℕ
 sample_memory stack stack_pointer = number_in (slice_over stack false) stack_pointer
-
--- how many frames a stack may have
-abbrev pub most_frames : ℕ
-most_frames = 4096
-
-abbrev pub HasRoom : List StackFrame → Type 0
-HasRoom frames = length frames ≡ most_frames
 
 -- What a walk reads and writes.
 pub record WalkRoom : Type 0 where

@@ -6,7 +6,7 @@
 //! and `kernel_sites` find the place of an address in them, `process_code` has what is mapped in a
 //! process, `process_modules` its modules, and `frames` makes frames as values. `registers` finds
 //! perf's registers by DWARF's numbers, `stack_walk` writes the frames of a stack over any memory,
-//! and `sample_stack` those of a sample.
+//! and `sample_stack` those of a sample. All stacks are walked in a `room`.
 #![tactic(auto)]
 
 pub mod file_code;
@@ -19,6 +19,7 @@ pub mod process_modules;
 pub mod profile_files;
 pub mod registers;
 pub mod replay;
+pub mod room;
 pub mod sample_stack;
 pub mod sites;
 pub mod stack_walk;
@@ -28,6 +29,7 @@ pub use objects::Object;
 pub use process_code::ProcessCode;
 pub use registers::SampleMachine;
 pub use replay::Replay;
+pub use room::Room;
 pub use sample_stack::{NoFrames, unwind_sample};
 pub use sites::Site;
 pub use stack_walk::unwind_from;

@@ -4,7 +4,8 @@ use Rattle.std.specs.Option.{IsSome}
 use Rattle.std.specs.Io.KnownBytes.{Appends, Keeps}
 use Rattle.cfi_programs.specs.Input.{Bytes}
 use Rattle.cfi_text.specs.Lines.{Line}
-use Rattle.cfi_text.specs.Refusals.{out_of_memory, wrong_words, wrong_hexadecimal, wrong_input}
+use Rattle.cfi_text.specs.Refusals.{out_of_memory}
+use Rattle.cfi_programs.specs.WrongLines.{wrong_hexadecimal, wrong_input, wrong_words}
 use Rattle.cfi_programs.specs.Runs.{Tool, IsNoWrongLine, IsLineFor, IsPut, PutsAnswer, IsOwedBy, IsRun, LineOfInput, LineOfRequest, LineOfWords, requested}
 use Rattle.cfi_text.specs.Texts.{contents}
 use Rattle.cfi_text.specs.WriterOutput.{IsBeginning, Prints}

@@ -2,6 +2,7 @@ pub mod Numbers
 pub mod Words
 pub mod SectionOfWords
 pub mod Input
+pub mod WrongLines
 pub mod Runs
 pub mod RowsCommandLine
 pub mod RowsProgramOutput

@@ -10,9 +10,9 @@ use Rattle.std.specs.Prelude.{Result, IfSome, IsSome}
 use Rattle.std.specs.Io.KnownBytes.{Appends}
 use Rattle.std.specs.Option.{option_and_then}
 use Rattle.cfi_programs.specs.Input.{Bytes}
+use Rattle.cfi_programs.specs.WrongLines.{wrong_hexadecimal, wrong_input, wrong_words}
 use Rattle.cfi_text.specs.Lines.{Line}
-use Rattle.cfi_text.specs.Refusals.{out_of_memory, wrong_words, wrong_hexadecimal}
-use Rattle.cfi_text.specs.Refusals.{wrong_input}
+use Rattle.cfi_text.specs.Refusals.{out_of_memory}
 use Rattle.cfi_text.specs.Texts.{IsWhole, Puts, contents}
 use Rattle.cfi_text.specs.WriterOutput.{IsBeginning, Prints}
 use Rattle.cfi_text.specs.declared.text.Text.{Text}

@@ -44,17 +44,19 @@ set_header words digits EhFrame =
     option_map (λ n. record words { header = Some n }) (once_given words.header (number digits))
 
 -- the first that fits: set by what comes after the start, or else what is otherwise asked for
-abbrev pub either : {A : Type 0} → Option (List ℕ) → (List ℕ → Option A) → Option A → Option A
-either (Some digits) set otherwise = set digits
-either None set otherwise = otherwise
+abbrev pub set_if_prefixed :
+    {A : Type 0} → Option (List ℕ) → (List ℕ → Option A) → Option A → Option A
+set_if_prefixed (Some digits) set otherwise = set digits
+set_if_prefixed None set otherwise = otherwise
 
 abbrev pub section_word : List ℕ → SectionWords → Option SectionWords
 section_word word words =
     if bytes_eq word (codes "vendor=aarch64") then set_vendor words words.vendor
-    else either (after_prefix (codes "section=") word) (set_section words)
-    (either (after_prefix (codes "text=") word) (set_text words)
-    (either (after_prefix (codes "data=") word) (set_data_base words)
-    (either (after_prefix (codes "header=") word) (λ digits. set_header words digits words.kind)
+    else set_if_prefixed (after_prefix (codes "section=") word) (set_section words)
+    (set_if_prefixed (after_prefix (codes "text=") word) (set_text words)
+    (set_if_prefixed (after_prefix (codes "data=") word) (set_data_base words)
+    (set_if_prefixed (after_prefix (codes "header=") word)
+    (λ digits. set_header words digits words.kind)
     None)))
 
 -- each word in turn, where none is wrong

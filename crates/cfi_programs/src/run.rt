@@ -16,11 +16,10 @@ use crate::input::{Sections, read_sections};
 use crate::rows::Request;
 use crate::rows::command_line::parse;
 use crate::rows::row_lookup::put_answer;
+use crate::wrong_lines::{write_wrong_hexadecimal, write_wrong_input, write_wrong_words};
 use cfi_text::lines::write_text;
 use cfi_text::reading::InputError;
-use cfi_text::refusals::{
-    write_refusal, write_wrong_hexadecimal, write_wrong_input, write_wrong_words,
-};
+use cfi_text::refusals::write_refusal;
 use cfi_text::text::Text;
 use gimli_cfi::Error;
 use std::alloc::Global;

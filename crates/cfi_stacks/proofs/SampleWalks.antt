@@ -9,7 +9,7 @@ use Rattle.cfi_processes.specs.SampleStacks.{Beginning, IsSampleUnwound, IsUnwou
 use Rattle.cfi_perf.specs.Samples.{UserState}
 use Rattle.cfi_processes.specs.declared.registers.SampleMachine.{SampleMachine}
 use Rattle.cfi_processes.specs.declared.sample_stack.NoFrames.{NoFrames}
-use Rattle.cfi_frames.proofs.RoomLemmas.{Fits, Modules, refilled}
+use Rattle.cfi_processes.proofs.RoomLemmas.{Fits, Modules, refilled}
 
 module _ (modules : Modules) (machine : SampleMachine) (old : WalkRoom) (result : Result Walk NoFrames) (new : WalkRoom) where
   by_beginning : (stack : List ℕ) (start : Result Beginning NoFrames) → IsUnwoundFrom (slice_position is_big) (λ n. n) (Some 192) (Some 4) true modules machine stack old result new start → Fits new.frames result

@@ -7,13 +7,10 @@ use Rattle.std.specs.Result.{IsErr}
 use Rattle.cfi_perf.specs.declared.error.PerfError.{PerfError}
 use Rattle.cfi_perf.specs.Events.{Record}
 use Rattle.cfi_text.specs.declared.style.Format.{Format}
-use Rattle.cfi_text.specs.declared.style.Format.TheVariants as formats
-use Rattle.cfi_text.specs.declared.text.Text.{Text}
 use Rattle.cfi_text.specs.InputRefusals.{input_refusal}
 use Rattle.cfi_text.specs.declared.reading.InputError.{InputError}
 use Rattle.cfi_text.specs.declared.reading.InputError.TheVariants.{OutOfMemory}
 use Rattle.cfi_text.specs.Lines.{Line}
-use Rattle.cfi_text.specs.Texts.{IsWhole, Puts, contents}
 use Rattle.cfi_text.specs.WriterOutput.{IsBeginning, Prints, PrintsSome, Writes}
 use Rattle.cfi_text.proofs.WrittenLemmas.{appends_then, beginning_then, given_first, none_yet, writes_refused}
 use Rattle.cfi_text.proofs.PartsWritten.{first_refused, last_written}
@@ -41,29 +38,17 @@ no_status_is (Err e) n err = tt
 
 -- ---- a stack
 
-module _ (old new : Option (List ℕ)) (empty put : Text) (object : List ℕ) (none : contents empty ≡ []) where
-  is_object : Puts object empty put → IsWhole put → contents put ≡ object
-  is_object puts whole = puts.adds whole ∙ ap (λ (front : List ℕ). front ++ object) none
+module _ (old new : Option (List ℕ)) (object : List ℕ) (format : Format) where
+  abbrev IsSaid : List ℕ → Type 0
+  IsSaid text = IsSaidIn format (text ≡ object)
 
-  shown_whole : (format : Format) → IsSaidIn format (Puts object empty put) → IsWhole put → Appends old new (contents put) → (text : List ℕ) × IsSaidIn format (text ≡ object) × Appends old new text
-  shown_whole formats.Text said whole goes = (contents put, tt, goes)
-  shown_whole formats.Json puts whole goes = (contents put, is_object puts whole, goes)
+  pub stack_shown : {T E : Type 0} (r : Result T E) → ((text : List ℕ) × Writes old new r text × IsSaid text) → OnOk r ((text : List ℕ) × IsSaid text × Appends old new text)
+  stack_shown (Ok done) (text, written, said) = (text, said, written)
+  stack_shown (Err e) written = tt
 
-  -- nothing is written of a text that is short
-  begun_of : (format : Format) (short : Bool) → put.is_short ≡ short → IsSaidIn format (Puts object empty put) → (put.is_short ≡ true → new ≡ old) → ((begun : List ℕ) × Appends old new begun × IsBeginning begun (contents put))
-      → (text : List ℕ) × IsSaidIn format (text ≡ object) × ((begun : List ℕ) × Appends old new begun × IsBeginning begun text)
-  begun_of formats.Text short is said same begun = (contents put, tt, begun)
-  begun_of formats.Json true is puts same begun = (object, refl, ([], subst (λ (o : Option (List ℕ)). Appends old o []) (sym (same is)) (none_yet old), (object, refl)))
-  begun_of formats.Json false is puts same begun = (contents put, is_object puts is, begun)
-
-  pub stack_shown : {T E : Type 0} (format : Format) (r : Result T E) → IsSaidIn format (Puts object empty put) → OnOk r (IsWhole put) → Writes old new r (contents put) → OnOk r ((text : List ℕ) × IsSaidIn format (text ≡ object) × Appends old new text)
-  stack_shown format (Ok done) said whole written = shown_whole format said whole written
-  stack_shown format (Err e) said whole written = tt
-
-  pub stack_begun : {T E : Type 0} (format : Format) (r : Result T E) → IsSaidIn format (Puts object empty put) → (put.is_short ≡ true → new ≡ old) → Writes old new r (contents put)
-      → IfErr r (λ e. (text : List ℕ) × IsSaidIn format (text ≡ object) × ((begun : List ℕ) × Appends old new begun × IsBeginning begun text))
-  stack_begun format (Ok done) said same written = tt
-  stack_begun format (Err e) said same written = begun_of format put.is_short refl said same written
+  pub stack_begun : {T E : Type 0} (r : Result T E) → ((text : List ℕ) × Writes old new r text × IsSaid text) → IfErr r (λ e. (text : List ℕ) × IsSaid text × ((begun : List ℕ) × Appends old new begun × IsBeginning begun text))
+  stack_begun (Ok done) written = tt
+  stack_begun (Err e) (text, begun, said) = (text, said, begun)
 
 -- ---- stacks, one after the other
 

@@ -11,7 +11,6 @@ use Rattle.cfi_processes.specs.Frames.{Frame}
 use Rattle.cfi_processes.specs.Sites.{Site}
 use Rattle.cfi_stacks.specs.SampleHeads.{thread_name_text}
 use Rattle.cfi_stacks.specs.SampleOutputs.{Stack}
-use Rattle.cfi_frames.specs.FrameLines.{unknown}
 
 -- ---- names
 
@@ -27,7 +26,7 @@ base_name path = drop (last_part 47 path) path
 
 -- a space (32) stays
 abbrev pub file_name : Option (List ℕ) → List ℕ
-file_name None = unknown
+file_name None = codes "[unknown]"
 file_name (Some path) = codes "[" ++ (escaped (Folded 32) (base_name path) ++ codes "]")
 
 abbrev pub name_at : Option Place → Option (List ℕ) → List ℕ

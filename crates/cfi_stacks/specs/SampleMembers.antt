@@ -1,11 +1,15 @@
 -- What the object of a sample has before its frames (RFC 8259).
+--     filled fill text      a text after as much of the fill as makes it as long
 --     sample_head name time s      these members
-use Rattle.std.specs.Prelude.{ℕ, ◌/◌, ◌%◌, List, [], ◌++◌, Option, Some, None, codes}
+use Rattle.std.specs.Prelude.{ℕ, ◌-◌, ◌/◌, ◌%◌, List, [], ◌++◌, Option, Some, None, codes, length}
+use Rattle.std.specs.Prelude.{take}
 use Rattle.std.specs.Fmt.{decimal}
 use Rattle.cfi_perf.specs.Samples.{Sample}
 use Rattle.cfi_text.specs.JsonTexts.{json_name, json_number}
-use Rattle.cfi_frames.specs.FrameLines.{filled}
 use Rattle.cfi_stacks.specs.SampleHeads.{thread_name_text}
+
+abbrev pub filled : List ℕ → List ℕ → List ℕ
+filled fill text = take (length fill - length text) fill ++ text
 
 -- ---- what comes before the frames of a sample
 

@@ -6,8 +6,8 @@
 --     IsInFormat style stack text      what is said of its text, or its object
 --     Shows style old stack new, Begins style old stack new      it was written, or a beginning of
 --         it
-use Rattle.std.specs.Prelude.{ℕ, Bool, false, List, [], ◌++◌, Option, None, Result}
-use Rattle.std.specs.Prelude.{◌≡◌, ⊤, Ok, Err, map, option_map, take, if◌then◌else◌}
+use Rattle.std.specs.Prelude.{◌≡◌, ℕ, Bool, false, List, ◌++◌, Option, None, Result, map}
+use Rattle.std.specs.Prelude.{option_map, if◌then◌else◌}
 use Rattle.std.specs.Io.KnownBytes.{Appends}
 use Rattle.cfi_perf.specs.Samples.{Sample, kernel_frames, user_frames}
 use Rattle.cfi_step.specs.declared.walk.StackFrame.{StackFrame}
@@ -18,14 +18,13 @@ use Rattle.cfi_processes.specs.Frames.{Frame, called_frame, frame_view, walked_f
 use Rattle.cfi_processes.specs.Sites.{Site, without_function}
 use Rattle.cfi_mapped.specs.ThreadNames.{name_bytes}
 use Rattle.cfi_perf.specs.Samples.{sample_view}
-use Rattle.cfi_text.specs.declared.style.Format.{Format}
-use Rattle.cfi_text.specs.declared.style.Format.TheVariants as formats
 use Rattle.cfi_text.specs.WriterOutput.{IsBeginning}
 use Rattle.cfi_stacks.specs.declared.listing.StackStyle.{StackStyle}
 use Rattle.cfi_stacks.specs.declared.sample_stack.SampleStack.{SampleStack}
 use Rattle.cfi_frames.specs.Reasons.{Reason, reason_for, reason_view}
-use Rattle.cfi_frames.specs.FrameJson.{frames_json}
-use Rattle.cfi_frames.specs.FrameObjects.{object_end}
+use Rattle.cfi_frames.specs.FrameJson.{frames_json, object_end}
+pub use Rattle.cfi_frames.specs.Outputs.{IsSaidIn}
+use Rattle.cfi_processes.specs.Rooms.{found_frames}
 use Rattle.cfi_stacks.specs.SampleMembers.{sample_head}
 use Rattle.cfi_stacks.specs.TakenSamples.{Taken}
 
@@ -42,10 +41,6 @@ kernel_frame with_functions in_kernel a = record {
   is_interrupted = false;
   site = if with_functions then in_kernel a else without_function (in_kernel a);
 }
-
-abbrev pub found_frames : Result Walk NoFrames → List StackFrame → List StackFrame
-found_frames (Ok walk) room = take walk.count room
-found_frames (Err why) room = []
 
 -- those of the call chain where the event copies no stacks
 abbrev pub user_frames_of : Bool → Taken → Result Walk NoFrames → List StackFrame → List Frame
@@ -100,11 +95,6 @@ sample_object raw stack =
     ++ object_end stack.reason)
 
 -- ---- a stack in either form
-
--- the lines of text are for people, and nothing is said of them
-abbrev pub IsSaidIn : Format → Type 0 → Type 0
-IsSaidIn formats.Text Is = ⊤
-IsSaidIn formats.Json Is = Is
 
 abbrev pub IsInFormat : StackStyle → Stack → List ℕ → Type 0
 IsInFormat style stack text = IsSaidIn style.format (text ≡ sample_object style.raw stack)

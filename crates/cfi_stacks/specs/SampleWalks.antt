@@ -12,7 +12,7 @@ use Rattle.cfi_processes.specs.declared.registers.SampleMachine.{SampleMachine}
 use Rattle.cfi_processes.specs.declared.sample_stack.NoFrames.{NoFrames}
 use Rattle.cfi_processes.specs.KnownFiles.{KnownFile}
 use Rattle.cfi_processes.specs.SampleStacks.{IsSampleUnwound}
-use Rattle.cfi_frames.specs.StackWalks.{IsWalkedInRoom}
+use Rattle.cfi_processes.specs.Rooms.{IsWalkedInRoom}
 
 module _ (machine : SampleMachine) (files : List KnownFile) (list : List MappedCode) where
   -- over a storage of 192 rules and 4 rows

@@ -4,8 +4,7 @@ ghost use Rattle.std.specs.Fmt.{decimal};
 ghost use Rattle.cfi_perf.specs.Samples.{sample_view};
 ghost use Rattle.cfi_mapped.specs.ThreadNames.{name_bytes};
 ghost use Rattle.cfi_text.specs.Texts.{Puts};
-ghost use Rattle.cfi_frames.specs.FrameLines.{filled};
-ghost use Rattle.cfi_stacks.specs.SampleMembers.{comm_text, cpu_member, nanoseconds_text};
+ghost use Rattle.cfi_stacks.specs.SampleMembers.{comm_text, cpu_member, filled, nanoseconds_text};
 ghost use Rattle.cfi_stacks.specs.SampleMembers.{number_members, sample_head, time_members};
 
 use crate::sample_head::put_without_name;

@@ -2,7 +2,7 @@
 use crate::sample_head::put_head;
 use crate::sample_stack::SampleStack;
 use cfi_frames::frame_style::FrameStyle;
-use cfi_frames::frame_text::{put_frame, put_reason};
+use cfi_frames::frame_text::put_frames;
 use cfi_text::text::Text;
 
 /// Puts the lines of a stack: one with the sample's thread, time and event, one for each frame of
@@ -14,9 +14,5 @@ pub(crate) fn put_sample_text(text: &mut Text, raw: bool, stack: &SampleStack<'_
         with_address: false,
     };
     put_head(text, stack.name, stack.time, &stack.sample);
-    for frame in stack.frames {
-        put_frame(text, style, frame);
-    }
-    put_reason(text, stack.reason);
-    text.put(b"\n");
+    put_frames(text, style, stack.frames, stack.reason);
 }

@@ -6,14 +6,14 @@ ghost use Rattle.cfi_processes.specs.KnownFiles.{known_view};
 ghost use Rattle.cfi_processes.specs.ProcessModules.{modules_in};
 ghost use Rattle.cfi_mapped.specs.Mappings.{AreMappedInOrder};
 ghost use Rattle.cfi_processes.specs.Modules.{loaded_module_view};
-ghost use Rattle.cfi_frames.specs.Rooms.{IsRoomFor};
+ghost use Rattle.cfi_processes.specs.Rooms.{IsRoomFor};
 ghost use Rattle.cfi_stacks.specs.SampleWalks.{IsSampleWalked};
 
-use cfi_frames::room::Room;
 use cfi_perf::UserState;
 use cfi_processes::process_code::ProcessCode;
 use cfi_processes::process_modules::FileModule;
 use cfi_processes::registers::SampleMachine;
+use cfi_processes::room::Room;
 use cfi_processes::sample_stack::{NoFrames, unwind_sample};
 use cfi_step::{Modules, Walk};
 

@@ -12,11 +12,11 @@ ghost use Rattle.cfi_stacks.specs.KnownSamples.{known_in};
 
 use crate::choice::Choice;
 use crate::profile_index::ProfileIndex;
-use cfi_frames::room::Room;
 use cfi_perf::{Event, PlaceKind, Record, RecordPlace};
 use cfi_processes::Frame;
 use cfi_processes::registers::SampleMachine;
 use cfi_processes::replay::Replay;
+use cfi_processes::room::Room;
 use cfi_text::reading::InputError;
 use std::alloc::{AllocError, Global};
 

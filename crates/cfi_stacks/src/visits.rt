@@ -9,8 +9,8 @@ ghost use Rattle.cfi_mapped.specs.Mappings.{AreMappedInOrder};
 ghost use Rattle.cfi_processes.specs.Modules.{loaded_module_view};
 ghost use Rattle.cfi_processes.specs.Replays.{AreModulesFor, HasOwnModules, replay_known};
 ghost use Rattle.cfi_processes.specs.Replays.{replay_files};
-ghost use Rattle.cfi_processes.specs.SampleStacks.{HasRoom};
-ghost use Rattle.cfi_frames.specs.Rooms.{IsRoomFor, KeepsNoRows};
+ghost use Rattle.cfi_processes.specs.Rooms.{HasRoom};
+ghost use Rattle.cfi_processes.specs.Rooms.{IsRoomFor, KeepsNoRows};
 ghost use Rattle.cfi_stacks.specs.Choices.{choice_view};
 ghost use Rattle.cfi_stacks.specs.Turns.{AreVisited, IsVisited, VisitsEvent, VisitsRecord};
 ghost use Rattle.cfi_stacks.specs.Turns.{VisitsTurn};
@@ -22,7 +22,6 @@ use crate::sample_walk::walk_sample;
 use crate::taken_sample::TakenSample;
 use crate::turns::{ChosenSamples, Walker, follow_other, is_left_out, left_after, load_for};
 use crate::visitor::{Stopped, Visitor};
-use cfi_frames::room::Room;
 use cfi_object::input::FileInput;
 use cfi_perf::{Event, PlaceKind, Record, RecordPlace};
 use cfi_processes::Frame;
@@ -30,6 +29,7 @@ use cfi_processes::process_code::KERNEL;
 use cfi_processes::process_modules::FileModule;
 use cfi_processes::profile_files::ProfileFile;
 use cfi_processes::replay::Replay;
+use cfi_processes::room::Room;
 use cfi_text::reading::InputError;
 
 /// Hands the stacks of the samples to the visitor, by the files; without functions, none is looked

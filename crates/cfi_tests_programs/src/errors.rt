@@ -1,6 +1,6 @@
 //! Lines of errors: that the longest ones are written, and what to do.
 use crate::comparison::expect;
-use cfi_dump::verdict_line::put_verdict;
+use cfi_files::verdict_line::put_verdict;
 use cfi_text::refusals::{write_refusal_end, write_refusal_told};
 use cfi_text::style::Format;
 use cfi_text::text::Text;

@@ -11,13 +11,6 @@ pub decimal_two : (n : ℕ) → 10 ≤ n → n < 100 → decimal n ≡ (48 + n /
 decimal_two n low high =
     rw (decimal_step n low (omega arith), decimal_digit (n / 10) (omega arith)) refl
 
-pub decimal_pair : (n : ℕ) → 100 ≤ n → n < 2 ^ 64 → decimal n ≡ decimal (n / 100) ++ (48 + n % 100 / 10) ∷ (48 + n % 100 % 10) ∷ []
-decimal_pair n low high =
-    let front : n / 10 / 10 ≡ n / 100 = omega arith in
-    let tens : n / 10 % 10 ≡ n % 100 / 10 = omega arith in
-    let ones : n % 10 ≡ n % 100 % 10 = omega arith in
-    rw (decimal_step n (omega arith) high, decimal_step (n / 10) (omega arith) (omega arith), append_assoc, front, tens, ← ones) refl
-
 -- ---- hexadecimal
 
 abbrev spell : ℕ → ℕ → List ℕ → List ℕ
@@ -105,34 +98,3 @@ hex_wide old n low high =
     let third : n % 256 / 16 ≡ n % 65536 / 16 % 16 = omega arith in
     let fourth : n % 256 % 16 ≡ n % 65536 % 16 = omega arith in
     rw (append_assoc, ← first, ← second, ← third, ← fourth, ← front, hex_pair n (omega arith) high, hex_pair (n / 256) (omega arith) (omega arith), append_assoc) refl
-
--- ---- addresses of five to seven digits
-
-pub hex_five : (n : ℕ) → 65536 ≤ n → n < 1048576
-    → digits 16 false n ≡ digit_glyph false (n / 65536) ∷ digit_glyph false (n / 4096 % 16) ∷ digit_glyph false (n / 256 % 16) ∷ digit_glyph false (n / 16 % 16) ∷ digit_glyph false (n % 16) ∷ []
-hex_five n low high =
-    let first : n / 16 / 4096 ≡ n / 65536 = omega arith in
-    let second : n / 16 / 256 % 16 ≡ n / 4096 % 16 = omega arith in
-    let third : n / 16 / 16 % 16 ≡ n / 256 % 16 = omega arith in
-    rw (hex_step n (omega arith) (omega arith), hex_four (n / 16) (omega arith) (omega arith), first, second, third) refl
-
-pub hex_six : (n : ℕ) → 1048576 ≤ n → n < 16777216
-    → digits 16 false n ≡ digit_glyph false (n / 1048576) ∷ digit_glyph false (n / 65536 % 16) ∷ digit_glyph false (n / 4096 % 16) ∷ digit_glyph false (n / 256 % 16) ∷ digit_glyph false (n / 16 % 16)
-    ∷ digit_glyph false (n % 16) ∷ []
-hex_six n low high =
-    let first : n / 16 / 65536 ≡ n / 1048576 = omega arith in
-    let second : n / 16 / 4096 % 16 ≡ n / 65536 % 16 = omega arith in
-    let third : n / 16 / 256 % 16 ≡ n / 4096 % 16 = omega arith in
-    let fourth : n / 16 / 16 % 16 ≡ n / 256 % 16 = omega arith in
-    rw (hex_step n (omega arith) (omega arith), hex_five (n / 16) (omega arith) (omega arith), first, second, third, fourth) refl
-
-pub hex_seven : (n : ℕ) → 16777216 ≤ n → n < 268435456
-    → digits 16 false n ≡ digit_glyph false (n / 16777216) ∷ digit_glyph false (n / 1048576 % 16) ∷ digit_glyph false (n / 65536 % 16) ∷ digit_glyph false (n / 4096 % 16) ∷ digit_glyph false (n / 256 % 16)
-    ∷ digit_glyph false (n / 16 % 16) ∷ digit_glyph false (n % 16) ∷ []
-hex_seven n low high =
-    let first : n / 16 / 1048576 ≡ n / 16777216 = omega arith in
-    let second : n / 16 / 65536 % 16 ≡ n / 1048576 % 16 = omega arith in
-    let third : n / 16 / 4096 % 16 ≡ n / 65536 % 16 = omega arith in
-    let fourth : n / 16 / 256 % 16 ≡ n / 4096 % 16 = omega arith in
-    let fifth : n / 16 / 16 % 16 ≡ n / 256 % 16 = omega arith in
-    rw (hex_step n (omega arith) (omega arith), hex_six (n / 16) (omega arith) (omega arith), first, second, third, fourth, fifth) refl

@@ -1,5 +1,5 @@
 -- A name part by part.
-use Rattle.std.proofs.Common.{◌≡◌, ◌∙◌, ℕ, ◌-◌, ◌<◌, ◌≤◌, ◌==◌, ◌&&◌, Bool, Some, true, false, List, [], ◌∷◌, ◌++◌, length, take, drop, nat_le, nat_lt, refl, sym, ap, subst, zero, suc, arith, append_assoc}
+use Rattle.std.proofs.Common.{◌≡◌, ◌∙◌, ℕ, ◌-◌, ◌<◌, ◌≤◌, ◌==◌, ◌&&◌, Bool, Some, true, false, List, [], ◌∷◌, ◌++◌, length, take, drop, nat_le, nat_lt, refl, sym, ap, subst, zero, suc, arith}
 use Rattle.std.specs.List.{flat_map, list_all}
 use Rattle.std.proofs.lemmas.List.{length-take, length-drop}
 use Rattle.std.proofs.lemmas.Bool.{ne_eqb, and_parts, le-leb, lt-ltb, le-ltb, leb-true, lt-leb, ltb-true}
@@ -62,17 +62,6 @@ some_left (b ∷ bytes) h = omega arith
 -- what is made of each part, of the first and of the others
 pub made_first : (f : NamePart → List ℕ) (bytes : List ℕ) → 0 < length bytes → flat_map f (parts bytes) ≡ f (first_part bytes) ++ flat_map f (parts (drop (length (first_part bytes).bytes) bytes))
 made_first f bytes h = ap (flat_map f) (parts_first bytes h)
-
--- ---- a text that the parts are appended to
-
--- one more, where this is the first of those that are left
-pub one_made : (f : NamePart → List ℕ) (bytes line : List ℕ) (part : NamePart) (left next all : List ℕ) → 0 < length bytes → part ≡ first_part bytes → left ≡ drop (length part.bytes) bytes → next ≡ line ++ f part →
-    line ++ flat_map f (parts bytes) ≡ all → next ++ flat_map f (parts left) ≡ all
-one_made f bytes line part left next all some first is e h =
-    let rest = parts (drop (length part.bytes) bytes) in
-    let made : flat_map f (parts bytes) ≡ f part ++ flat_map f rest = subst (λ (p : NamePart). flat_map f (parts bytes) ≡ f p ++ flat_map f (parts (drop (length p.bytes) bytes))) (sym first) (made_first f bytes some) in
-    ap (λ (xs : List ℕ). next ++ flat_map f (parts xs)) is ∙ ap (λ (x : List ℕ). x ++ flat_map f rest) e
-    ∙ append_assoc line (f part) (flat_map f rest) ∙ ap (λ (x : List ℕ). line ++ x) (sym made) ∙ h
 
 -- ---- most names
 

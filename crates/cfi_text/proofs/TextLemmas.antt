@@ -1,5 +1,5 @@
 -- A text that is put together part by part.
-use Rattle.std.proofs.Common.{◌≡◌, ◌∙◌, ℕ, ◌+◌, ◌<◌, ◌≤◌, ◌==◌, Bool, true, false, List, [], ◌∷◌, ◌++◌, refl, sym, ap, subst, append-nil, append_assoc, length, drop, take, get_or, map, add-one}
+use Rattle.std.proofs.Common.{◌≡◌, ◌∙◌, ℕ, ◌+◌, ◌<◌, ◌≤◌, ◌==◌, Bool, true, false, List, [], ◌∷◌, ◌++◌, refl, sym, ap, subst, append-nil, append_assoc, length, drop, take, get_or, map, add-one, Result, Ok, Err, IfOk, OnOk}
 use Rattle.std.specs.Prelude.{if◌then◌else◌}
 use Rattle.std.specs.Fmt.{WritesInCalls}
 use Rattle.std.specs.List.{FoldsTo, concat, flat_map}
@@ -31,6 +31,11 @@ nothing x = record { remembers = λ short. short; adds = λ whole. sym (append-n
 
 pub same : (x y : Text) (a b : List ℕ) → a ≡ b → Puts a x y → Puts b x y
 same x y a b is p = subst (λ (c : List ℕ). Puts c x y) is p
+
+-- what is returned of a text that is whole
+pub made : {V E : Type 0} (items : V → List ℕ) (r : Result V E) (empty text : Text) (part : List ℕ) → contents empty ≡ [] → Puts part empty text → OnOk r (IsWhole text) → IfOk r (λ bytes. items bytes ≡ contents text) → IfOk r (λ bytes. items bytes ≡ part)
+made items (Ok bytes) empty text part none put whole is = is ∙ put.adds whole ∙ ap (λ (xs : List ℕ). xs ++ part) none
+made items (Err e) empty text part none put whole is = tt
 
 -- the other branch of a test for a number
 pub not_this : (a b n : ℕ) → a ≡ b → (a ≡ n → ⊥) → (b == n) ≡ false

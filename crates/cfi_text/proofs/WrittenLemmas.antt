@@ -4,7 +4,7 @@ use Rattle.std.proofs.Math.Seq.{take-length}
 use Rattle.std.proofs.lemmas.List.{take-append-drop}
 use Rattle.std.specs.Io.KnownBytes.{Appends, Keeps}
 use Rattle.std.specs.Result.{IsErr}
-use Rattle.cfi_text.specs.WriterOutput.{IsBeginning, Writes, WritesAfter}
+use Rattle.cfi_text.specs.WriterOutput.{IsBeginning, Writes}
 
 pub appends_then : (a b c : Option (List ℕ)) (x y : List ℕ) → Appends a b x → Appends b c y → Appends a c (x ++ y)
 appends_then None b c x y p q = tt
@@ -55,9 +55,6 @@ given_all old new left text is none =
     let whole : is.front ≡ text = sym (append-nil is.front) ∙ ap (λ xs. is.front ++ xs) (sym none) ∙ is.whole in
     let P : List ℕ → Type 0 = λ xs. Appends old new xs in subst P whole is.given
 
-pub given_part : (old new : Option (List ℕ)) (left text : List ℕ) → IsGiven old new left text → (front : List ℕ) × Appends old new front × IsBeginning front text
-given_part old new left text is = (is.front, is.given, (left, is.whole))
-
 -- ---- one part of a text after another
 
 pub given_then : (old new newer : Option (List ℕ)) (part left text : List ℕ) → IsGiven old new (part ++ left) text → Appends new newer part → IsGiven old newer left text
@@ -89,67 +86,3 @@ writes_last old new newer (Err e) left text is (front, more, (rest, cut)) = (
 pub writes_refused : {T E : Type 0} (old new : Option (List ℕ)) (r : Result T E) (text : List ℕ) → IsErr r → ((front : List ℕ) × Appends old new front × IsBeginning front text) → Writes old new r text
 writes_refused old new (Ok x) text h more = cc
 writes_refused old new (Err e) text h more = more
-
--- a text of two parts, and then a third
-pub regrouped : {T E : Type 0} (old new : Option (List ℕ)) (r : Result T E) (a b c : List ℕ) → Writes old new r (a ++ (b ++ c)) → Writes old new r ((a ++ b) ++ c)
-regrouped old new r a b c h = rw append_assoc h
-
--- a text of five parts, and one of six
-pub regrouped_five : {T E : Type 0} (old new : Option (List ℕ)) (r : Result T E) (a b c d e : List ℕ) → Writes old new r (a ++ (b ++ (c ++ (d ++ e)))) → Writes old new r ((((a ++ b) ++ c) ++ d) ++ e)
-regrouped_five old new r a b c d e h =
-    rw (append_assoc ((a ++ b) ++ c) d e, append_assoc (a ++ b) c (d ++ e), append_assoc a b (c ++ (d ++ e))) h
-
-pub regrouped_six : {T E : Type 0} (old new : Option (List ℕ)) (r : Result T E) (a b c d e f : List ℕ) → Writes old new r (a ++ (b ++ (c ++ (d ++ (e ++ f))))) → Writes old new r (((((a ++ b) ++ c) ++ d) ++ e) ++ f)
-regrouped_six old new r a b c d e f h =
-    rw (append_assoc (((a ++ b) ++ c) ++ d) e f)
-    (regrouped_five old new r a b c d (e ++ f) h)
-
--- ---- a text that waits
-
-pub behind_refused : {T E : Type 0} (waiting waits : List ℕ) (old new : Option (List ℕ)) (r : Result T E) (text : List ℕ) → IsErr r →
-    ((front : List ℕ) × Appends old new front × IsBeginning front (waiting ++ text)) → WritesAfter waiting waits old new r text
-behind_refused waiting waits old new (Ok x) text h more = cc
-behind_refused waiting waits old new (Err e) text h more = more
-
--- where a part of it was written, and the rest waits
-pub behind_less : (old new newer : Option (List ℕ)) (waiting waits left text : List ℕ) → IsGiven old new (waiting ++ left) text →
-    ((front : List ℕ) × Appends new newer front × (front ++ waits ≡ waiting ++ [])) → IsGiven old newer (waits ++ left) text
-behind_less old new newer waiting waits left text is (front, more, same) = record {
-  front = is.front ++ front;
-  given = appends_then old new newer is.front front is.given more;
-  whole = append_assoc is.front front (waits ++ left) ∙ ap (λ xs. is.front ++ xs) (sym (append_assoc front waits left) ∙ ap (λ xs. xs ++ left) (same ∙ append-nil waiting)) ∙ is.whole;
-}
-
--- where the writer failed at it
-pub behind_begun : (old new newer : Option (List ℕ)) (waiting left text : List ℕ) → IsGiven old new (waiting ++ left) text →
-    ((front : List ℕ) × Appends new newer front × IsBeginning front (waiting ++ [])) → (front : List ℕ) × Appends old newer front × IsBeginning front text
-behind_begun old new newer waiting left text is (front, more, (rest, cut)) =
-    beginning_then old new newer waiting left text is (front, more, (rest, cut ∙ append-nil waiting))
-
--- where the next part waits too
-pub behind_more : (old new : Option (List ℕ)) (waiting waits part left more text : List ℕ) → IsGiven old new (waiting ++ more) text →
-    waits ≡ waiting ++ part → more ≡ part ++ left → IsGiven old new (waits ++ left) text
-behind_more old new waiting waits part left more text is e f = record {
-  front = is.front;
-  given = is.given;
-  whole = ap (λ xs. is.front ++ xs) (ap (λ xs. xs ++ left) e ∙ append_assoc waiting part left ∙ ap (λ xs. waiting ++ xs) (sym f)) ∙ is.whole;
-}
-
--- where nothing more is left
-pub behind_all : (old new : Option (List ℕ)) (waits left text : List ℕ) → IsGiven old new (waits ++ left) text → left ≡ [] →
-    (front : List ℕ) × Appends old new front × (front ++ waits ≡ text)
-behind_all old new waits left text is none =
-    (is.front, is.given, ap (λ xs. is.front ++ xs) (sym (append-nil waits) ∙ ap (λ xs. waits ++ xs) (sym none)) ∙ is.whole)
-
--- a line of which the front waits, and its end
-pub line_given : (old new : Option (List ℕ)) (waits text end : List ℕ) → ((front : List ℕ) × Appends old new front × (front ++ waits ≡ text)) →
-    IsGiven old new (waits ++ end) (text ++ end)
-line_given old new waits text end (front, given, same) = record {
-  front = front;
-  given = given;
-  whole = sym (append_assoc front waits end) ∙ ap (λ xs. xs ++ end) same;
-}
-
-pub line_begun : (old new : Option (List ℕ)) (text end : List ℕ) → ((front : List ℕ) × Appends old new front × IsBeginning front text) →
-    (front : List ℕ) × Appends old new front × IsBeginning front (text ++ end)
-line_begun old new text end (front, given, (rest, cut)) = (front, given, (rest ++ end, sym (append_assoc front rest end) ∙ ap (λ xs. xs ++ end) cut))

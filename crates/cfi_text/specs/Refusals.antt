@@ -15,15 +15,6 @@ refusal_line error = line (codes "refused " ++ name_of error) 1
 abbrev pub out_of_memory : Line
 out_of_memory = refusal_line OutOfMemory
 
-abbrev pub wrong_words : Line
-wrong_words = line (codes "wrong words") 2
-
-abbrev pub wrong_hexadecimal : Line
-wrong_hexadecimal = line (codes "wrong hexadecimal") 2
-
-abbrev pub wrong_input : Line
-wrong_input = line (codes "wrong input") 2
-
 -- ---- the same by the format
 
 -- an object of JSON that says why there is no answer

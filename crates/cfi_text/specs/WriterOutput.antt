@@ -23,12 +23,3 @@ Prints printed old new result =
 abbrev pub PrintsSome :
     {E : Type 0} → (Line → Type 0) → Option (List ℕ) → Option (List ℕ) → Result ℕ E → Type 0
 PrintsSome Is old new result = (printed : Line) × Prints printed old new result × Is printed
-
--- The text comes after one that waits, of which a front may be written. Where the writer fails, a
--- beginning of both has been written.
-abbrev pub WritesAfter :
-    {T E : Type 0} → List ℕ → List ℕ → Option (List ℕ) → Option (List ℕ) → Result T E → List ℕ →
-    Type 0
-WritesAfter waiting waits old new result text = MatchResult result
-    (λ _. (front : List ℕ) × Appends old new front × (front ++ waits ≡ waiting ++ text))
-    (λ _. (front : List ℕ) × Appends old new front × IsBeginning front (waiting ++ text))

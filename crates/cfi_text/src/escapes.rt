@@ -1,5 +1,5 @@
 //! What stands for a name, by where it is printed.
-ghost use Rattle.std.specs.Prelude.{◌≡◌, ◌∷◌, [], flat_map};
+ghost use Rattle.std.specs.Prelude.{◌≡◌, ◌∷◌, [], IfOk, flat_map};
 ghost use Rattle.cfi_text.specs.Escapes.{drawn, entity, escaped, escaped_part, harmless};
 ghost use Rattle.cfi_text.specs.Escapes.{is_outside_xml, shown_byte, with_bytes};
 ghost use Rattle.cfi_text.specs.JsonTexts.{json_escape, json_escaped, json_number};
@@ -8,9 +8,9 @@ ghost use Rattle.cfi_text.specs.JsonTexts.{replacement};
 ghost use Rattle.cfi_text.specs.Names.{byte_escape, name_part_view, shown, shown_part};
 ghost use Rattle.cfi_text.specs.Texts.{Puts};
 
-use crate::json::EXACT;
 use crate::name_parts::{Kind, Part, byte_escape, digit, first_part, is_plain, scalar};
 use crate::text::Text;
+use std::alloc::{AllocError, Global};
 
 /// Where a name is printed.
 #[derive(Clone, Copy, Debug, PartialEq, Eq)]
@@ -30,6 +30,9 @@ pub enum Escaping {
 /// What stands between the functions of a stack under `Escaping::Plain`: NUL, which comes before
 /// every other byte, and is escaped in names.
 pub const SEPARATOR: u8 = 0;
+
+/// The numbers below this one are the same for every reader of JSON.
+const EXACT: u64 = 1 << 53;
 
 impl Text {
     /// Appends what stands for a name: at once where each byte is printable ASCII, and so it
@@ -224,6 +227,15 @@ impl Text {
             _ => self.put(&[byte]),
         }
     }
+}
+
+/// Returns the name as it is printed in a text. Fails where memory is refused. Allocates for it.
+pub fn shown_name(alloc: Global, name: &[u8]) -> Result<Vec<u8>, AllocError>
+    ensures { IfOk result (λ text. text.items ≡ shown name.now) }
+{
+    let mut text = Text::new(alloc);
+    text.name(name);
+    text.into_bytes()
 }
 
 /// Returns whether this is the number of a character that an XML document doesn't have.

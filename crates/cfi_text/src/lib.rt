@@ -3,17 +3,14 @@
 //! there is no answer. `reading` and `beginnings` read an input to its end.
 #![tactic(auto)]
 
+mod addresses;
 pub mod beginnings;
 pub mod error_lines;
 pub mod error_words;
 pub mod escapes;
 pub mod input_refusals;
-pub mod json;
-pub mod line_buffer;
 pub mod lines;
 pub mod name_parts;
-pub mod names;
-pub mod numbers;
 pub mod reading;
 pub mod refusals;
 pub mod register_names;

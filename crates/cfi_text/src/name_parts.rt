@@ -1,15 +1,13 @@
 //! Names of functions, files and threads, as they are printed: UTF-8 as it is, but for control
 //! characters, which are escaped as `\x1b`, as is each byte that isn't UTF-8. So no name moves a
 //! terminal's cursor or breaks a line.
-ghost use Rattle.std.specs.Prelude.{◌≡◌, ◌<◌, ◌++◌, IfOk, OnOk, Some, false, flat_map, length};
+ghost use Rattle.std.specs.Prelude.{◌≡◌, ◌<◌, Some, false, length};
 ghost use Rattle.std.specs.Fmt.{digit_glyph};
 ghost use Rattle.std.specs.List.{list_all};
 ghost use Rattle.cfi_text.specs.Names.{byte_escape, first_part, is_control};
 ghost use Rattle.cfi_text.specs.Names.{is_printable_ascii, kind_of, name_part_view, scalar};
-ghost use Rattle.cfi_text.specs.Names.{shown, shown_part};
 
 use bstr::{decode_lossy, decode_utf8};
-use std::alloc::{AllocError, Global};
 
 /// What a part of a name is.
 #[derive(Clone, Copy, Debug, PartialEq, Eq)]
@@ -87,42 +85,6 @@ pub fn is_plain(name: &[u8]) -> bool
         is_plain = is_plain & (0x20 <= *byte && *byte < 0x7f);
     }
     is_plain
-}
-
-/// Returns the name as it is printed in a text. Allocates for it.
-pub fn shown_name(alloc: Global, name: &[u8]) -> Result<Vec<u8>, AllocError>
-    ensures { IfOk result (λ text. text.items ≡ shown name.now) }
-{
-    let mut text = Vec::new(alloc);
-    let mut left = name;
-    while !left.is_empty() {
-        let part = first_part(left);
-        push_part(&mut text, part)?;
-        left = &left[part.bytes.len()..];
-    }
-    Ok(text)
-}
-
-/// Appends what is printed of a part of a name in a text. Fails where memory is refused.
-pub fn push_part(text: &mut Vec<u8>, part: Part<'_>) -> Result<(), AllocError>
-    ensures { OnOk result
-        (text.new.items ≡ text.old.items ++ shown_part (name_part_view part.entry)) }
-{
-    match part.kind {
-        Kind::Shown => text.extend_from_slice(part.bytes),
-        Kind::Control | Kind::Stray => push_escapes(text, part.bytes),
-    }
-}
-
-/// Appends what stands for the bytes where they aren't shown. Fails where memory is refused.
-pub fn push_escapes(text: &mut Vec<u8>, bytes: &[u8]) -> Result<(), AllocError>
-    ensures { OnOk result
-        (text.new.items ≡ text.old.items ++ flat_map byte_escape bytes.now) }
-{
-    for byte in bytes {
-        text.extend_from_slice(&byte_escape(*byte))?;
-    }
-    Ok(())
 }
 
 /// Returns what stands for a byte in a text, as `\x1b`.

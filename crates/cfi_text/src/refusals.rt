@@ -1,9 +1,7 @@
 //! The lines that say why there is no answer.
 ghost use Rattle.std.specs.Prelude.{◌++◌, [], ◌∷◌};
-ghost use Rattle.cfi_text.specs.Refusals.{error_end, error_in, reason_end, reason_line};
-ghost use Rattle.cfi_text.specs.Refusals.{refusal_end, refusal_in, refusal_line, refusal_told};
-ghost use Rattle.cfi_text.specs.Refusals.{refusal_saying, wrong_hexadecimal, wrong_input};
-ghost use Rattle.cfi_text.specs.Refusals.{wrong_words};
+ghost use Rattle.cfi_text.specs.Refusals.{error_in, reason_line, refusal_end, refusal_in};
+ghost use Rattle.cfi_text.specs.Refusals.{refusal_line, refusal_saying, refusal_told};
 ghost use Rattle.cfi_text.specs.ErrorWords.{error_words};
 ghost use Rattle.cfi_text.specs.WriterOutput.{Writes, Prints};
 
@@ -13,30 +11,6 @@ use crate::style::Format;
 use cfi_read_core::Error;
 use std::io;
 use std::io::Write;
-
-/// Prints that the words are wrong, and returns the status 2.
-pub fn write_wrong_words<W: Write>(output: &mut W) -> io::Result<u8>
-    ensures { Prints wrong_words (W.contents output.old) (W.contents output.new) result }
-{
-    write_text(output, b"wrong words\n")?;
-    Ok(2)
-}
-
-/// Prints that the input is not hexadecimal, and returns the status 2.
-pub fn write_wrong_hexadecimal<W: Write>(output: &mut W) -> io::Result<u8>
-    ensures { Prints wrong_hexadecimal (W.contents output.old) (W.contents output.new) result }
-{
-    write_text(output, b"wrong hexadecimal\n")?;
-    Ok(2)
-}
-
-/// Prints that the input can't be read, and returns the status 2.
-pub fn write_wrong_input<W: Write>(output: &mut W) -> io::Result<u8>
-    ensures { Prints wrong_input (W.contents output.old) (W.contents output.new) result }
-{
-    write_text(output, b"wrong input\n")?;
-    Ok(2)
-}
 
 /// Prints `refused` and the name of the error, and returns the status 1.
 pub fn write_refusal<W: Write>(output: &mut W, error: Error) -> io::Result<u8>
@@ -82,38 +56,6 @@ fn write_error<W: Write>(
     match format {
         Format::Text => write_between(output, before, reason, b"\n"),
         Format::Json => write_between(output, b"{\"error\":\"", reason, b"\"}\n"),
-    }
-}
-
-/// Prints why there is no answer, after what was asked for, and returns the status 1: in text
-/// after another, in JSON as the end of an object that has begun.
-pub fn write_reason_end<W: Write>(
-    output: &mut W,
-    format: Format,
-    before: &[u8],
-    reason: &str,
-) -> io::Result<u8>
-    ensures { Prints (reason_end format before.now reason.now)
-        (W.contents output.old) (W.contents output.new) result }
-{
-    write_error_end(output, format, before, reason)?;
-    Ok(1)
-}
-
-/// Writes the end of the line that says why there is no answer.
-fn write_error_end<W: Write>(
-    output: &mut W,
-    format: Format,
-    before: &[u8],
-    reason: &str,
-) -> io::Result<()>
-    ensures { Writes (W.contents output.old) (W.contents output.new) result
-        (error_end format before.now reason.now ++ 10 ∷ []) }
-{
-    let reason = reason.as_bytes();
-    match format {
-        Format::Text => write_between(output, before, reason, b"\n"),
-        Format::Json => write_between(output, b"\"error\":\"", reason, b"\"}\n"),
     }
 }
 

@@ -1,12 +1,9 @@
 //! A text that is put together part by part, and then written or returned.
 ghost use Rattle.std.specs.Prelude.{◌≡◌, [], IfOk, IfSome, OnOk, true};
-ghost use Rattle.cfi_text.specs.Lines.{address_text};
 ghost use Rattle.cfi_text.specs.Texts.{IsWhole, Puts, contents};
 ghost use Rattle.cfi_text.specs.WriterOutput.{Writes};
 
-use crate::line_buffer::LineBuffer;
 use crate::lines::write_text;
-use crate::numbers::push_address;
 use itoa::{Buffer, Integer};
 use std::alloc::{AllocError, Global};
 use std::fmt::{Display, Write as _};
@@ -19,8 +16,6 @@ use std::{fmt, io};
 pub struct Text {
     bytes: Vec<u8>,
     is_short: bool,
-    /// The digits of an address, before they are appended.
-    digits: LineBuffer,
 }
 
 impl Text {
@@ -32,7 +27,6 @@ impl Text {
         Text {
             bytes: Vec::new(alloc),
             is_short: false,
-            digits: LineBuffer::new(),
         }
     }
 
@@ -52,25 +46,6 @@ impl Text {
     {
         let mut buffer = Buffer::new();
         self.put(buffer.format(number).as_bytes());
-    }
-
-    /// Appends an address, as `0x` and lower-case digits.
-    pub fn address(&mut self, address: u64)
-        ensures { Puts (address_text address) self.old self.new }
-    {
-        self.digits.clear();
-        if push_address(&mut self.digits, address).is_err() {
-            self.is_short = true;
-            return;
-        }
-        if self.is_short
-            || self
-                .bytes
-                .extend_from_slice(self.digits.as_slice())
-                .is_err()
-        {
-            self.is_short = true;
-        }
     }
 
     /// Appends the bytes after as many spaces as make them so wide.

@@ -1,4 +1,4 @@
-//! What gimli_cfi returns, by the static library of crates/cfi_fuzz.
+//! What gimli_cfi returns, by the static library of crates/cfi_beside_gimli.
 use crate::{Outcome, Question};
 
 #[repr(C)]
@@ -13,7 +13,7 @@ struct RawAsked {
 }
 
 unsafe extern "C" {
-    fn cfi_fuzz_expression(
+    fn cfi_answers_expression(
         asked: *const RawAsked,
         expression: *const u8,
         expression_len: usize,
@@ -39,7 +39,7 @@ pub fn outcome(question: &Question) -> Outcome {
     let mut room = [0; 8];
     // Each slice is passed with its length, and the struct is laid out as the library's.
     let count = unsafe {
-        cfi_fuzz_expression(
+        cfi_answers_expression(
             &asked,
             question.expression.as_ptr(),
             question.expression.len(),

@@ -2,7 +2,7 @@
 //! both. `tools/compare_with_gimli` and the fuzz target in `fuzz/` compare by it.
 //!
 //! gimli_cfi is asked through two static libraries: crates/cfi_c for the rows of addresses, and
-//! crates/cfi_bench for passes over whole sections.
+//! crates/cfi_beside_gimli for passes over whole sections.
 pub mod answer;
 pub mod c_library;
 pub mod departure;

@@ -1,4 +1,4 @@
-//! Whole passes of gimli_cfi over a section or a header, by the static library of crates/cfi_bench.
+//! Whole passes of gimli_cfi over a section or a header, by the static library of crates/cfi_beside_gimli.
 //!
 //! Its sections are `.eh_frame` with addresses of 8 bytes. The bases of text and data are absent,
 //! and there is no vendor: gimli is asked with `Settings::of_passes`.
@@ -6,7 +6,7 @@ use crate::question::Question;
 use crate::sums::Done;
 
 unsafe extern "C" {
-    fn cfi_bench_section_le(
+    fn cfi_passes_section_le(
         measure: u32,
         section: *const u8,
         length: usize,
@@ -15,7 +15,7 @@ unsafe extern "C" {
         number: usize,
         count: *mut u64,
     ) -> u64;
-    fn cfi_bench_section_be(
+    fn cfi_passes_section_be(
         measure: u32,
         section: *const u8,
         length: usize,
@@ -24,17 +24,7 @@ unsafe extern "C" {
         number: usize,
         count: *mut u64,
     ) -> u64;
-    fn cfi_bench_compiled_le(
-        measure: u32,
-        section: *const u8,
-        length: usize,
-        base: u64,
-        addresses: *const u64,
-        number: usize,
-        passes: u64,
-        count: *mut u64,
-    ) -> u64;
-    fn cfi_bench_compiled_be(
+    fn cfi_passes_compiled_le(
         measure: u32,
         section: *const u8,
         length: usize,
@@ -44,7 +34,17 @@ unsafe extern "C" {
         passes: u64,
         count: *mut u64,
     ) -> u64;
-    fn cfi_bench_header_le(
+    fn cfi_passes_compiled_be(
+        measure: u32,
+        section: *const u8,
+        length: usize,
+        base: u64,
+        addresses: *const u64,
+        number: usize,
+        passes: u64,
+        count: *mut u64,
+    ) -> u64;
+    fn cfi_passes_header_le(
         measure: u32,
         section: *const u8,
         length: usize,
@@ -56,7 +56,7 @@ unsafe extern "C" {
         number: usize,
         count: *mut u64,
     ) -> u64;
-    fn cfi_bench_header_be(
+    fn cfi_passes_header_be(
         measure: u32,
         section: *const u8,
         length: usize,
@@ -70,7 +70,7 @@ unsafe extern "C" {
     ) -> u64;
 }
 
-/// The passes over a section, by their numbers in crates/cfi_bench: the offset of each entry; the
+/// The passes over a section, by their numbers in crates/cfi_beside_gimli: the offset of each entry; the
 /// initial address and the length of each FDE; each row by `next_row`, with all rules.
 const OF_SECTION: [u32; 3] = [0, 1, 7];
 /// The passes over a header: the pointer that a lookup of each address returns; the start and the
@@ -104,9 +104,9 @@ pub fn of_compiled(question: &Question, addresses: &[u64]) -> Done {
         settings, section, ..
     } = question;
     let call = if settings.big_endian {
-        cfi_bench_compiled_be
+        cfi_passes_compiled_be
     } else {
-        cfi_bench_compiled_le
+        cfi_passes_compiled_le
     };
     let mut count = 0;
     // SAFETY: each pointer leads to as many values as is said, and none is kept after the call.
@@ -130,9 +130,9 @@ fn section_pass(question: &Question, measure: u32) -> Done {
         settings, section, ..
     } = question;
     let call = if settings.big_endian {
-        cfi_bench_section_be
+        cfi_passes_section_be
     } else {
-        cfi_bench_section_le
+        cfi_passes_section_le
     };
     let (at, length) = (section.as_ptr(), section.len());
     let none: &[u64] = &[];
@@ -162,9 +162,9 @@ fn header_pass(question: &Question, measure: u32, addresses: &[u64]) -> Done {
         return Done::FAILED;
     };
     let call = if settings.big_endian {
-        cfi_bench_header_be
+        cfi_passes_header_be
     } else {
-        cfi_bench_header_le
+        cfi_passes_header_le
     };
     let mut count = 0;
     // SAFETY: each pointer leads to as many values as is said, and none is kept after the call.

@@ -32,7 +32,7 @@ pub const HEADER_TEXT: u8 = 16;
 pub const HEADER_DATA: u8 = 32;
 
 impl Settings {
-    /// Those of the passes of crates/cfi_bench: no bases of text and data, and no vendor.
+    /// Those of the passes of crates/cfi_beside_gimli: no bases of text and data, and no vendor.
     pub fn of_passes(self) -> Settings {
         Settings {
             aarch64: false,

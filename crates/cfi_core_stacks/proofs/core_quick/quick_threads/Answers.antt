@@ -12,7 +12,7 @@ use Rattle.cfi_core_stacks.specs.CoreCode.{core_mappings}
 use Rattle.cfi_core_stacks.specs.CoreOutputs.{core_memory}
 use Rattle.cfi_core_stacks.proofs.CoreRunLemmas.{text_there}
 use Rattle.cfi_core_stacks.proofs.QuickLemmas.{memory_same, quick_printed, same_mappings}
-use Rattle.cfi_frames.proofs.RoomLemmas.{room_for_all}
+use Rattle.cfi_processes.proofs.RoomLemmas.{room_for_all}
 use Rattle.cfi_core_stacks.proofs.ThreadLemmas.{Printed, all_threads, next_thread, none_printed, one_passed, one_printed}
 use Rattle.cfi_core_stacks.proofs.core_quick.quick_threads.Goals as goal
 

@@ -6,7 +6,7 @@ use Rattle.cfi_cores.specs.CoreSegments.{CoreSegment}
 use Rattle.cfi_cores.specs.CoreThreads.{thread_view}
 use Rattle.cfi_processes.specs.KnownFiles.{known_view}
 use Rattle.cfi_core_stacks.specs.CoreOutputs.{core_memory}
-use Rattle.cfi_frames.specs.Rooms.{IsRoomFor}
+use Rattle.cfi_processes.specs.Rooms.{IsRoomFor}
 use Rattle.cfi_core_stacks.proofs.ThreadLemmas.{Printed}
 use Rattle.cfi_core_stacks.proofs.core_quick.quick_threads.Given as goal
 

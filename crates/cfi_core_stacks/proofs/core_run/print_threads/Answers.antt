@@ -11,7 +11,7 @@ use Rattle.cfi_mapped.specs.ThreadNames.{name_bytes}
 use Rattle.cfi_core_stacks.specs.CoreCode.{core_mappings}
 use Rattle.cfi_core_stacks.specs.CoreOutputs.{core_memory}
 use Rattle.cfi_core_stacks.proofs.CoreRunLemmas.{text_there}
-use Rattle.cfi_frames.proofs.RoomLemmas.{room_for_all}
+use Rattle.cfi_processes.proofs.RoomLemmas.{room_for_all}
 use Rattle.cfi_core_stacks.proofs.ThreadLemmas.{Printed, all_threads, broken, next_thread, none_printed, one_passed, one_printed, printed}
 use Rattle.cfi_core_stacks.proofs.core_run.print_threads.Goals as goal
 

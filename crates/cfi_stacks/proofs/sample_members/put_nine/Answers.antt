@@ -1,6 +1,6 @@
 use Rattle.std.proofs.Common.{◌∙◌, List, ℕ, ap, codes}
 use Rattle.cfi_text.proofs.TextLemmas.{same}
-use Rattle.cfi_frames.specs.FrameLines.{filled}
+use Rattle.cfi_stacks.specs.SampleMembers.{filled}
 use Rattle.cfi_stacks.proofs.sample_members.put_nine.Goals as goal
 
 pub returns : goal.returns

@@ -5,7 +5,7 @@ use Rattle.cfi_step.specs.ModuleLists.{module_list}
 use Rattle.cfi_processes.specs.KnownFiles.{known_view}
 use Rattle.cfi_processes.specs.Modules.{loaded_module_view}
 use Rattle.cfi_processes.proofs.CodeLemmas.{modules_sorted}
-use Rattle.cfi_frames.proofs.RoomLemmas.{numbered_before, refill-same, room_after, rows_after, rows_before}
+use Rattle.cfi_processes.proofs.RoomLemmas.{numbered_before, refill-same, room_after, rows_after, rows_before}
 use Rattle.cfi_stacks.proofs.SampleWalks.{sample_fits}
 use Rattle.cfi_stacks.proofs.sample_walk.walk_sample.Goals as goal
 

@@ -3,7 +3,7 @@ use Rattle.cfi_perf.specs.Events.{record_view}
 use Rattle.cfi_processes.specs.Replays.{replay_known}
 use Rattle.cfi_stacks.specs.Choices.{choice_view}
 use Rattle.cfi_stacks.specs.KnownSamples.{known_in}
-use Rattle.cfi_frames.proofs.RoomLemmas.{still_room_for}
+use Rattle.cfi_processes.proofs.RoomLemmas.{still_room_for}
 use Rattle.cfi_stacks.proofs.VisitLemmas.{chosen_stopped, chosen_visited, event_of}
 use Rattle.cfi_stacks.proofs.visits.visit_chosen.Goals as goal
 

@@ -5,7 +5,7 @@ use Rattle.cfi_processes.specs.Replays.{replay_known}
 use Rattle.cfi_stacks.specs.KnownSamples.{known_in}
 use Rattle.cfi_stacks.specs.TakenSamples.{Taken}
 use Rattle.cfi_stacks.specs.Turns.{IsVisited}
-use Rattle.cfi_frames.proofs.RoomLemmas.{still_room_for}
+use Rattle.cfi_processes.proofs.RoomLemmas.{still_room_for}
 use Rattle.cfi_stacks.proofs.TakenLemmas.{taken_as}
 use Rattle.cfi_stacks.proofs.VisitLemmas.{of_sample}
 use Rattle.cfi_stacks.proofs.visits.visit_event.Goals as goal

@@ -5,8 +5,8 @@ use Rattle.cfi_processes.specs.declared.profile_files.ProfileFile.{ProfileFile}
 use Rattle.cfi_processes.specs.KnownFiles.{known_view}
 use Rattle.cfi_stacks.specs.Choices.{choice_view}
 use Rattle.cfi_stacks.specs.KnownSamples.{known_in}
-use Rattle.cfi_frames.specs.Rooms.{IsRoomFor}
-use Rattle.cfi_frames.proofs.RoomLemmas.{room_for_all}
+use Rattle.cfi_processes.specs.Rooms.{IsRoomFor}
+use Rattle.cfi_processes.proofs.RoomLemmas.{room_for_all}
 use Rattle.cfi_stacks.proofs.VisitLemmas.{after_turn, all_visited, many_visited, none_visited, place_at, place_inside, places_passed, stopped_turn, turn_of}
 use Rattle.cfi_stacks.proofs.visits.visit_in.Goals as goal
 

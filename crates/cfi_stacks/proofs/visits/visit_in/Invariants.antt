@@ -4,7 +4,7 @@ use Rattle.cfi_processes.specs.KnownFiles.{known_view}
 use Rattle.cfi_processes.specs.Replays.{HasOwnModules}
 use Rattle.cfi_stacks.specs.Choices.{choice_view}
 use Rattle.cfi_stacks.specs.KnownSamples.{known_in}
-use Rattle.cfi_frames.specs.Rooms.{IsRoomFor}
+use Rattle.cfi_processes.specs.Rooms.{IsRoomFor}
 use Rattle.cfi_stacks.proofs.VisitLemmas.{SoFar}
 use Rattle.cfi_stacks.proofs.visits.visit_in.Given as goal
 

@@ -2,7 +2,7 @@ use Rattle.std.proofs.Common.{inl, refl}
 use Rattle.cfi_processes.specs.Replays.{replay_known}
 use Rattle.cfi_stacks.specs.Choices.{choice_view}
 use Rattle.cfi_stacks.specs.KnownSamples.{known_in}
-use Rattle.cfi_frames.proofs.RoomLemmas.{still_room_for}
+use Rattle.cfi_processes.proofs.RoomLemmas.{still_room_for}
 use Rattle.cfi_stacks.proofs.VisitLemmas.{other_visited}
 use Rattle.cfi_stacks.proofs.visits.visit_place.Goals as goal
 

@@ -1,3 +1,0 @@
-mod SendingLemmas
-mod FdeRowsSent
-mod EntryRowsSent

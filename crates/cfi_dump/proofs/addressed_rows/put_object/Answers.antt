@@ -1,5 +1,0 @@
-use Rattle.cfi_text.proofs.TextLemmas.{both}
-use Rattle.cfi_dump.proofs.addressed_rows.put_object.Goals as goal
-
-pub returns : goal.returns
-returns c = both _ _ _ _ _ c.put.ensures (both _ _ _ _ _ c.address.ensures (both _ _ _ _ _ c.put-2.ensures (both _ _ _ _ _ c.address-2.ensures (both _ _ _ _ _ c.put-3.ensures (both _ _ _ _ _ c.put_function_member.ensures c.put-4.ensures)))))

@@ -1,5 +1,0 @@
-use Rattle.cfi_dump.proofs.SendingLemmas.{grows_sent, grows_then}
-use Rattle.cfi_dump.proofs.section.write_fde.Goals as goal
-
-pub returns : goal.returns
-returns g c = grows_then _ _ _ c.in_ok-write_instructions.ensures (grows_sent _ _ _ _ c.write_rows.result _ c.write_rows.ensures)

@@ -1,5 +1,0 @@
-pub mod Sending
-pub mod CheckLines
-pub mod FdeRows
-pub mod DumpRowTexts
-pub mod DumpProgramOutput

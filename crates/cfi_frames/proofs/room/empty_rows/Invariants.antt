@@ -1,5 +1,0 @@
-use Rattle.cfi_step.specs.CachedRows.{AreEmpty}
-use Rattle.cfi_frames.proofs.room.empty_rows.Given as goal
-
-abbrev pub invariant-loop : goal.invariant-loop
-invariant-loop l = AreEmpty l.rows.items

@@ -1,4 +1,0 @@
-use Rattle.cfi_text.proofs.numbers.+push_hexadecimal.Given as goal
-
-abbrev pub decreases-push_hexadecimal : goal.decreases-push_hexadecimal
-decreases-push_hexadecimal l = l.number
