@@ -1,5 +1,6 @@
 pub mod MappedOver
 pub mod MappedOrder
+pub mod MappedBeside
 pub mod AfterChanges
 pub mod ByPid
 pub mod Worked
