@@ -9,4 +9,5 @@ pub mod CodeImages
 mod ReadFiles
 mod Missing
 pub mod FileLemmas
+mod FileListLemmas
 mod SymbolLemmas
