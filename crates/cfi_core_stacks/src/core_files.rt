@@ -16,10 +16,10 @@ use cfi_cores::vdso::vdso_name;
 use cfi_cores::{Core, CoreMapping, CoreSegment};
 use cfi_mapped::Opener;
 use cfi_mapped::code_parts::CodeParts;
+use cfi_mapped::file_list::FileList;
 use cfi_mapped::opened_file::OpenedFile;
 use cfi_mapped::read_files::read_files;
 use cfi_mapped::wanted::WantedFile;
-use cfi_mapped::wanted_files::push_file;
 use std::alloc::{AllocError, Global};
 
 /// The files that are mapped as code, each once, in the order of the mappings, with the builds that
@@ -32,11 +32,11 @@ pub fn code_files<'run>(
     ensures { IfOk result (λ files. map wanted_view files.items
         ≡ core_code_files (map segment_view segments.now) (map mapping_view mapped.now)) }
 {
-    let mut files = Vec::new(alloc);
+    let mut files = FileList::new(alloc);
     for mapping in mapped {
-        push_file(&mut files, code_file(segments, mapped, mapping))?;
+        files.push(code_file(segments, mapped, mapping))?;
     }
-    Ok(files)
+    Ok(files.into_list())
 }
 
 /// The file that is mapped, if it is mapped as code.

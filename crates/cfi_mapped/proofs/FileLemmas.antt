@@ -2,17 +2,13 @@
 use Rattle.std.proofs.Common.{◌≡◌, ◌∙◌, ℕ, ◌+◌, ◌<◌, ◌≤◌, ◌||◌, ◌&&◌, Bool, true, false, List, [], ◌∷◌, ◌++◌, Option, length, get_or, drop, map, not, cond, refl, sym, ap, subst, add-one, append-nil, append_assoc}
 use Rattle.std.proofs.Math.Seq.{drop-cons}
 use Rattle.std.proofs.lemmas.List.{drop_all}
-use Rattle.std.specs.List.{list_any, position_or_len, prefix_len}
+use Rattle.std.specs.List.{position_or_len, prefix_len}
 use Rattle.cfi_mapped.specs.declared.opened_file.OpenedFile.{OpenedFile}
 use Rattle.cfi_mapped.specs.CodeParts.{is_whole}
 use Rattle.cfi_mapped.specs.FileReads.{AreOpened, IsContents, IsDebugFor}
 use Rattle.cfi_mapped.specs.OpenedFiles.{AreOpenedAs, IsOpenedAs, Opened, are_whole, opened_as}
 use Rattle.cfi_mapped.specs.declared.wanted.WantedFile.{WantedFile}
 use Rattle.cfi_mapped.specs.Wanted.{FilePlace, Wanted, wanted_view}
-
-pub any_mapped : {X Y : Type 0} (f : X → Y) (p : Y → Bool) (xs : List X) → list_any (λ x. p (f x)) xs ≡ list_any p (map f xs)
-any_mapped f p [] = refl
-any_mapped f p (x ∷ xs) = ap (λ (b : Bool). p (f x) || b) (any_mapped f p xs)
 
 prefix_mapped : {X Y : Type 0} (f : X → Y) (q : Y → Bool) (xs : List X) → prefix_len (λ x. q (f x)) xs ≡ prefix_len q (map f xs)
 prefix_mapped f q [] = refl

@@ -1,5 +1,6 @@
 pub mod MappedOver
 pub mod MappedOrder
+pub mod MappedBeside
 pub mod AfterChanges
 pub mod ByPid
 pub mod Worked
@@ -8,4 +9,5 @@ pub mod CodeImages
 mod ReadFiles
 mod Missing
 pub mod FileLemmas
+mod FileListLemmas
 mod SymbolLemmas

@@ -3,6 +3,7 @@ pub mod CodeMaps
 pub mod CodeParts
 pub mod Enough
 pub mod FileBuilds
+pub mod FileLists
 pub mod FileReads
 pub mod Histories
 pub mod KernelNames

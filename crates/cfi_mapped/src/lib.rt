@@ -1,7 +1,8 @@
 //! What is mapped in processes, and the files that it is of.
 //!
 //! `mappings` and `processes` follow what is mapped where in each process, `threads` the names of
-//! threads. `wanted_files` says which files a profile's mappings are of, and `read_files` opens
+//! threads. `wanted_files` says which files a profile's mappings are of, which a `file_list` has each
+//! once, and `read_files` opens
 //! them and their debug files by an `opener`: `opened_file` is what was read, of code its
 //! `code_parts`, of a build that `file_builds` tells. `text_symbols` reads symbols that are text:
 //! `kernel_symbols` and `kernel_names` those of the kernel, `code_map` those of code that a process
@@ -11,6 +12,7 @@
 pub mod code_map;
 pub mod code_parts;
 pub mod file_builds;
+pub mod file_list;
 pub mod kernel_names;
 pub mod kernel_symbols;
 pub mod mappings;
@@ -24,6 +26,7 @@ pub mod threads;
 pub mod wanted;
 pub mod wanted_files;
 
+pub use file_list::FileList;
 pub use mappings::{MappedCode, Mappings};
 pub use names::Name;
 pub use opener::Opener;

@@ -1,5 +1,6 @@
 //! What is mapped where in a process.
-ghost use Rattle.std.specs.Prelude.{◌≡◌};
+ghost use Rattle.std.specs.Prelude.{◌≡◌, ◌<◌, IfOk};
+ghost use Rattle.cfi_mapped.specs.Mappings.{mapped_over};
 
 use std::alloc::{AllocError, Global};
 use std::marker::Model;
@@ -106,34 +107,32 @@ impl Mappings {
     /// covers is gone, the rest stays. So of an old mapping a part below the new one may stay, and
     /// a part above it. A new mapping without bytes changes nothing.
     ///
-    /// Allocates a list for all mappings, and goes through the old ones. Fails where memory is
-    /// refused; then everything is as before.
+    /// Searches by halving, allocates for what is mapped where the new one is, and moves what is
+    /// mapped above it. Fails where memory is refused; then everything is as before.
     pub fn map(&mut self, alloc: Global, new: MappedCode) -> Result<(), AllocError>
         ensures list { OnOk result (self.new ≡ mapped_over new self.old) }
         ensures places { OnOk result (IsMappedOver new self.old self.new) }
         ensures err { OnErr result (self.new ≡ self.old) }
     {
         if new.has_bytes() {
-            *self = Mappings::over(alloc, self.as_slice(), new)?;
+            self.put(alloc, new)
+        } else {
+            Ok(())
         }
-        Ok(())
     }
 
-    /// A new mapping over these, in a new list.
-    pub(crate) fn over(
-        alloc: Global,
-        old: &[MappedCode],
-        new: MappedCode,
-    ) -> Result<Self, AllocError>
-        requires order { AreMappedInOrder 0 old.now }
+    /// Puts a new mapping, and what stays beside it, in place of those of which it covers a byte.
+    fn put(&mut self, alloc: Global, new: MappedCode) -> Result<(), AllocError>
         requires bytes { new.start < new.end }
-        ensures { IfOk result (λ mappings. mappings ≡ mapped_over new old.now) }
+        ensures list { OnOk result (self.new ≡ mapped_over new self.old) }
+        ensures err { OnErr result (self.new ≡ self.old) }
     {
-        let mut list = Vec::with_capacity(alloc, old.len() + 2)?;
-        list.extend(old.iter().filter_map(|mapped| mapped.part_below(new.start)))?;
-        list.push(new)?;
-        list.extend(old.iter().filter_map(|mapped| mapped.part_from(new.end)))?;
-        Ok(Mappings { list })
+        let list = self.list.as_slice();
+        let below = list.partition_point(|mapped| mapped.end <= new.start);
+        let begun = list.partition_point(|mapped| mapped.start < new.end);
+        let there = over(alloc, &list[below..begun], new)?;
+        self.list.splice(below..begun, there)?;
+        Ok(())
     }
 
     /// These mappings, in a new list.
@@ -145,4 +144,16 @@ impl Mappings {
             list: list.iter().copied().collect(alloc)?,
         })
     }
+}
+
+/// A new mapping over these, in a new list.
+fn over(alloc: Global, old: &[MappedCode], new: MappedCode) -> Result<Vec<MappedCode>, AllocError>
+    requires bytes { new.start < new.end }
+    ensures { IfOk result (λ list. list.items ≡ mapped_over new old.now) }
+{
+    let mut list = Vec::with_capacity(alloc, old.len() + 2)?;
+    list.extend(old.iter().filter_map(|mapped| mapped.part_below(new.start)))?;
+    list.push(new)?;
+    list.extend(old.iter().filter_map(|mapped| mapped.part_from(new.end)))?;
+    Ok(list)
 }

@@ -34,17 +34,29 @@ impl Processes {
 
     /// A file was mapped into a process, over what was mapped there before (`Mappings::map`).
     ///
-    /// Allocates a list for what is mapped in the process. Fails where memory is refused; then
-    /// everything is as before.
+    /// Allocates for what is mapped where the new one is, and for the process if nothing was mapped
+    /// in it. Fails where memory is refused; then everything is as before.
     pub fn map(&mut self, pid: u32, new: MappedCode) -> Result<(), AllocError>
         ensures changed { OnOk result (IsChangedBy (mapped pid new) self.old self.new) }
         ensures history { OnOk result (Continues (mapped pid new) self.old self.new) }
         ensures err { OnErr result (IsUnchanged self.old self.new) }
     {
-        if new.has_bytes() {
-            let mappings = Mappings::over(self.alloc, self.mappings(pid), new)?;
-            self.by_pid.insert(pid, mappings)?;
+        match self.by_pid.get_mut(&pid) {
+            Some(mappings) => mappings.map(self.alloc, new),
+            None => self.map_first(pid, new),
         }
+    }
+
+    /// A file was mapped into a process of which nothing is known.
+    fn map_first(&mut self, pid: u32, new: MappedCode) -> Result<(), AllocError>
+        requires { process_mappings self.old pid ≡ [] }
+        ensures changed { OnOk result (IsChangedBy (mapped pid new) self.old self.new) }
+        ensures history { OnOk result (Continues (mapped pid new) self.old self.new) }
+        ensures err { OnErr result (IsUnchanged self.old self.new) }
+    {
+        let mut mappings = Mappings::new(self.alloc);
+        mappings.map(self.alloc, new)?;
+        self.by_pid.insert(pid, mappings)?;
         Ok(())
     }
 

@@ -1,6 +1,6 @@
 //! The files that are wanted of a profile: by their names, builds and processes.
 ghost use Rattle.std.specs.Prelude.{◌≡◌, option_map};
-ghost use Rattle.cfi_mapped.specs.Wanted.{is_same, is_text, same_id, same_process, wanted_view};
+ghost use Rattle.cfi_mapped.specs.Wanted.{is_text, same_id, same_process};
 
 use crate::kernel_symbols::is_kernel_name;
 
@@ -25,18 +25,6 @@ pub struct WantedFile<'run> {
     pub build_id: Option<&'run [u8]>,
     /// The process whose memory it is, where it is no file's.
     pub process: Option<u32>,
-}
-
-impl WantedFile<'_> {
-    /// Returns whether both have the same name, the same build and the same process. Does not
-    /// allocate.
-    pub fn is_same(&self, other: &WantedFile<'_>) -> bool
-        ensures { result ≡ is_same (wanted_view self.now) (wanted_view other.now) }
-    {
-        self.name == other.name
-            && same_id(self.build_id, other.build_id)
-            && same_process(self.process, other.process)
-    }
 }
 
 /// Returns whether what is read for this name is a text, and no file of code: the kernel's symbols,

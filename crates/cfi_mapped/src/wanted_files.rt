@@ -1,17 +1,15 @@
 //! The files that the records of a profile are of.
-ghost use Rattle.std.specs.Prelude.{◌≡◌, OnOk, map, option_map};
+ghost use Rattle.std.specs.Prelude.{◌≡◌, option_map};
 ghost use Rattle.cfi_perf.specs.Events.{mapping_record_view, record_view};
 ghost use Rattle.cfi_perf.specs.CallChains.{addresses_left};
 ghost use Rattle.cfi_mapped.specs.WantedFiles.{mapped_code_file, has_kernel_frames, has_some};
-ghost use Rattle.cfi_mapped.specs.WantedFiles.{is_among};
-ghost use Rattle.cfi_mapped.specs.WantedFiles.{is_code_file, process_of, with_file};
+ghost use Rattle.cfi_mapped.specs.WantedFiles.{is_code_file, process_of};
 ghost use Rattle.cfi_mapped.specs.Wanted.{wanted_view};
 
 use crate::code_map::is_memory_name;
 use crate::kernel_symbols::is_kernel_name;
 use crate::wanted::WantedFile;
 use cfi_perf::{Addresses, Event, Mapping, Record};
-use std::alloc::AllocError;
 
 /// Returns whether a record is a sample that has frames of the kernel. Does not allocate.
 pub fn has_kernel_frames(item: &Record<'_>) -> bool
@@ -29,25 +27,6 @@ fn has_address(addresses: Addresses<'_>) -> bool
 {
     let mut addresses = addresses;
     addresses.next().is_some()
-}
-
-/// Appends a file, unless it is there. Fails where memory is refused.
-pub fn push_file<'run>(
-    files: &mut Vec<WantedFile<'run>>,
-    file: Option<WantedFile<'run>>,
-) -> Result<(), AllocError>
-    ensures { OnOk result (map wanted_view files.new.items
-        ≡ with_file (map wanted_view files.old.items) (option_map wanted_view file.entry)) }
-{
-    match file {
-        Some(file) => {
-            if !is_among(files.as_slice(), &file) {
-                files.push(file)?;
-            }
-            Ok(())
-        }
-        None => Ok(()),
-    }
 }
 
 /// Returns the file that a record says is mapped as code; the kernel itself only if samples have
@@ -82,11 +61,4 @@ fn is_code_file(in_kernel: bool, mapping: &Mapping<'_>) -> bool
     ensures { result ≡ is_code_file in_kernel (mapping_record_view mapping.now) }
 {
     mapping.is_executable && (in_kernel || !is_kernel_name(mapping.name))
-}
-
-/// Whether the file is one of these.
-fn is_among(files: &[WantedFile<'_>], file: &WantedFile<'_>) -> bool
-    ensures { result ≡ is_among (map wanted_view files.now) (wanted_view file.now) }
-{
-    files.iter().any(|known| known.is_same(file))
 }

@@ -18,8 +18,9 @@ ghost use Rattle.cfi_stacks.specs.ProfileIndexes.{IsTallyOf, IsToldOf, IsWholeOf
 ghost use Rattle.cfi_stacks.specs.ProfileIndexes.{Piece, kernel_after, record_of};
 
 use cfi_elf::bytes::part;
+use cfi_mapped::file_list::FileList;
 use cfi_mapped::wanted::WantedFile;
-use cfi_mapped::wanted_files::{code_file, has_kernel_frames, push_file};
+use cfi_mapped::wanted_files::{code_file, has_kernel_frames};
 use cfi_object::input::FileInput;
 use cfi_perf::{Event, Lost, PerfError, PlaceKind, Record, RecordIndex, RecordPlace, RecordWalk};
 use cfi_text::reading::InputError;
@@ -216,14 +217,14 @@ impl<'p> ProfileIndex<'p> {
             → IsIndexOf known self.now pieces
             → map wanted_view files.items ≡ wanted_of (map record_of pieces)) }
     {
-        let mut files = Vec::new(alloc);
+        let mut files = FileList::new(alloc);
         for place in self.records.places() {
             let file = self.code_file(place)?;
-            if push_file(&mut files, file).is_err() {
+            if files.push(file).is_err() {
                 return Err(InputError::OutOfMemory);
             }
         }
-        Ok(files)
+        Ok(files.into_list())
     }
 
     /// The file that the record at a place says is mapped as code.

@@ -11,4 +11,4 @@ abbrev pub invariant-loop-mapping : goal.invariant-loop-mapping
 invariant-loop-mapping l =
     let segments = map segment_view l.segments in
     let mapped = map mapping_view l.mapped in
-    fold (λ files m. with_file files (core_code_file segments mapped m)) (map wanted_view l.files.items) (map mapping_view (drop l.mapping-index l.mapped)) ≡ core_code_files segments mapped
+    fold (λ files m. with_file files (core_code_file segments mapped m)) (map wanted_view l.files) (map mapping_view (drop l.mapping-index l.mapped)) ≡ core_code_files segments mapped

@@ -19,13 +19,14 @@ loop-place-preserved c =
       λ known pieces is.
           let within : i < length pieces = omega (arith, c.loop-place-test.true, ap length invariant.0, ap length is.places, length-map pieces piece_place) in
           let piece = get_or pieces i no_piece in
-          let pushed = when_ok c.push_file.result _ (sym c.is_err.ensures.value ∙ c.if-is_err.false) c.push_file.ensures in
+          let pushed = when_ok c.push.result _ (sym c.is_err.ensures.value ∙ c.if-is_err.false) c.push.ensures in
           let file = c.in_ok-file.ensures known piece (is.each i no_piece within)
           (sym (get_or-map piece_place pieces i no_piece) ∙ (ap (λ (l : List RecordPlace). get_or l i no_piece.place) (is.places ∙ sym invariant.0) ∙ get_or_default items i no_piece.place _ c.loop-place-test.true)) in
-          one_wanted (is_some index.kernel) pieces i no_piece (map wanted_view c.loop-place.files.items) (map wanted_view c.push_file.new.files.items) _ within
-          (pushed ∙ with_the_file (map wanted_view c.loop-place.files.items) _ _ file) (invariant.1 known pieces is),
+          one_wanted (is_some index.kernel) pieces i no_piece (map wanted_view c.loop-place.files) (map wanted_view c.push.new.self) _ within
+          (pushed ∙ with_the_file (map wanted_view c.loop-place.files) _ _ file) (invariant.1 known pieces is),
     )
 
 pub returns : goal.returns
 returns c known pieces is =
-    all_wanted known c.args.self.now pieces c.loop-place.place-index (map wanted_view c.loop-place.files.items) is (omega (arith, c.loop-place-test.false, ap length c.loop-place.invariant.0)) (c.loop-place.invariant.1 known pieces is)
+    ap (map wanted_view) c.into_list.ensures
+    ∙ all_wanted known c.args.self.now pieces c.loop-place.place-index (map wanted_view c.loop-place.files) is (omega (arith, c.loop-place-test.false, ap length c.loop-place.invariant.0)) (c.loop-place.invariant.1 known pieces is)

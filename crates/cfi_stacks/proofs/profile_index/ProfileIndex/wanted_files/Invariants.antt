@@ -11,4 +11,4 @@ abbrev pub invariant-loop-place : goal.invariant-loop-place
 invariant-loop-place l =
     (l.place-items ≡ places_of l.self.records)
     × ((known : Option (List ℕ)) (pieces : List Piece) → IsIndexOf known l.self pieces
-    → wanted_on (is_some l.self.kernel) (map wanted_view l.files.items) (map record_of (drop l.place-index pieces)) ≡ wanted_in (is_some l.self.kernel) (map record_of pieces))
+    → wanted_on (is_some l.self.kernel) (map wanted_view l.files) (map record_of (drop l.place-index pieces)) ≡ wanted_in (is_some l.self.kernel) (map record_of pieces))

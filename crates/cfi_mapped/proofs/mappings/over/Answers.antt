@@ -1,13 +1,12 @@
-use Rattle.std.proofs.Common.{◌≡◌, ◌++◌, Ok, subst, sym, ◌∙◌, rules, tests}
+use Rattle.std.proofs.Common.{◌≡◌, ◌++◌, Ok, sym, ◌∙◌, rules, tests}
 use Rattle.std.specs.List.{filter_map}
 use Rattle.std.specs.declared.alloc.AllocError.{AllocError}
 use Rattle.std.proofs.lemmas.Iterator.{YieldsList-from_slice}
 use Rattle.std.proofs.lemmas.Iterator.Adapters.{items_from_extend}
 use Rattle.std.proofs.lemmas.Iterator.Consumers.{YieldsList-from_filter_map}
-use Rattle.cfi_mapped.specs.Mappings.{AreMappedInOrder, part_below, part_from}
+use Rattle.cfi_mapped.specs.Mappings.{part_below, part_from}
 use Rattle.cfi_mapped.proofs.MappedOver.{joined, over_is}
-use Rattle.cfi_mapped.proofs.MappedOrder.{over_in_order}
-use Rattle.cfi_mapped.proofs.mappings.Mappings.over.Goals as goal
+use Rattle.cfi_mapped.proofs.mappings.over.Goals as goal
 
 pub returns : goal.returns
 returns c =
@@ -19,6 +18,3 @@ returns c =
     (items_from_extend {E = AllocError} (Ok c.in_ok-extend-2.field-0) c.in_ok-extend-2.ensures.ran
     (YieldsList-from_filter_map _ (part_from c.args.new.end) (YieldsList-from_slice old cc) c.filter_map-2.ensures.closure (λ x r q k. search (rules, tests)))).0 in
     joined (filter_map (part_below c.args.new.start) old) c.args.new (filter_map (part_from c.args.new.end) old) c.in_ok-list.ensures.items below c.in_ok-push.ensures.items above ∙ sym (over_is c.args.new old c.requires.bytes)
-
-pub invariant_of-result : goal.invariant_of-result
-invariant_of-result c = subst (AreMappedInOrder 0) (sym (returns c)) (over_in_order c.args.new c.args.old.now c.requires.bytes c.requires.order)
