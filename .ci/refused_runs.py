@@ -3,8 +3,8 @@
 
     refused_runs.py [--all] [PROGRAM [FILE..]]
 
-Where an allocation is refused, a run has to print what is stored, or that it is out of memory: `flame`, `report`, `fold` and
-`stack` that alone, the others after lines of what is stored, and before those of other addresses, sections and files. Where it is
+Where an allocation is refused, a run has to print what is stored, or that it is out of memory: `flame`, `report` and `fold`
+that alone, the others after lines of what is stored, and before those of other addresses, sections and files. Where it is
 one for the program's words, it prints `refused OutOfMemory` alone, in each format, and the status is 1; where it is one for a file
 of code, the stacks are those without the file. Where a write to standard output fails, a beginning of what is stored is written,
 and the status is 2; where a write takes one byte alone, the output is as stored. `check` says of a folder whose names there is no
@@ -26,8 +26,8 @@ from pathlib import Path
 TOP = Path(__file__).resolve().parent.parent
 RUNS, DATA = TOP / "crates/cfi/runs", TOP / "crates/cfi/data"
 # The files of stored runs; the output of some is written at once.
-AT_ONCE = ("graphs", "flame", "report", "fold", "stack")
-FILES = (*AT_ONCE, "unwind", "row", "rows", "dump", "table", "check")
+AT_ONCE = ("graphs", "flame", "report", "fold")
+FILES = (*AT_ONCE, "stack", "unwind", "row", "rows", "dump", "table", "check")
 FEW = 24
 # The files of code that profiles and core files have.
 CODE = ("calls", "built", "bare", "linked", "bare.debug", "names", "deeper", "shortened", "shifted", "signed", "handled")

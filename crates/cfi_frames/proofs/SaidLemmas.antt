@@ -10,7 +10,7 @@ use Rattle.cfi_text.proofs.WrittenLemmas.{none_yet}
 use Rattle.cfi_frames.specs.Outputs.{IsSaidIn}
 
 -- nothing was written of it
-pub none_written : {T E : Type 0} (format : Format) (old : Option (List ℕ)) (object : List ℕ) (e : E) → (text : List ℕ) × Writes {T} {E} old old (Err e) text × IsSaidIn format (text ≡ object)
+pub none_written : {T E : Type 0} (format : Format) (old : Option (List ℕ)) (object : List ℕ) (e : E) → (text : List ℕ) × Writes {T = T} {E = E} old old (Err e) text × IsSaidIn format (text ≡ object)
 none_written formats.Text old object e = (object, ([], none_yet old, (object, refl)), tt)
 none_written formats.Json old object e = (object, ([], none_yet old, (object, refl)), refl)
 
