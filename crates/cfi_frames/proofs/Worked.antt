@@ -5,7 +5,6 @@ use Rattle.cfi_read_core.specs.declared.error.Error.TheVariants.{NoUnwindInfoFor
 use Rattle.cfi_expression.specs.declared.error.FrameError.TheVariants.{NoRow}
 use Rattle.cfi_processes.specs.declared.frames.FrameKind.TheVariants.{Kernel, User}
 use Rattle.cfi_step.specs.declared.walk.End.TheVariants.{Failed}
-use Rattle.cfi_step.specs.declared.walk.Walk.{Walk}
 use Rattle.cfi_frames.specs.Reasons.{reason_for}
 use Rattle.cfi_frames.specs.FrameJson.{frames_json, object_end}
 
