@@ -2,8 +2,6 @@ pub mod Folders
 pub mod Billionths
 pub mod Times
 pub mod Disks
-pub mod OpenedFiles
 pub mod Trees
 pub mod Targets
-pub mod FunctionObjects
 pub mod NamedFiles

@@ -15,10 +15,6 @@ abbrev pub side_of : Text → Option (Option ℕ)
 side_of [] = Some None
 side_of (c ∷ more) = option_map Some (billionths_of (c ∷ more))
 
--- each is left out
-abbrev pub any_time : Times
-any_time = record { from = None; until = None }
-
 abbrev pub both_sides : Option (Option ℕ) → Option (Option ℕ) → Option Times
 both_sides (Some from) (Some until) = Some (record { from = from; until = until })
 both_sides _ _ = None

@@ -1,5 +1,5 @@
 //! What is printed of folded stacks that a reader gives: their flame graph, or their report.
-use crate::function_objects::{put_not_folded, put_objects};
+use cfi_flame::function_objects::{put_not_folded, put_objects};
 use cfi_flame::{Drawing, FoldedError, flame_of, plain_text, ranked_functions, report_of};
 use cfi_text::input_refusals::write_input_refusal;
 use cfi_text::lines::write_text;

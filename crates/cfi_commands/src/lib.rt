@@ -10,7 +10,7 @@
 //! that a profile or a core file names, at the paths of `folders`.
 //!
 //! Which files a check is of: `targets` finds them. What is printed of folded stacks: `flames`
-//! prints the flame graph or the report, as objects of JSON by `function_objects`.
+//! prints the flame graph or the report.
 #![tactic(auto)]
 
 mod arguments;
@@ -19,7 +19,6 @@ mod command_line;
 mod files;
 pub mod flames;
 pub mod folders;
-mod function_objects;
 mod host;
 mod host_file;
 mod options;

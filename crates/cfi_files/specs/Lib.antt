@@ -4,7 +4,7 @@ pub mod FdeRows
 pub mod DumpRowTexts
 pub mod DumpProgramOutput
 pub mod FileErrors
-pub mod Found
+pub mod FoundSections
 pub mod Rows
 pub mod Queries
 pub mod Listings

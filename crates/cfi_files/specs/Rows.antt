@@ -10,7 +10,7 @@ use Rattle.cfi_unwind.specs.AddressRow.{IsRowByScan}
 use Rattle.gimli_cfi.specs.SectionSources.{GivenSection, IsGivenRow, given_section}
 use Rattle.cfi_files.specs.declared.error.FileError.{FileError}
 use Rattle.cfi_files.specs.declared.error.FileError.TheVariants as errors
-use Rattle.cfi_files.specs.Found.{FoundSection}
+use Rattle.cfi_files.specs.FoundSections.{FoundSection}
 
 pub record RowIn : Type 0 where
   pub section : GivenSection

@@ -3,7 +3,7 @@ ghost use Rattle.std.specs.Prelude.{◌≡◌};
 ghost use Rattle.cfi_read_core.specs.ReaderCalls.{map_ok};
 ghost use Rattle.gimli_cfi.specs.SectionSources.{source_view};
 ghost use Rattle.cfi_elf.specs.ElfFiles.{file_view};
-ghost use Rattle.cfi_files.specs.Found.{AreSectionsOf, frames_view};
+ghost use Rattle.cfi_files.specs.FoundSections.{AreSectionsOf, frames_view};
 ghost use Rattle.cfi_files.specs.Rows.{IsInDebugFrame, IsInEhFrame, IsOtherwise, IsRowAt};
 ghost use Rattle.cfi_files.specs.Rows.{IsScannedOr, row_in, row_of};
 

@@ -1,3 +1,4 @@
+mod ObjectLemmas
 pub mod StackLemmas
 pub mod BoxLemmas
 pub mod FlameLemmas

@@ -4,8 +4,9 @@
 //! functions are the kernel's, and where it is asked, `turned` turns the stacks. `boxes` says which
 //! boxes their graph has, `graph` has the file, an SVG, with the style and the script of `page` and
 //! the labels of `label`, and `flame` does all of this. `functions` counts the samples of each
-//! function, `ranking` puts those with most first, and `report` has the table. `counts` makes
-//! folded stacks: it counts samples by their stacks. `decimal` reads numbers.
+//! function, `ranking` puts those with most first, `report` has the table of them, and
+//! `function_objects` the objects of JSON. `counts` makes folded stacks: it counts samples by their
+//! stacks. `decimal` reads numbers.
 #![tactic(auto)]
 
 pub mod boxes;
@@ -13,6 +14,7 @@ pub mod counts;
 pub mod decimal;
 pub mod flame;
 pub mod folded;
+pub mod function_objects;
 pub mod functions;
 mod graph;
 mod kinds;

@@ -1,7 +1,5 @@
 -- Where an address of the kernel is.
 --     kernel_site files list a      where an address of the kernel is, of which this is mapped
---     chain_site is_kernel files list a      where an address of a call chain is: of the kernel, or
---         of a process
 use Rattle.std.specs.Prelude.{ℕ, ◌-◌, ◌&&◌, Bool, false, List, [], ◌∷◌, Option, Some, None}
 use Rattle.std.specs.Prelude.{option_map, if◌then◌else◌}
 use Rattle.std.specs.Option.{option_and_then, option_or}
@@ -59,7 +57,3 @@ abbrev pub kernel_site : List KnownFile → List MappedCode → ℕ → Site
 kernel_site files list a =
     kernel_site_in (option_map kernel_name (site_of files list a).file) a
     (kernel_symbol files list a)
-
-abbrev pub chain_site : Bool → List KnownFile → List MappedCode → ℕ → Site
-chain_site is_kernel files list a =
-    if is_kernel then kernel_site files list a else site_of files list a

@@ -6,7 +6,7 @@
 --     IsWalkOver .. modules machine memory pc registers old walk new      a walk over any memory,
 --         from a pc and the registers of its frame
 --     IsSampleUnwound .. modules machine user old result new      what is returned and written
-use Rattle.std.specs.Prelude.{◌≡◌, ℕ, Bool, true, false, List, length, take, map, Option, Some}
+use Rattle.std.specs.Prelude.{◌≡◌, ℕ, Bool, true, false, List, take, map, Option, Some}
 use Rattle.std.specs.Prelude.{None, Result, Ok, Err, ok_or, ◌==◌, if◌then◌else◌}
 use Rattle.std.specs.List.{range_with_len}
 use Rattle.std.specs.Option.{option_and_then}

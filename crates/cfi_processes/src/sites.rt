@@ -4,7 +4,6 @@ ghost use Rattle.std.specs.Option.{option_and_then};
 ghost use Rattle.cfi_elf.specs.FunctionPlaces.{place_view};
 ghost use Rattle.cfi_processes.specs.FileFunctions.{mapped_function};
 ghost use Rattle.cfi_mapped.specs.CodeMapViews.{code_map_view};
-ghost use Rattle.cfi_processes.specs.KernelSites.{chain_site};
 ghost use Rattle.cfi_processes.specs.Sites.{file_of, file_site};
 ghost use Rattle.cfi_processes.specs.KnownFiles.{known_view};
 ghost use Rattle.cfi_processes.specs.Sites.{nowhere, site_in, site_of};
@@ -75,20 +74,6 @@ impl<'a, 'files, 'run> ProcessCode<'a, 'files, 'run> {
         match self.file_of(mapped) {
             Some(file) => place_by(file, mapped, address),
             None => nowhere(address),
-        }
-    }
-
-    /// Where an address of a call chain is: of the kernel, as `kernel_site`, or of the process, as
-    /// `site`.
-    pub fn chain_site(&self, is_kernel: bool, address: u64) -> Site<'run>
-        requires { AreMappedInOrder 0 self.now.mappings.now }
-        ensures { site_view result ≡ chain_site is_kernel
-            (map known_view self.now.files.now) self.now.mappings.now address }
-    {
-        if is_kernel {
-            self.kernel_site(address)
-        } else {
-            self.site(address)
         }
     }
 }

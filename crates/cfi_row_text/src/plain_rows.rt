@@ -24,14 +24,14 @@ use std::marker::Model;
 /// The rules of the last rows, and their texts: by how many there are and the first register, since
 /// rows with these in common mostly have the same.
 #[derive(Drop)]
-pub struct KeptRows {
+pub struct PlainRows {
     names: RegisterNames,
     /// What the text of rules is made in.
     made: Text,
     rows: [KeptRules; 16],
 }
 
-impl Model for KeptRows {
+impl Model for PlainRows {
     ghost use Rattle.std.specs.List.{All};
     ghost use Rattle.cfi_row_text.specs.KeptRules.{AreKept};
     ghost use Rattle.cfi_text.specs.declared.register_names.RegisterNames.{RegisterNames};
@@ -43,10 +43,10 @@ impl Model for KeptRows {
     ghost invariant = { λ kept. All (AreKept kept.names) kept.rows };
 }
 
-impl KeptRows {
+impl PlainRows {
     /// Keeps no rules, for rows with these names of registers. Does not allocate.
-    pub fn new(alloc: Global, names: RegisterNames) -> KeptRows {
-        KeptRows {
+    pub fn new(alloc: Global, names: RegisterNames) -> PlainRows {
+        PlainRows {
             names,
             made: Text::new(alloc),
             rows: [

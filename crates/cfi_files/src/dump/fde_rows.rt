@@ -18,7 +18,7 @@ ghost use Rattle.cfi_files.specs.Sending.{Sends};
 use crate::dump::lines::{write_if_full, write_refused};
 use crate::dump::walk::Walk;
 use cfi_entry::in_section::InSection;
-use cfi_row_text::plain_rows::KeptRows;
+use cfi_row_text::plain_rows::PlainRows;
 use cfi_row_text::row_words::put_answer;
 use cfi_row_text::style::Style;
 use cfi_text::register_names::RegisterNames;
@@ -63,7 +63,7 @@ pub(crate) fn write_rows<R: Reader<Offset = usize>, S: UnwindSection<R>, W: Writ
 fn write_table<R: Reader<Offset = usize>, S: UnwindSection<R>, W: Write>(
     output: &mut W,
     text: &mut Text,
-    kept: &mut KeptRows,
+    kept: &mut PlainRows,
     style: Style,
     section: &S,
     table: &mut UnwindTable<'_, '_, R>,
@@ -91,7 +91,7 @@ fn put_line<
     A: ArrayLike<Item = (Register, RegisterRule<usize>)>,
 >(
     text: &mut Text,
-    kept: &mut KeptRows,
+    kept: &mut PlainRows,
     style: Style,
     section: &S,
     answer: Result<&UnwindTableRow<usize, A>, Error>,
@@ -117,7 +117,7 @@ fn put_text_line<
     A: ArrayLike<Item = (Register, RegisterRule<usize>)>,
 >(
     text: &mut Text,
-    kept: &mut KeptRows,
+    kept: &mut PlainRows,
     names: RegisterNames,
     section: &S,
     answer: Result<&UnwindTableRow<usize, A>, Error>,

@@ -13,7 +13,7 @@ use crate::dump::section::write_entries;
 use crate::dump::walk::Walk;
 use cfi_elf::FunctionNames;
 use cfi_entry::in_section::InSection;
-use cfi_row_text::plain_rows::KeptRows;
+use cfi_row_text::plain_rows::PlainRows;
 use cfi_row_text::style::Style;
 use cfi_text::refusals::write_refusal_in;
 use cfi_text::register_names::RegisterNames;
@@ -46,7 +46,7 @@ pub fn print_source<W: Write>(
         Ok(context) => {
             let mut walk = Walk {
                 text: Text::new(alloc),
-                kept: KeptRows::new(alloc, names),
+                kept: PlainRows::new(alloc, names),
                 context,
             };
             print_either(output, &mut walk, names, printed, source)

@@ -3,10 +3,10 @@ ghost use Rattle.std.specs.Prelude.{◌++◌, [], ◌∷◌, codes, map};
 ghost use Rattle.cfi_flame.specs.Functions.{row_view};
 ghost use Rattle.cfi_text.specs.JsonTexts.{json_number};
 ghost use Rattle.cfi_text.specs.Texts.{Puts};
-ghost use Rattle.cfi_commands.specs.FunctionObjects.{function_object, not_folded_object};
-ghost use Rattle.cfi_commands.specs.FunctionObjects.{objects_text};
+ghost use Rattle.cfi_flame.specs.FunctionObjects.{function_object, not_folded_object};
+ghost use Rattle.cfi_flame.specs.FunctionObjects.{objects_text};
 
-use cfi_flame::functions::Function;
+use crate::functions::Function;
 use cfi_text::text::Text;
 
 /// The first number that some readers of JSON don't have exactly.

@@ -7,7 +7,7 @@ use Rattle.cfi_flame.specs.Functions.{FunctionRow, row_view}
 use Rattle.cfi_text.specs.Texts.{Puts}
 use Rattle.cfi_text.specs.declared.text.Text.{Text}
 use Rattle.cfi_text.proofs.TextLemmas.{IsPut, put_more}
-use Rattle.cfi_commands.specs.FunctionObjects.{function_object}
+use Rattle.cfi_flame.specs.FunctionObjects.{function_object}
 
 abbrev pub no_function : Function
 no_function = record { name = record { ref_ptr = (0, 0); now = [] }; own = 0; total = 0 }

@@ -1,5 +1,5 @@
 use Rattle.cfi_text.proofs.TextLemmas.{both}
-use Rattle.cfi_commands.proofs.function_objects.put_function.Goals as goal
+use Rattle.cfi_flame.proofs.function_objects.put_function.Goals as goal
 
 pub returns : goal.returns
 returns c =

@@ -1,7 +1,7 @@
 use Rattle.std.proofs.Common.{arith}
 use Rattle.cfi_text.proofs.TextLemmas.{both, put_all, put_first}
-use Rattle.cfi_commands.proofs.ObjectLemmas.{no_function, no_object, object_put, objects_from}
-use Rattle.cfi_commands.proofs.function_objects.put_objects.Goals as goal
+use Rattle.cfi_flame.proofs.ObjectLemmas.{no_function, no_object, object_put, objects_from}
+use Rattle.cfi_flame.proofs.function_objects.put_objects.Goals as goal
 
 pub loop-row-init : goal.loop-row-init
 loop-row-init c = put_first _ (objects_from c.args.rows.now 0)
