@@ -237,13 +237,15 @@ static void check_names(void) {
     expect(cfi_status_name(number, name, sizeof name) == strlen(#text) && !memcmp(name, #text, sizeof #text), #text);
     CFI_REFUSALS(CHECK_NAME)
     CHECK_NAME(0, Ok)
-    CHECK_NAME(32, NoContext)
-    CHECK_NAME(33, NoTable)
-    CHECK_NAME(34, NoSegments)
-    CHECK_NAME(35, NoHeader)
-    CHECK_NAME(36, NoSection)
-    CHECK_NAME(37, NotInMemory)
-    CHECK_NAME(38, Unknown)
+    CHECK_NAME(32, Unknown)
+    CHECK_NAME(63, Unknown)
+    CHECK_NAME(64, NoContext)
+    CHECK_NAME(65, NoTable)
+    CHECK_NAME(66, NoSegments)
+    CHECK_NAME(67, NoHeader)
+    CHECK_NAME(68, NoSection)
+    CHECK_NAME(69, NotInMemory)
+    CHECK_NAME(70, Unknown)
     CHECK_NAME(-1, Unknown)
     memset(name, GUARD, sizeof name);
     expect(cfi_status_name(CFI_StackFull, name, 5) == 9 && !memcmp(name, "Stack", 5) && name[5] == GUARD, "a short name");

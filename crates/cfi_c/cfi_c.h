@@ -38,8 +38,8 @@ extern "C" {
 /* 10,000 times the first number of the version, 100 times the second, and the third. */
 #define CFI_VERSION 100 /* 0.1.0 */
 
-/* Status 0 is a row; the others are the refusals of the library, by its names, 32 where there is no
- * context, 33 where there is no table, and 34 to 37 where there is no module. */
+/* Status 0 is a row; from 1 on are the refusals of the library, by its names, and from 64 on those of this header: without a
+ * context, without a table, and without a module. */
 #define CFI_REFUSALS(X) \
     X(1, UnexpectedEof) \
     X(2, BadUnsignedLeb128) \
@@ -78,12 +78,12 @@ typedef enum {
 #define CFI_STATUS(number, name) CFI_##name = number,
     CFI_REFUSALS(CFI_STATUS)
 #undef CFI_STATUS
-    CFI_NoContext = 32,
-    CFI_NoTable = 33,
-    CFI_NoSegments = 34, /* no segment is loaded */
-    CFI_NoHeader = 35,   /* no segment is that of .eh_frame_hdr */
-    CFI_NoSection = 36,  /* the header points to no loaded segment's bytes of the file */
-    CFI_NotInMemory = 37 /* no window has all bytes of the header or of the section */
+    CFI_NoContext = 64,
+    CFI_NoTable = 65,
+    CFI_NoSegments = 66, /* no segment is loaded */
+    CFI_NoHeader = 67,   /* no segment is that of .eh_frame_hdr */
+    CFI_NoSection = 68,  /* the header points to no loaded segment's bytes of the file */
+    CFI_NotInMemory = 69 /* no window has all bytes of the header or of the section */
 } CfiStatus;
 
 /* A context, or none: all zero, as `CfiContext context = {0};` makes it. The caller keeps this struct, and neither writes

@@ -73,6 +73,8 @@ void open_walk(struct walk *walk) {
     walk->trail = NULL;
     walk->asked = 0;
     walk->is_whole = true;
+    walk->keeps_blocked = false;
+    walk->is_blocked = false;
 }
 
 void begin_walk(struct walk *walk, const struct entry *entry) {
@@ -220,7 +222,13 @@ enum found step_with(struct workspace *workspace, struct walk *walk, const CfiMo
     struct step step = {workspace, walk, module, file};
     if (workspace->first_rows && !--workspace->first_rows)
         enlarge_cache(workspace);
-    return (enum found)call_on_own_stack(workspace, step_anyhow, &step);
+    if (!walk->keeps_blocked || workspace != walk->own)
+        return (enum found)call_on_own_stack(workspace, step_anyhow, &step);
+    if (!walk->is_blocked) {
+        walk->mask = block_signals();
+        walk->is_blocked = true;
+    }
+    return (enum found)call_while_blocked(workspace, step_anyhow, &step);
 }
 
 struct search {

@@ -41,9 +41,12 @@ _Noreturn static void install(const struct walk *walk, const struct entry *entry
     land(&landing);
 }
 
-/* Phase 1: goes up to the frame that handles the exception. */
-static _Unwind_Reason_Code search(struct _Unwind_Exception *exception, struct walk *walk) {
+/* Goes up to the frame that handles the exception. Signals may be blocked then. */
+static inline _Unwind_Reason_Code look_for_handler(struct _Unwind_Exception *exception, struct walk *walk) {
+    enum { BLOCKED = 32 /* frames at most, that signals wait for */ };
     for (uint64_t calls = 0;; calls++) {
+        if (calls % BLOCKED == 0)
+            let_signals(walk);
         enum found found = find_caller(walk);
         if (found != FOUND)
             return found == AT_END ? _URC_END_OF_STACK : _URC_FATAL_PHASE1_ERROR;
@@ -52,6 +55,7 @@ static _Unwind_Reason_Code search(struct _Unwind_Exception *exception, struct wa
             if (!find_asked(walk, &asked))
                 return _URC_FATAL_PHASE1_ERROR;
             record_frame(walk, calls, &asked);
+            let_signals(walk);
             _Unwind_Reason_Code code = ask(asked.personality, _UA_SEARCH_PHASE, exception, walk);
             if (code == _URC_HANDLER_FOUND)
                 return code;
@@ -60,6 +64,16 @@ static _Unwind_Reason_Code search(struct _Unwind_Exception *exception, struct wa
         }
         go_up(walk);
     }
+}
+
+/* Phase 1. Signals are blocked for steps whose rows are found, and from one to the next where nothing of the program's is called
+ * between them: most of a first throw is such steps. */
+static _Unwind_Reason_Code search(struct _Unwind_Exception *exception, struct walk *walk) {
+    walk->keeps_blocked = true;
+    _Unwind_Reason_Code code = look_for_handler(exception, walk);
+    walk->keeps_blocked = false;
+    let_signals(walk);
+    return code;
 }
 
 /* Phase 2 asks a frame: whether a cleanup or the handler is to be entered there, or it goes on. */

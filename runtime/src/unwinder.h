@@ -152,6 +152,9 @@ struct walk {
     uint64_t stamp, at;  /* that of the throw, and which of them the frame is */
     uint64_t asked;      /* how many phase 1 asked, */
     bool is_whole;       /* and whether all are recorded */
+    bool keeps_blocked;  /* signals stay blocked after a step for which they were, until they are let through: */
+    bool is_blocked;     /* they are, */
+    Mask mask;           /* and before these were */
     CfiFunction facts; /* what the FDE of the frame's pc says */
     CfiCaller caller;
 };
@@ -175,6 +178,14 @@ static inline void first_frame(struct walk *walk, const struct entry *entry) {
 /* Finds the FDE's facts and the caller of the frame. AT_END where there is none: its code has no unwind information, or its pc
  * is 0. CORRUPT where the unwind information or the stack is. */
 HIDDEN enum found find_caller(struct walk *walk);
+
+/* Signals that a step left blocked. */
+static inline void let_signals(struct walk *walk) {
+    if (!walk->is_blocked)
+        return;
+    walk->is_blocked = false;
+    set_signals(walk->mask);
+}
 
 /* Calls trace for the frame and those above it, up to the one that has no caller, unless trace stops before. */
 HIDDEN _Unwind_Reason_Code trace_frames(struct walk *walk, _Unwind_Trace_Fn trace, void *argument);
@@ -427,6 +438,9 @@ HIDDEN void look_anew(struct workspace *workspace, uint64_t stack_pointer);
 
 /* Calls on the workspace's stack, with signals blocked: no handler runs there. Under valgrind, on the stack that it is on. */
 HIDDEN int32_t call_on_own_stack(struct workspace *workspace, int32_t (*call)(void *), void *argument);
+
+/* The same where they are blocked. */
+HIDDEN int32_t call_while_blocked(struct workspace *workspace, int32_t (*call)(void *), void *argument);
 
 /* Makes the cache as large as it gets, without a row. */
 HIDDEN void enlarge_cache(struct workspace *workspace);

@@ -22,9 +22,10 @@ enum {
     ROWS = CACHE + SETS * 4 * LINE,
     FIRST = CACHE + FIRST_SETS * 4 * LINE,
     CONTEXT = 196 * LINE, /* what a context takes, */
-    SELDOM = 128 * 1024,  /* but for the rows that it remembers, which few have; more is taken here too */
-    MOST = 44 * 1024,     /* as much of a stack as is taken to make a context now */
+    SELDOM = 2037 * LINE, /* but for the rows that it remembers, which few have; more is taken here too */
+    MOST = 685 * LINE,    /* as much of a stack as is taken to make a context now: with what lies behind it 14 pages of 4 kB */
     STACK = 64 * 1024,    /* as much as it has once the rows have its first place */
+    FIRST_MODULES = 2,    /* most throws meet the program and the library of its language */
     LEFT = 4,             /* so many of those without a place are kept */
     SHARED = 64,          /* so many have a place */
     KEPT = 8,             /* and so many of these stay as they are when their thread ends */
@@ -57,10 +58,11 @@ struct place {
 
 static struct place places[SHARED];
 
-/* That of the first place, and the one that all share where there is no memory. They lie behind all other memory of the library, so
- * that what a first throw touches of that lies together. */
-static __attribute__((section(".bss.regions"))) struct region first, reserve;
-__attribute__((section(".bss.regions"))) struct last_throw last_throws[LAST_THROWS];
+/* That of the first place, and the one that all share where there is no memory. They lie behind all other memory of the library, in a
+ * section of their own: what a program's start and a first throw touch of that lies together, in the page of what isn't 0. */
+#define BEHIND __attribute__((section(".sbss.regions")))
+static BEHIND struct region first, reserve;
+BEHIND struct last_throw last_throws[LAST_THROWS];
 static struct workspace *made_in_reserve;
 static _Atomic(struct section *) read_in_reserve;
 
@@ -155,11 +157,15 @@ static struct room room_of(char *start, size_t size) {
 }
 
 /* Valgrind's tools take a switch of stacks for other things, so it is not done there. */
+int32_t call_while_blocked(struct workspace *workspace, int32_t (*call)(void *), void *argument) {
+    return is_on_valgrind() ? call(argument) : call_on_stack(call, argument, workspace->stack.end);
+}
+
 int32_t call_on_own_stack(struct workspace *workspace, int32_t (*call)(void *), void *argument) {
     if (is_on_valgrind())
         return call(argument);
     Mask mask = block_signals();
-    int32_t result = call_on_stack(call, argument, workspace->stack.end);
+    int32_t result = call_while_blocked(workspace, call, argument);
     set_signals(mask);
     return result;
 }
@@ -202,17 +208,17 @@ static void begin_empty(struct region *region) {
     make_cache(workspace, FIRST_SETS, FIRST);
 }
 
-/* Makes the workspace of a region. A larger stack has room too. Later steps have theirs in the place of the rows, until there are
+/* Makes the workspace of a region, with signals blocked. A larger stack has room too. Later steps have theirs in the place of the rows, until there are
  * more of them. */
 static bool make(struct region *region) {
     struct workspace *workspace = &region->workspace, **made = made_here(), *was = *made;
     char *top = region->context;
-    touch(top - MOST, (size_t)((char *)&region->all_modules[1] - (top - MOST)));
+    touch(top - MOST, (size_t)((char *)&region->all_modules[FIRST_MODULES] - (top - MOST)));
     workspace->rooms[0] = room_of(region->context, CONTEXT);
     workspace->rooms[1] = room_of(region->seldom, SELDOM);
     workspace->stack = room_of(region->stack, (size_t)(top - region->stack));
     *made = workspace;
-    int32_t status = call_on_own_stack(workspace, make_context, workspace);
+    int32_t status = call_while_blocked(workspace, make_context, workspace);
     *made = was;
     if (status != CFI_Ok)
         return false;

@@ -65,14 +65,14 @@ IsScannedForC bases bytes a out rules first count =
     IsAnsweredForC (row_by_scan (Some 192) (Some 4) (eh_frame_of bases bytes) a) out rules first
     count
 
--- 32: there is no context
+-- 64: there is no context
 abbrev pub IsAnswerForC :
     Bool → CfiBases → List ℕ → Option (List ℕ) → ℕ → CfiRow → List CfiRule → ℕ → ℕ → Type 0
 IsAnswerForC true bases bytes header a out rules first count =
     (answer : Result (Row ℕ) Error) × IsSizedAnswer bases bytes header a answer
     × IsAnsweredForC answer out rules first count
 IsAnswerForC false bases bytes header a out rules first count =
-    (out.status ≡ pos 32) × (out.refused ≡ 0)
+    (out.status ≡ pos 64) × (out.refused ≡ 0)
 
 -- whether there is a context
 abbrev pub is_live : {A : Type 0} → Option A → Bool

@@ -44,7 +44,7 @@ written_end ends.NoRoom = plain_end 3 0
 written_end (ends.Failed e) = failed_end e
 
 abbrev pub no_context : CfiEnd
-no_context = record { refused = 0; kind = 16; status = pos 32 }
+no_context = record { refused = 0; kind = 16; status = pos 64 }
 
 -- 17: there is a caller
 abbrev pub end_at : Option ℕ → CfiEnd

@@ -173,16 +173,16 @@ image_module given windows bias headers =
 -- ---- what C gets
 
 abbrev pub image_status : ImageError → ℤ
-image_status images.NoSegments = pos 34
-image_status images.NoHeader = pos 35
-image_status images.NoSection = pos 36
-image_status images.NotInMemory = pos 37
+image_status images.NoSegments = pos 66
+image_status images.NoHeader = pos 67
+image_status images.NoSection = pos 68
+image_status images.NotInMemory = pos 69
 image_status (images.Refused e) = error_status e
 
 -- nothing is written where there is none
 abbrev pub IsRangeMade : Option CfiRange → CfiRange → CfiRange → ℤ → Type 0
 IsRangeMade (Some range) old new status = (status ≡ pos 0) × (new ≡ range)
-IsRangeMade None old new status = (status ≡ pos 34) × (new ≡ old)
+IsRangeMade None old new status = (status ≡ pos 66) × (new ≡ old)
 
 abbrev pub IsModuleMade : Result ImageModule ImageError → ImageModule → ImageModule → ℤ → Type 0
 IsModuleMade (Ok made) old new status = (status ≡ pos 0) × (new ≡ made)

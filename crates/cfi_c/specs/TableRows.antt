@@ -50,8 +50,8 @@ IsTableMade bases bytes old status new =
 abbrev pub unplaced : Parts ℕ → Row ℕ
 unplaced parts = record { start_address = 0; end_address = 0; parts = parts }
 
--- 33: there is no table
+-- 65: there is no table
 abbrev pub IsTableRow : Option TableContents → ℕ → CfiRow → List CfiRule → Type 0
 IsTableRow (Some table) a out rules =
     IsAnsweredForC (map_ok unplaced (parts_at table a)) out rules 0 (length rules)
-IsTableRow None a out rules = (out.status ≡ pos 33) × (out.refused ≡ 0)
+IsTableRow None a out rules = (out.status ≡ pos 65) × (out.refused ≡ 0)

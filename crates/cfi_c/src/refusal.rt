@@ -1,4 +1,4 @@
-//! Errors as numbers and names.
+//! Errors as numbers and names. Up to 63 they are the library's, from 64 on those of C alone.
 ghost use Rattle.std.specs.Prelude.{◌≡◌, ◌<◌, ℕ, length, pos, slice_index_or};
 ghost use Rattle.cfi_read_core.specs.RefusalNames.{name_of};
 ghost use Rattle.cfi_c.specs.Refusals.{status_name, error_status};
@@ -6,32 +6,32 @@ ghost use Rattle.cfi_c.specs.Refusals.{status_name, error_status};
 use gimli_cfi::{DwCfa, DwEhPe, Error, ReaderOffsetId};
 
 /// The status where there is no context.
-pub const NO_CONTEXT: i32 = 32;
+pub const NO_CONTEXT: i32 = 64;
 
 /// The status where there is no table.
-pub const NO_TABLE: i32 = 33;
+pub const NO_TABLE: i32 = 65;
 
 /// The status of a file of which no segment is loaded.
-pub const NO_SEGMENTS: i32 = 34;
+pub const NO_SEGMENTS: i32 = 66;
 
 /// The status of a file without a segment of `.eh_frame_hdr`.
-pub const NO_HEADER: i32 = 35;
+pub const NO_HEADER: i32 = 67;
 
 /// The status of a header that points to no segment that is loaded.
-pub const NO_SECTION: i32 = 36;
+pub const NO_SECTION: i32 = 68;
 
 /// The status where no window has the bytes of a header or a section.
-pub const NOT_IN_MEMORY: i32 = 37;
+pub const NOT_IN_MEMORY: i32 = 69;
 
-/// Returns the status of an error: its number, from 1 to 31.
+/// Returns the status of an error: its number, from 1 on.
 pub fn number_of(error: Error) -> i32
     ensures { result ≡ error_status error }
 {
     i32::from(error.number())
 }
 
-/// The errors in the order of their numbers, from 1 on. A name does not show what an error carries,
-/// so that is 0 here.
+/// The errors in the order of their numbers, from 1 on; `tools/errors` writes them. A name does not
+/// show what an error carries, so that is 0 here.
 const REFUSALS: [Error; 31] = [
     Error::UnexpectedEof(ReaderOffsetId(0)),
     Error::BadUnsignedLeb128,
@@ -101,33 +101,36 @@ pub fn name_of(status: i32) -> &'static [u8]
     if number == 0 {
         return b"Ok";
     }
-    if number > 31 {
+    if number > 63 {
         return own_name(number);
+    }
+    if number > REFUSALS.len() {
+        return b"Unknown";
     }
     REFUSALS[number - 1].name().as_bytes()
 }
 
 /// Returns the name of a status that is no error of the sections.
 fn own_name(number: usize) -> &'static [u8]
-    requires { 31 < number }
+    requires { 63 < number }
     ensures { result.now ≡ status_name (pos number) }
 {
-    if number > 37 {
+    if number > 69 {
         return b"Unknown";
     }
-    if number == 32 {
+    if number == 64 {
         return b"NoContext";
     }
-    if number == 33 {
+    if number == 65 {
         return b"NoTable";
     }
-    if number == 34 {
+    if number == 66 {
         return b"NoSegments";
     }
-    if number == 35 {
+    if number == 67 {
         return b"NoHeader";
     }
-    if number == 36 {
+    if number == 68 {
         return b"NoSection";
     }
     b"NotInMemory"

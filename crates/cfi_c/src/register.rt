@@ -2,6 +2,9 @@
 ghost use Rattle.std.specs.Prelude.{◌≡◌, ◌≤◌, length, map, take};
 ghost use Rattle.cfi_c.specs.PassedRegisters.{AreValues, known_value, written_value};
 
+/// For so many registers little of the stack is taken.
+pub const FEW: usize = 32;
+
 /// The value of a register, if it is known.
 #[repr(C)]
 #[derive(Clone, Copy)]

@@ -13,16 +13,13 @@ use crate::end::{CfiEnd, end_by, no_context, unsized_end};
 use crate::function::{CfiFunction, written_function};
 use crate::memory::{CfiMemory, abi_in};
 use crate::module::{CfiModule, is_debug_frame, loaded_of};
-use crate::register::{CfiValue, first_registers, write_registers, write_values};
+use crate::register::{CfiValue, FEW, first_registers, write_registers, write_values};
 use crate::section::is_sized;
 use cfi_step::{
     AddressSize, Caller, Frame, FrameError, FunctionStep, row_address, step_in_function,
 };
 use std::alloc::Global;
 use std::mem;
-
-/// For so many registers little of the stack is taken.
-const FEW: usize = 32;
 
 /// The caller of a frame.
 #[repr(C)]

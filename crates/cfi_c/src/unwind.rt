@@ -11,7 +11,7 @@ use crate::frame::CfiFrame;
 use crate::memory::window_over;
 use crate::module::CfiModule;
 use crate::passed_steps::PassedSteps;
-use crate::register::{CfiValue, first_registers, write_values};
+use crate::register::{CfiValue, FEW, first_registers, write_values};
 use crate::section::is_sized;
 use crate::stack::{CfiStack, abi_of};
 use cfi_step::code_ranges::out_of_order;
@@ -75,7 +75,55 @@ fn unwind(
 }
 
 /// Writes the frames, by the registers of the innermost one, and says why there are no more.
+///
+/// Few registers take little of the stack, as in `cfi_step`.
 fn walk_from(
+    context: &mut Context,
+    modules: &[CfiModule<'_>],
+    stack: &CfiStack<'_>,
+    pc: u64,
+    registers: &[CfiValue],
+    frames: &mut [CfiFrame],
+) -> Walk
+    requires size { IsAddressSize stack.now.address_size }
+    requires room { length registers.now ≤ 256 }
+    ensures { IsWalkTo result.end modules.now stack.now pc (map known_value registers.now)
+        frames.old frames.new result.count }
+{
+    if registers.len() <= FEW {
+        walk_by_few(context, modules, stack, pc, registers, frames)
+    } else {
+        walk_by_many(context, modules, stack, pc, registers, frames)
+    }
+}
+
+/// The same for at most 32 registers.
+#[inline(never)]
+fn walk_by_few(
+    context: &mut Context,
+    modules: &[CfiModule<'_>],
+    stack: &CfiStack<'_>,
+    pc: u64,
+    registers: &[CfiValue],
+    frames: &mut [CfiFrame],
+) -> Walk
+    requires size { IsAddressSize stack.now.address_size }
+    requires room { length registers.now ≤ 32 }
+    ensures { IsWalkTo result.end modules.now stack.now pc (map known_value registers.now)
+        frames.old frames.new result.count }
+{
+    let mut known = [None; FEW];
+    let mut found = [None; FEW];
+    let known = &mut known[..registers.len()];
+    let found = &mut found[..registers.len()];
+    write_values(registers, known);
+    write_values(registers, found);
+    walk(context, modules, stack, pc, known, found, frames)
+}
+
+/// The same for any number of them.
+#[inline(never)]
+fn walk_by_many(
     context: &mut Context,
     modules: &[CfiModule<'_>],
     stack: &CfiStack<'_>,

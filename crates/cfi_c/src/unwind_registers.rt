@@ -12,7 +12,7 @@ use crate::frame::CfiFrame;
 use crate::memory::window_over;
 use crate::module::CfiModule;
 use crate::passed_steps::PassedSteps;
-use crate::register::{CfiValue, first_registers, write_values, written_value};
+use crate::register::{CfiValue, FEW, first_registers, write_values, written_value};
 use crate::section::is_sized;
 use crate::stack::{CfiStack, abi_of};
 use cfi_step::code_ranges::out_of_order;
@@ -95,7 +95,57 @@ fn unwind(
 }
 
 /// Writes them by the registers of the innermost frame, and says why there are no more.
+///
+/// Few registers take little of the stack, as in `cfi_step`.
 fn walk_from(
+    context: &mut Context,
+    modules: &[CfiModule<'_>],
+    stack: &CfiStack<'_>,
+    pc: u64,
+    registers: &[CfiValue],
+    frames: &mut [CfiFrame],
+    values: &mut [CfiValue],
+) -> Walk
+    requires size { IsAddressSize stack.now.address_size }
+    requires room { length registers.now ≤ 256 }
+    ensures { IsWalkedTo (IsStepForC stack.now modules.now) result.end pc
+        (map known_value registers.now) frames.old frames.new values.old values.new result.count }
+{
+    if registers.len() <= FEW {
+        walk_by_few(context, modules, stack, pc, registers, frames, values)
+    } else {
+        walk_by_many(context, modules, stack, pc, registers, frames, values)
+    }
+}
+
+/// The same for at most 32 registers.
+#[inline(never)]
+fn walk_by_few(
+    context: &mut Context,
+    modules: &[CfiModule<'_>],
+    stack: &CfiStack<'_>,
+    pc: u64,
+    registers: &[CfiValue],
+    frames: &mut [CfiFrame],
+    values: &mut [CfiValue],
+) -> Walk
+    requires size { IsAddressSize stack.now.address_size }
+    requires room { length registers.now ≤ 32 }
+    ensures { IsWalkedTo (IsStepForC stack.now modules.now) result.end pc
+        (map known_value registers.now) frames.old frames.new values.old values.new result.count }
+{
+    let mut known = [None; FEW];
+    let mut found = [None; FEW];
+    let known = &mut known[..registers.len()];
+    let found = &mut found[..registers.len()];
+    write_values(registers, known);
+    write_values(registers, found);
+    walk(context, modules, stack, pc, known, found, frames, values)
+}
+
+/// The same for any number of them.
+#[inline(never)]
+fn walk_by_many(
     context: &mut Context,
     modules: &[CfiModule<'_>],
     stack: &CfiStack<'_>,
@@ -115,6 +165,26 @@ fn walk_from(
     let found = &mut found[..registers.len()];
     write_values(registers, known);
     write_values(registers, found);
+    walk(context, modules, stack, pc, known, found, frames, values)
+}
+
+/// Writes them, and says why there are no more.
+fn walk(
+    context: &mut Context,
+    modules: &[CfiModule<'_>],
+    stack: &CfiStack<'_>,
+    pc: u64,
+    registers: &mut [Option<u64>],
+    caller: &mut [Option<u64>],
+    frames: &mut [CfiFrame],
+    values: &mut [CfiValue],
+) -> Walk
+    requires size { IsAddressSize stack.now.address_size }
+    requires room { length registers.old ≤ 256 }
+    requires same { caller.old ≡ registers.old }
+    ensures { IsWalkedTo (IsStepForC stack.now modules.now) result.end pc registers.old
+        frames.old frames.new values.old values.new result.count }
+{
     let steps = PassedSteps {
         modules,
         are_in_order: out_of_order(modules).is_none(),
@@ -122,7 +192,7 @@ fn walk_from(
         memory: window_over(stack.base, stack.bytes, stack.big_endian),
         abi: abi_of(stack),
     };
-    write_all(&steps, context, pc, known, found, frames, values)
+    write_all(&steps, context, pc, registers, caller, frames, values)
 }
 
 /// Writes frame after frame, each with its registers, as `write_frames` without a cache.

@@ -72,17 +72,17 @@ pub const CFI_NoUnwindInfoForAddress: i32 = 30;
 /// The error `OutOfMemory`.
 pub const CFI_OutOfMemory: i32 = 31;
 /// There is no context.
-pub const CFI_NoContext: i32 = 32;
+pub const CFI_NoContext: i32 = 64;
 /// There is no table.
-pub const CFI_NoTable: i32 = 33;
+pub const CFI_NoTable: i32 = 65;
 /// No segment is loaded.
-pub const CFI_NoSegments: i32 = 34;
+pub const CFI_NoSegments: i32 = 66;
 /// No segment is that of `.eh_frame_hdr`.
-pub const CFI_NoHeader: i32 = 35;
+pub const CFI_NoHeader: i32 = 67;
 /// The header points to no segment that is loaded.
-pub const CFI_NoSection: i32 = 36;
+pub const CFI_NoSection: i32 = 68;
 /// No window has all bytes of the header or of the section.
-pub const CFI_NotInMemory: i32 = 37;
+pub const CFI_NotInMemory: i32 = 69;
 
 /// A context, or none: all zero. The caller keeps this struct, and neither writes its fields nor copies it while it is
 /// live; it may be moved. It stays on the thread that made it.

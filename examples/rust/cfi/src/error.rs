@@ -162,7 +162,7 @@ mod tests {
     /// The names are those that the library gives its statuses, and there is one for each.
     #[test]
     fn names() {
-        for status in 1..=31 {
+        for status in 1..=KINDS.len() as i32 {
             let mut name = [0; 64];
             let length = unsafe { cfi_sys::cfi_status_name(status, name.as_mut_ptr(), name.len()) };
             let kind = Error::new(status, 0).kind();

@@ -2,7 +2,7 @@ use Rattle.std.proofs.Common.{◌≡◌, rules, true}
 use Rattle.std.specs.Prelude.{is_none}
 use Rattle.cfi_expression.specs.Windows.{number_in}
 use Rattle.cfi_c.proofs.StepsInModules.{if_none}
-use Rattle.cfi_c.proofs.unwind_registers.walk_from.Goals as goal
+use Rattle.cfi_c.proofs.unwind_registers.walk.Goals as goal
 
 pub write_all-requires-clause-can : goal.write_all-requires-clause-can
 write_all-requires-clause-can c = λ rows. (
