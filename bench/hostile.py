@@ -56,7 +56,7 @@ LIMITS = {
     'rows_one_long_name': (2.3, 15),
     'row_plt_entries': (2.2, 150),
     'rows_relocation_sections_in_one_place': (2.2, 200),
-    # each file is compared with the others, each process has its mappings
+    # each mapping moves those above it, its file is looked for among all, each process has its mappings
     'unwind_mappings': (2.4, 5),
     'unwind_mappings_falling': (2.4, 5),
     'unwind_mappings_split': (2.8, 15),
