@@ -19,4 +19,4 @@ pub returns-in-Err : goal.returns-in-Err
 returns-in-Err g c =
     let code = c.args.process.now.code in
     let frames = map (walked_frame (not c.args.listing.raw) (map known_view code.files.now) code.mappings.now) (found_frames c.args.found c.args.walked.now) in
-    none_written c.args.listing.format (g.W.Write.contents c.args.output.now) (thread_object c.args.listing.raw (stack_with (name_bytes c.args.process.now.name) (thread_view c.args.thread.now) c.args.found frames)) _
+    none_written c.args.listing.format (g.W.Write.contents c.args.output.now) (thread_object c.args.listing.raw (stack_with (name_bytes c.args.process.now.name) (thread_view c.args.thread.now) c.args.found frames))
