@@ -1,5 +1,9 @@
 //! Prints and checks the call frames of ELF files; prints the stacks of profiles and core files,
 //! and the flame graphs and reports of folded stacks.
+//!
+//! `values` are those of a command's options, as clap matched them; a `task` is what they ask for,
+//! `answer` prints its result, and `checks` those of several files. `ending` writes the output and
+//! says the status.
 #![tactic(auto)]
 
 mod answer;

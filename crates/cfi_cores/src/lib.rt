@@ -2,10 +2,10 @@
 //!
 //! A core file is an ELF file of type `ET_CORE`. Its segments of type `PT_NOTE` have the registers
 //! of each thread (`NT_PRSTATUS`) and the files that were mapped (`NT_FILE`), those of type
-//! `PT_LOAD` the memory. `core_file` reads it, `contents` its notes, `thread`, `mapped_files`,
-//! `process_name`, `fault`, `auxiliary_vector` and `vdso` what these say; `builds` finds images of
-//! files in the memory, and their build ids; `registers` finds a thread's registers by DWARF's
-//! numbers, and `memory` reads the memory.
+//! `PT_LOAD` the memory (`segments`). `core_file` reads it, or says why it can't (`error`),
+//! `contents` its notes, `thread`, `mapped_files`, `process_name`, `fault`, `auxiliary_vector` and
+//! `vdso` what these say; `builds` finds images of files in the memory, and their build ids;
+//! `registers` finds a thread's registers by DWARF's numbers, and `memory` reads the memory.
 //!
 //! `core_parts` reads the parts of a core file that its stacks need, which `needed_ranges` finds.
 //! Of these parts `core_notes` reads the notes, `core_heads` the headers with them, `partial_cores`

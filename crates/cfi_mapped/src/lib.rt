@@ -1,12 +1,12 @@
 //! What is mapped in processes, and the files that it is of.
 //!
 //! `mappings` and `processes` follow what is mapped where in each process, `threads` the names of
-//! threads. `wanted_files` says which files a profile's mappings are of, which a `file_list` has
-//! each once, and `read_files` opens them and their debug files by an `opener`: `opened_file` is
-//! what was read, of code its `code_parts`, of a build that `file_builds` tells. `text_symbols`
-//! reads symbols that are text:
-//! `kernel_symbols` and `kernel_names` those of the kernel, `code_map` those of code that a process
-//! made.
+//! threads. A file is `wanted` by its name, build and process, and may be a text; `wanted_files`
+//! finds those that a profile's mappings are of, each once in a `file_list`. `read_files` opens
+//! them and their debug files by an `opener`: `opened_file` is what was read, of code its
+//! `code_parts`, of a build that `file_builds` tells. `text_symbols` reads symbols that are text:
+//! `kernel_symbols` and `kernel_names` those of the kernel, `code_map` those of code that a
+//! process made. `names` are those of files and functions.
 #![tactic(auto)]
 
 pub mod code_map;

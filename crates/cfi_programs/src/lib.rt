@@ -1,6 +1,8 @@
-//! The program `cfi_rows`, over any reader and writer: the words that name a section and its
-//! addresses, its numbers, the input in hexadecimal, what is printed where words or input are wrong
-//! (`wrong_lines`), and the run of the program.
+//! The program `cfi_rows`, over any reader and writer.
+//!
+//! `arguments` are the words of the process; `words` says which section and addresses they name,
+//! with `numbers`; `input` reads the section in hexadecimal. `rows` looks the row up and prints it,
+//! `wrong_lines` what is printed where words or input are wrong, and `run` is the whole.
 #![tactic(auto)]
 
 mod arguments;

@@ -1,4 +1,11 @@
 //! How rows, their rules and their expressions are printed, in text and in JSON.
+//!
+//! A row is a line of text (`row_line`, of parts in `row_text`; with its expressions in words
+//! `row_words`) or an object of JSON (`json_row`). `plain_rows` prints rows without expressions one
+//! after the other, by the rules that `kept_rules` has of rows before; `register_rules` looks rules
+//! up. `expression_words` says expressions in words, by the table in `operations`, which
+//! `operation_reader` reads by. `refusal_text` says why there is no row, and `style` is the form of
+//! all lines.
 #![tactic(auto)]
 
 pub mod expression_words;

@@ -1,6 +1,10 @@
-//! The parts of which the programs make their lines: text that is put together and written, numbers
-//! and addresses, names, the names of registers, the strings of JSON, and the lines that say why
-//! there is no answer. `reading` and `beginnings` read an input to its end.
+//! The parts of which the programs make their lines.
+//!
+//! A `text` is put together part by part and written by `lines`: `addresses`, names as they are
+//! printed (`escapes`, of `name_parts`), `register_names`, in a form (`style`). `refusals` are the
+//! lines that say why there is no result: of an input that can't be read `input_refusals`, with
+//! what errors say in `error_lines` and `error_words`. `reading` and `beginnings` read an input to
+//! its end.
 #![tactic(auto)]
 
 mod addresses;
