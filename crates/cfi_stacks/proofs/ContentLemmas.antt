@@ -151,8 +151,8 @@ module _ (with_functions : Bool) {Handle : Type 0} (may_open : FilePlace → Opt
       more P Q then (line, prints, inr refusal) = (line, prints, inr refusal)
 
       print_records : (machine : SampleMachine) (found : Records) → HoldsOfRecords with_functions may_open remaining Is machine found → With (λ line. HoldsOfRecords with_functions may_open remaining (At line) machine found)
-      print_records machine found (sorted, order, opened, are, files, named, is) =
-          more (λ line. Printed machine files sorted found.error line) (λ line. HoldsOfRecords with_functions may_open remaining (At line) machine found) (λ line of. (sorted, order, opened, are, files, named, of)) (each machine files sorted found.error is)
+      print_records machine found (sorted, order, (opened, are, files, named, is)) =
+          more (λ line. Printed machine files sorted found.error line) (λ line. HoldsOfRecords with_functions may_open remaining (At line) machine found) (λ line of. (sorted, order, (opened, are, files, named, of))) (each machine files sorted found.error is)
 
       print_machine : (machine : Option SampleMachine) (found : Records) → HoldsOfMachine with_functions may_open remaining Is IsRefused IsUnknown machine found
           → With (λ line. HoldsOfMachine with_functions may_open remaining (At line) (λ e. line ≡ perf_refusal format e) (line ≡ unknown_machine format) machine found)

@@ -1,23 +1,19 @@
 -- One more record of an index, whose stack is handed to a visitor or not.
-use Rattle.std.proofs.Common.{◌≡◌, ◌∙◌, ℕ, ◌+◌, ◌<◌, ◌≤◌, Bool, true, false, true≢false, List, [], ◌∷◌, ◌++◌, Option, Some, None, Result, Ok, Err, ap, arith, drop, get_or, inl, inr, length, map, nat_eq, option_map, refl, subst, sym, take, append-nil, ◌-◌}
+use Rattle.std.proofs.Common.{◌≡◌, ◌∙◌, ℕ, ◌+◌, ◌<◌, ◌≤◌, Bool, true, false, true≢false, List, [], ◌∷◌, ◌++◌, Option, Some, None, Result, Ok, Err, ap, arith, drop, get_or, inl, inr, length, map, nat_eq, refl, subst, sym, take, append-nil}
 use Rattle.std.proofs.lemmas.List.{get_or_default, length-map, take_all, take-append-drop}
 use Rattle.std.specs.Prelude.{⊤}
 use Rattle.std.specs.List.{FoldsTo}
 use Rattle.std.specs.Option.{option_eq}
 use Rattle.cfi_text.specs.declared.reading.InputError.{InputError}
 use Rattle.cfi_perf.specs.declared.error.PerfError.{PerfError}
-use Rattle.cfi_perf.specs.declared.index.PlaceKind.{PlaceKind}
-use Rattle.cfi_perf.specs.declared.index.PlaceKind.TheVariants.{InFile}
 use Rattle.cfi_perf.specs.declared.index.RecordPlace.{RecordPlace}
-use Rattle.cfi_perf.specs.declared.record.Record.{Record as RecordOfCode}
 use Rattle.cfi_perf.specs.declared.record.Event.{Event as EventOfCode}
 use Rattle.cfi_perf.specs.declared.record.Event.TheVariants as events
 use Rattle.cfi_perf.specs.declared.sample.Sample.{Sample as SampleOfCode}
-use Rattle.cfi_perf.specs.Events.{Event, Record, ForkEvent, LostEvent, MappingEvent, OtherEvent, ProgramEvent, SampleEvent, event_view, record_view}
+use Rattle.cfi_perf.specs.Events.{Event, Record, ForkEvent, LostEvent, MappingEvent, OtherEvent, ProgramEvent, SampleEvent, event_view}
 use Rattle.cfi_perf.specs.Indexes.{places_of}
 use Rattle.cfi_perf.specs.Recordings.{is_sample}
-use Rattle.cfi_perf.specs.Samples.{Sample, sample_view}
-use Rattle.cfi_perf.specs.Windows.{record_alone}
+use Rattle.cfi_perf.specs.Samples.{Sample}
 use Rattle.cfi_processes.specs.declared.registers.SampleMachine.{SampleMachine}
 use Rattle.cfi_processes.specs.declared.profile_files.ProfileFile.{ProfileFile}
 use Rattle.cfi_processes.specs.KnownFiles.{KnownFile, known_view}
@@ -27,7 +23,7 @@ use Rattle.cfi_stacks.specs.declared.visitor.VisitError.TheVariants.{Input, Prof
 use Rattle.cfi_stacks.specs.Choices.{Choice}
 use Rattle.cfi_stacks.specs.ChosenStacks.{AreStacks, IsSampleStack, IsStackOf}
 use Rattle.cfi_stacks.specs.KnownSamples.{Known, KnownSample}
-use Rattle.cfi_stacks.specs.ProfileIndexes.{HoldsOf, IsIndex, IsIndexOf, IsKernelFit, IsReadAt, IsReadBy, IsRecordsPart, Piece, piece_place, record_of}
+use Rattle.cfi_stacks.specs.ProfileIndexes.{HoldsOf, IsIndex, IsIndexOf, IsReadAt, Piece, piece_place, record_of}
 use Rattle.cfi_stacks.specs.SampleOutputs.{Stack}
 use Rattle.cfi_stacks.specs.TakenSamples.{taken_of}
 use Rattle.cfi_stacks.specs.Turns.{IsKnownAfter, IsTurn, is_not_chosen, left_after, sample_record}
@@ -62,15 +58,6 @@ no_sample (events.Fork f) not = refl
 no_sample (events.Sample s) not = absurd (not s refl)
 no_sample (events.Lost l) not = refl
 no_sample events.Other not = refl
-
--- ---- a sample that is read again
-
-pub sample_read : (known : Option (List ℕ)) (index : ProfileIndex) (place : RecordPlace) (bytes : List ℕ) (item : RecordOfCode) (s : SampleOfCode) → place.kind ≡ InFile → IsRecordsPart known index.walk place.offset place.size bytes
-    → record_alone index.walk bytes ≡ Ok (record_view item) → item.event ≡ events.Sample s → item.time ≡ place.time → IsKernelFit index.kernel place.offset (record_view item).event → IsReadAt known index place (sample_record place.time (sample_view s))
-sample_read known index place bytes item s kind part alone is time fit =
-    let same : record_view item ≡ sample_record place.time (sample_view s) = λ i. record { time = time i; event = event_view (is i) } in
-    subst (λ (k : PlaceKind). IsReadBy k known index place (sample_record place.time (sample_view s))) (sym kind)
-    (bytes, part, alone ∙ ap Ok same, refl, refl, subst (λ (event : Event). IsKernelFit index.kernel place.offset event) (ap event_view is) fit)
 
 -- nothing comes of it
 module _ {A : Type 0} (IsOf : KnownSample → List A → Type 0) (files : List KnownFile) (choice : Choice) (before now : Known) (left more : Option ℕ) (same : more ≡ left) where

@@ -120,18 +120,21 @@ abbrev pub unknown_machine : Format → Line
 unknown_machine format = why_line format (codes "unknown machine") 1
 
 -- behind stacks that were printed
+abbrev pub EndsBy :
+    {E F : Type 0} → Format → VisitError E → Option (List ℕ) → Option (List ℕ) → Result ℕ F →
+    Type 0
+EndsBy format (stopped.Records e) old new result =
+    Prints (profile_ended format [] (Some e)) old new result
+EndsBy format (stopped.Profile e) old new result = Prints (perf_refusal format e) old new result
+EndsBy format stopped.UnknownMachine old new result = Prints (unknown_machine format) old new result
+EndsBy format (stopped.Input why) old new result = Prints (input_refusal format why) old new result
+EndsBy format (stopped.Visitor why) old new result = (new ≡ old) × IsErr result
+
 abbrev pub Ends :
     {T E F : Type 0} → Format → Result T (VisitError E) → Option (List ℕ) → Option (List ℕ) →
     Result ℕ F → Type 0
 Ends format (Ok done) old new result = Prints (profile_ended format [] None) old new result
-Ends format (Err (stopped.Records e)) old new result =
-    Prints (profile_ended format [] (Some e)) old new result
-Ends format (Err (stopped.Profile e)) old new result = Prints (perf_refusal format e) old new result
-Ends format (Err stopped.UnknownMachine) old new result =
-    Prints (unknown_machine format) old new result
-Ends format (Err (stopped.Input why)) old new result =
-    Prints (input_refusal format why) old new result
-Ends format (Err (stopped.Visitor why)) old new result = (new ≡ old) × IsErr result
+Ends format (Err why) old new result = EndsBy format why old new result
 
 -- folded stacks, or memory was refused for their lines
 abbrev pub IsEndFolded : List Stack → Option PerfError → Line → Type 0
@@ -139,20 +142,24 @@ IsEndFolded folded error printed =
     (printed ≡ profile_ended formats.Text (flat_map line_text folded) error)
     ⊎ (printed ≡ input_refusal formats.Text OutOfMemory)
 
+abbrev pub EndsFoldedBy :
+    {F : Type 0} → List Stack → VisitError FoldedError → Option (List ℕ) → Option (List ℕ) →
+    Result ℕ F → Type 0
+EndsFoldedBy folded (stopped.Records e) old new result =
+    PrintsSome (IsEndFolded folded (Some e)) old new result
+EndsFoldedBy folded (stopped.Profile e) old new result =
+    Prints (perf_refusal formats.Text e) old new result
+EndsFoldedBy folded stopped.UnknownMachine old new result =
+    Prints (unknown_machine formats.Text) old new result
+EndsFoldedBy folded (stopped.Input why) old new result =
+    Prints (input_refusal formats.Text why) old new result
+EndsFoldedBy folded (stopped.Visitor why) old new result = Prints (uncounted why) old new result
+
 abbrev pub EndsFolded :
     {T F : Type 0} → List Stack → Result T (VisitError FoldedError) → Option (List ℕ) →
     Option (List ℕ) → Result ℕ F → Type 0
 EndsFolded folded (Ok done) old new result = PrintsSome (IsEndFolded folded None) old new result
-EndsFolded folded (Err (stopped.Records e)) old new result =
-    PrintsSome (IsEndFolded folded (Some e)) old new result
-EndsFolded folded (Err (stopped.Profile e)) old new result =
-    Prints (perf_refusal formats.Text e) old new result
-EndsFolded folded (Err stopped.UnknownMachine) old new result =
-    Prints (unknown_machine formats.Text) old new result
-EndsFolded folded (Err (stopped.Input why)) old new result =
-    Prints (input_refusal formats.Text why) old new result
-EndsFolded folded (Err (stopped.Visitor why)) old new result =
-    Prints (uncounted why) old new result
+EndsFolded folded (Err why) old new result = EndsFoldedBy folded why old new result
 
 -- ---- a profile
 

@@ -7,9 +7,9 @@ ghost use Rattle.cfi_text.specs.WriterOutput.{Prints, PrintsSome};
 ghost use Rattle.cfi_stacks.specs.Choices.{choice_view};
 ghost use Rattle.cfi_stacks.specs.ChosenStacks.{sample_weight};
 ghost use Rattle.cfi_stacks.specs.ProfileNotices.{IsProfileSaid};
-ghost use Rattle.cfi_stacks.specs.ProfileOutputs.{Counts, EndsFolded, IsEndFolded, IsFolded};
-ghost use Rattle.cfi_stacks.specs.ProfileOutputs.{IsNotCounted, IsOwed, profile_ended, too_many};
-ghost use Rattle.cfi_stacks.specs.ProfileOutputs.{uncounted};
+ghost use Rattle.cfi_stacks.specs.ProfileOutputs.{Counts, EndsFolded, EndsFoldedBy, IsEndFolded};
+ghost use Rattle.cfi_stacks.specs.ProfileOutputs.{IsFolded, IsNotCounted, IsOwed, profile_ended};
+ghost use Rattle.cfi_stacks.specs.ProfileOutputs.{too_many, uncounted};
 ghost use Rattle.cfi_stacks.specs.SampleOutputs.{stack_view};
 
 use crate::choice::Choice;
@@ -128,14 +128,29 @@ fn write_folded_end<W: Write>(
     ensures { EndsFolded (counted_in counts.now) visited (W.contents output.old)
         (W.contents output.new) result }
 {
-    let format = Format::Text;
     match visited {
         Ok(()) => write_counts(alloc, counts, None, output),
-        Err(VisitError::Records(error)) => write_counts(alloc, counts, Some(error), output),
-        Err(VisitError::Profile(error)) => write_perf_refusal(output, format, error),
-        Err(VisitError::UnknownMachine) => write_unknown_machine(output, format),
-        Err(VisitError::Input(error)) => write_input_refusal(output, format, error),
-        Err(VisitError::Visitor(error)) => write_uncounted(output, error),
+        Err(error) => write_stopped(alloc, counts, error, output),
+    }
+}
+
+/// Prints the stacks that were counted and the error that ended the records, or why there are none.
+fn write_stopped<W: Write>(
+    alloc: Global,
+    counts: &StackCounts,
+    error: VisitError<FoldedError>,
+    output: &mut W,
+) -> io::Result<u8>
+    ensures { EndsFoldedBy (counted_in counts.now) error (W.contents output.old)
+        (W.contents output.new) result }
+{
+    let format = Format::Text;
+    match error {
+        VisitError::Records(error) => write_counts(alloc, counts, Some(error), output),
+        VisitError::Profile(error) => write_perf_refusal(output, format, error),
+        VisitError::UnknownMachine => write_unknown_machine(output, format),
+        VisitError::Input(error) => write_input_refusal(output, format, error),
+        VisitError::Visitor(error) => write_uncounted(output, error),
     }
 }
 

@@ -2,7 +2,7 @@
 ghost use Rattle.std.specs.Prelude.{◌≡◌, ◌++◌};
 ghost use Rattle.cfi_text.specs.WriterOutput.{Prints, Writes};
 ghost use Rattle.cfi_stacks.specs.ProfileErrors.{perf_advice, perf_refusal, perf_words};
-ghost use Rattle.cfi_stacks.specs.ProfileOutputs.{Ends, unknown_machine};
+ghost use Rattle.cfi_stacks.specs.ProfileOutputs.{Ends, EndsBy, unknown_machine};
 
 use crate::visitor::VisitError;
 use cfi_perf::PerfError;
@@ -91,11 +91,24 @@ pub(crate) fn write_end<W: Write>(
 {
     match visited {
         Ok(()) => Ok(0),
-        Err(VisitError::Records(error)) => write_perf_refusal(output, format, error),
-        Err(VisitError::Profile(error)) => write_perf_refusal(output, format, error),
-        Err(VisitError::UnknownMachine) => write_unknown_machine(output, format),
-        Err(VisitError::Input(error)) => write_input_refusal(output, format, error),
-        Err(VisitError::Visitor(error)) => Err(error),
+        Err(error) => write_stopped(output, format, error),
+    }
+}
+
+/// Prints why there are no more stacks, and returns the status.
+fn write_stopped<W: Write>(
+    output: &mut W,
+    format: Format,
+    error: VisitError<io::Error>,
+) -> io::Result<u8>
+    ensures { EndsBy format error (W.contents output.old) (W.contents output.new) result }
+{
+    match error {
+        VisitError::Records(error) => write_perf_refusal(output, format, error),
+        VisitError::Profile(error) => write_perf_refusal(output, format, error),
+        VisitError::UnknownMachine => write_unknown_machine(output, format),
+        VisitError::Input(error) => write_input_refusal(output, format, error),
+        VisitError::Visitor(error) => Err(error),
     }
 }
 
