@@ -41,7 +41,9 @@ pub fn lines_of<O: Opener>(
     let choice = Choice::everything();
     let mut input = profile;
     let mut text = Text::new(alloc);
-    visit_profile(alloc, true, &choice, opener, &mut input, &mut Lines, &mut text)?;
+    visit_profile(
+        alloc, true, &choice, opener, &mut input, &mut Lines, &mut text,
+    )?;
     match text.into_bytes() {
         Ok(lines) => Ok(lines),
         Err(error) => Err(VisitError::Visitor(error)),

@@ -1,5 +1,5 @@
 -- What is said of a profile: after the status 0 alone, from the tally of an index up to the bytes of the file.
-use Rattle.std.proofs.Common.{◌≡◌, ◌∙◌, ◌≤◌, ◌+◌, ◌&&◌, ℕ, Bool, true, false, List, Option, Some, None, Result, Ok, Err, IfOk, IfSome, ap, arith, inl, inr, not, refl, subst, sym}
+use Rattle.std.proofs.Common.{◌≡◌, ◌∙◌, ◌≤◌, ◌+◌, ◌&&◌, ℕ, Bool, List, Option, Some, None, Result, Ok, Err, IfOk, IfSome, ap, arith, inl, inr, not, refl, subst, sym}
 use Rattle.std.specs.Prelude.{◌==◌, ⊤, slice_range}
 use Rattle.std.specs.Result.{IsErr}
 use Rattle.cfi_text.specs.Readings.{AreLeft}
@@ -12,7 +12,7 @@ use Rattle.cfi_perf.specs.ProfilesAround.{profile_around}
 use Rattle.cfi_perf.specs.Recordings.{has_samples, has_stacks, lacks_stacks, lost_in}
 use Rattle.cfi_perf.specs.Records.{Records}
 use Rattle.cfi_perf.specs.Windows.{next_place, record_bytes_left, records_in}
-use Rattle.cfi_mapped.specs.Notices.{Notice, lost, without_stacks}
+use Rattle.cfi_mapped.specs.Notices.{Notice, lost}
 use Rattle.cfi_stacks.specs.declared.profile_index.ProfileIndex.{ProfileIndex}
 use Rattle.cfi_stacks.specs.declared.profile_index.Tally.{Tally}
 use Rattle.cfi_stacks.specs.ProfileIndexes.{IsReadAround, IsTallyOf, IsTallySaid, IsToldOf, records_bytes}

@@ -1,5 +1,5 @@
 -- Stacks that are printed one after the other.
-use Rattle.std.proofs.Common.{◌≡◌, ◌∙◌, ◌⊎◌, ℕ, Bool, true, false, not, List, [], ◌∷◌, ◌++◌, Option, Some, None, Result, Ok, Err, OnOk, IfErr, IfOk, ap, append_assoc, append-nil, inl, inr, map, refl, subst, sym, take}
+use Rattle.std.proofs.Common.{◌≡◌, ◌∙◌, ◌⊎◌, ℕ, Bool, true, false, not, List, [], ◌∷◌, ◌++◌, Option, Some, None, Result, Ok, Err, OnOk, IfErr, IfOk, ap, append_assoc, append-nil, inl, inr, refl, subst, sym, take}
 use Rattle.std.specs.Prelude.{⊤}
 use Rattle.std.specs.Io.KnownBytes.{Appends}
 use Rattle.std.specs.List.{FoldsTo}
@@ -15,7 +15,7 @@ use Rattle.cfi_text.specs.declared.reading.InputError.TheVariants.{OutOfMemory}
 use Rattle.cfi_text.specs.Lines.{Line}
 use Rattle.cfi_text.specs.Texts.{IsWhole, Puts, contents}
 use Rattle.cfi_text.specs.WriterOutput.{IsBeginning, Prints, PrintsSome, Writes}
-use Rattle.cfi_text.proofs.WrittenLemmas.{appends_then, beginning_then, given_first, none_yet, writes_refused}
+use Rattle.cfi_text.proofs.WrittenLemmas.{appends_then, beginning_then, none_yet}
 use Rattle.cfi_text.proofs.PartsWritten.{first_refused, last_written}
 use Rattle.cfi_processes.specs.declared.registers.SampleMachine.{SampleMachine}
 use Rattle.cfi_mapped.specs.Wanted.{FilePlace}
@@ -26,7 +26,7 @@ use Rattle.cfi_stacks.specs.declared.visitor.VisitError.TheVariants as stopped
 use Rattle.cfi_stacks.specs.Choices.{Choice}
 use Rattle.cfi_stacks.specs.ChosenStacks.{AreStackTexts, AreStacks}
 use Rattle.cfi_stacks.specs.ProfileOutputs.{AreStacksPrinted, Ends, IsInputRefused, IsOwed, after_text, profile_ended}
-use Rattle.cfi_stacks.specs.SampleOutputs.{Begins, IsInFormat, IsSaidIn, Shows, Stack, sample_object}
+use Rattle.cfi_stacks.specs.SampleOutputs.{Begins, IsInFormat, IsSaidIn, Shows, Stack}
 use Rattle.cfi_stacks.specs.Visits.{AreVisited, IsMachineUnknown, IsProfileRefused, IsProfileVisited, VisitsAll}
 use Rattle.cfi_stacks.proofs.ContentLemmas.{print_profile}
 use Rattle.cfi_frames.specs.Sequences.{AreOfAll}

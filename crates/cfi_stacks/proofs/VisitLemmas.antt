@@ -1,5 +1,5 @@
 -- One more record of an index, whose stack is handed to a visitor or not.
-use Rattle.std.proofs.Common.{◌≡◌, ◌∙◌, ℕ, ◌+◌, ◌<◌, ◌≤◌, Bool, true, false, true≢false, List, [], ◌∷◌, ◌++◌, Option, Some, None, Result, Ok, Err, ap, arith, drop, get_or, inl, inr, length, map, nat_eq, refl, subst, sym, take, append-nil}
+use Rattle.std.proofs.Common.{◌≡◌, ◌∙◌, ℕ, ◌+◌, ◌<◌, ◌≤◌, Bool, true, false, true≢false, List, [], ◌∷◌, ◌++◌, Option, Some, None, Result, Ok, Err, ap, arith, drop, get_or, inl, inr, length, map, nat_eq, refl, subst, sym, take}
 use Rattle.std.proofs.lemmas.List.{get_or_default, length-map, take_all, take-append-drop}
 use Rattle.std.specs.Prelude.{⊤}
 use Rattle.std.specs.List.{FoldsTo}
@@ -21,7 +21,7 @@ use Rattle.cfi_stacks.specs.declared.profile_index.ProfileIndex.{ProfileIndex}
 use Rattle.cfi_stacks.specs.declared.visitor.VisitError.{VisitError}
 use Rattle.cfi_stacks.specs.declared.visitor.VisitError.TheVariants.{Input, Profile, Records, UnknownMachine, Visitor}
 use Rattle.cfi_stacks.specs.Choices.{Choice}
-use Rattle.cfi_stacks.specs.ChosenStacks.{AreStacks, IsSampleStack, IsStackOf}
+use Rattle.cfi_stacks.specs.ChosenStacks.{AreStacks, IsSampleStack}
 use Rattle.cfi_stacks.specs.KnownSamples.{Known, KnownSample}
 use Rattle.cfi_stacks.specs.ProfileIndexes.{HoldsOf, IsIndex, IsIndexOf, IsReadAt, Piece, piece_place, record_of}
 use Rattle.cfi_stacks.specs.SampleOutputs.{Stack}

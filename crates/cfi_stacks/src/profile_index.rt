@@ -22,8 +22,9 @@ use cfi_elf::bytes::part;
 use cfi_mapped::wanted::WantedFile;
 use cfi_mapped::wanted_files::{code_file, has_kernel_frames, push_file};
 use cfi_object::input::FileInput;
-use cfi_perf::{Event, Lost, PerfError, PlaceKind, Record, RecordIndex, RecordPlace, RecordWalk};
-use cfi_perf::Sample;
+use cfi_perf::{
+    Event, Lost, PerfError, PlaceKind, Record, RecordIndex, RecordPlace, RecordWalk, Sample,
+};
 use cfi_text::reading::InputError;
 use std::alloc::{AllocError, Global};
 

@@ -59,11 +59,13 @@ pub fn list_profile<O: Opener, I: FileInput, W: Write>(
     match listing {
         Listing::Frames(raw) => {
             let format = Format::Text;
-            print_stacks(alloc, StackStyle { raw, format }, choice, opener, input, output)
+            let style = StackStyle { raw, format };
+            print_stacks(alloc, style, choice, opener, input, output)
         }
         Listing::Json(raw) => {
             let format = Format::Json;
-            print_stacks(alloc, StackStyle { raw, format }, choice, opener, input, output)
+            let style = StackStyle { raw, format };
+            print_stacks(alloc, style, choice, opener, input, output)
         }
         Listing::Folded(by_period) => {
             print_folded(alloc, by_period, choice, opener, input, output)

@@ -184,8 +184,11 @@ fn visit_sample<'run, T, V: Visitor<T>>(
     requires own { HasOwnModules replay.now }
     requires cached { IsRoomFor (replay_files replay.now) room.old }
     ensures visited { IsVisited V.visits V.refuses chosen.now.with_functions chosen.now.machine
-        (taken_of (replay_known replay.now) (record { known = known_in replay.now;
-        time = time; sample = sample_view sample.now }))
+        (taken_of (replay_known replay.now) (record {
+          known = known_in replay.now;
+          time = time;
+          sample = sample_view sample.now;
+        }))
         (visitor.old, target.old) (visitor.new, target.new) result }
     ensures cached { IsRoomFor (replay_files replay.now) room.new }
 {
@@ -196,7 +199,13 @@ fn visit_sample<'run, T, V: Visitor<T>>(
         time,
         sample: *sample,
     };
-    let found = walk_sample(room, chosen.machine, &taken.code, replay.modules(), &sample.user);
+    let found = walk_sample(
+        room,
+        chosen.machine,
+        &taken.code,
+        replay.modules(),
+        &sample.user,
+    );
     let walked = room.frames.as_slice();
     let Ok(()) = taken.collect_frames(chosen.with_functions, found, walked, frames) else {
         return Err(VisitError::Input(InputError::OutOfMemory));

@@ -214,7 +214,9 @@ fn visit_index<O: Opener, I: FileInput, T, V: Visitor<T>>(
     }
     let visited = visit_mapped(visit, machine, index, input, visitor, target);
     if tally.lost_records != 0 || tally.lost_samples != 0 {
-        visit.opener.tell_lost(tally.lost_records, tally.lost_samples);
+        visit
+            .opener
+            .tell_lost(tally.lost_records, tally.lost_samples);
     }
     visited
 }

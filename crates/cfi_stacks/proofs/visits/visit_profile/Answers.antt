@@ -1,13 +1,12 @@
-use Rattle.std.proofs.Common.{ℕ, List, Option, Ok, Err, inr, refl, subst, sym}
+use Rattle.std.proofs.Common.{ℕ, List, Option, Err, inr, refl, subst, sym}
 use Rattle.cfi_perf.specs.ProfileHeads.{head_view}
-use Rattle.cfi_stacks.specs.declared.visitor.VisitError.TheVariants.{Input, Profile}
+use Rattle.cfi_stacks.specs.declared.visitor.VisitError.TheVariants.{Profile}
 use Rattle.cfi_stacks.specs.Choices.{choice_view}
 use Rattle.cfi_stacks.specs.ProfileIndexes.{HasRecordsAt}
-use Rattle.cfi_stacks.specs.ProfileNotices.{IsHeadSaid, IsProfileSaid}
 use Rattle.cfi_stacks.specs.Visits.{IsMachineUnknown, IsProfileRefused, VisitsAll}
 use Rattle.cfi_frames.proofs.InputLemmas.{for_input}
 use Rattle.cfi_stacks.proofs.AroundLemmas.{has_records}
-use Rattle.cfi_stacks.proofs.ContentLemmas.{IsOfFile, error_around, of_around}
+use Rattle.cfi_stacks.proofs.ContentLemmas.{error_around, of_around}
 use Rattle.cfi_stacks.proofs.NoticeLemmas.{around_said, says_then}
 use Rattle.cfi_stacks.proofs.visits.visit_profile.Goals as goal
 
