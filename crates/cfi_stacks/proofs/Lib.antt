@@ -6,7 +6,7 @@ mod Worked
 mod PieceLemmas
 mod ShowLemmas
 mod AroundLemmas
-mod ShownLemmas
+mod ContentLemmas
 mod NoticeLemmas
 mod TakenLemmas
 mod FoundLemmas

@@ -1,5 +1,5 @@
 -- A sample as it was taken is what the records before it say.
-use Rattle.std.proofs.Common.{◌≡◌, ◌∙◌, ℕ, List, Option, ap, map}
+use Rattle.std.proofs.Common.{◌≡◌, ◌∙◌, ℕ, Bool, List, Option, Result, ap, map, subst}
 use Rattle.cfi_perf.specs.declared.sample.Sample.{Sample}
 use Rattle.cfi_perf.specs.Samples.{sample_view}
 use Rattle.cfi_mapped.specs.declared.mappings.MappedCode.{MappedCode}
@@ -11,8 +11,20 @@ use Rattle.cfi_processes.specs.KernelSites.{kernel_site}
 use Rattle.cfi_processes.specs.KnownFiles.{known_view}
 use Rattle.cfi_processes.specs.Replays.{named_thread, replay_files, replay_known, replayed}
 use Rattle.cfi_mapped.specs.ThreadNames.{name_bytes}
+use Rattle.cfi_processes.specs.declared.registers.SampleMachine.{SampleMachine}
+use Rattle.cfi_stacks.specs.declared.visitor.VisitError.{VisitError}
 use Rattle.cfi_stacks.specs.KnownSamples.{known_in}
+use Rattle.cfi_stacks.specs.SampleOutputs.{Stack}
 use Rattle.cfi_stacks.specs.TakenSamples.{Taken, taken_of, taken_view}
+use Rattle.cfi_stacks.specs.Visits.{IsVisited}
+
+-- a sample as it was taken
+abbrev pub taken_so : (kernel code : ProcessCode) (name : Option Name) (time : ℕ) (sample : Sample) → Taken
+taken_so kernel code name time sample = taken_view (record { kernel = kernel; code = code; name = name; time = time; sample = sample })
+
+pub visited_as : {V E T : Type 0} (visits : V → Stack → V → Type 0) (refuses : V → Stack → V → E → Type 0) (with_functions : Bool) (machine : SampleMachine) (old new : V) (r : Result T (VisitError E)) (taken other : Taken) → taken ≡ other
+    → IsVisited visits refuses with_functions machine taken old new r → IsVisited visits refuses with_functions machine other old new r
+visited_as visits refuses with_functions machine old new r taken other same visited = subst (λ (taken : Taken). IsVisited visits refuses with_functions machine taken old new r) same visited
 
 module _ (replay : Replay) (kernel code : ProcessCode) (name : Option Name) (time : ℕ) (sample : Sample) where
   -- by what is mapped, of which files, and the name
@@ -27,7 +39,7 @@ module _ (replay : Replay) (kernel code : ProcessCode) (name : Option Name) (tim
   }
 
   pub taken_as : kernel.files.now ≡ replay_files replay → kernel.mappings.now ≡ replayed replay 0xffffffff → code.files.now ≡ replay_files replay → code.mappings.now ≡ replayed replay sample.pid → name_bytes name ≡ named_thread replay sample.tid
-      → taken_view (record { kernel = kernel; code = code; name = name; time = time; sample = sample }) ≡ taken_of (replay_known replay) (record { known = known_in replay; time = time; sample = sample_view sample })
+      → taken_so kernel code name time sample ≡ taken_of (replay_known replay) (record { known = known_in replay; time = time; sample = sample_view sample })
   taken_as same_kernel same_kernel_mapped same same_mapped same_name =
       ap (λ (files : List ProfileFile). said files kernel.mappings.now code.files.now code.mappings.now (name_bytes name)) same_kernel
       ∙ (ap (λ (mapped : List MappedCode). said (replay_files replay) mapped code.files.now code.mappings.now (name_bytes name)) same_kernel_mapped
