@@ -1,5 +1,6 @@
 mod ChosenLemmas
 mod VisitLemmas
+mod VisitedSo
 mod CountedLemmas
 mod ReadLemmas
 mod Worked

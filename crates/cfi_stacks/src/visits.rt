@@ -149,7 +149,7 @@ fn visit_head<O: Opener, I: FileInput, T, V: Visitor<T>>(
         (choice_view visit.now.choice.now) (O.may_open visit.now.opener.now) O.File.remaining
         (visitor.old, target.old) (visitor.new, target.new) result
         (head_view head.now).architecture (records_by (head_view head.now) all))
-        ⊎ IsNoneVisited (visitor.old, target.old) (visitor.new, target.new) result }
+        ⊎ IsNoneVisited {V = V × T} (visitor.old, target.old) (visitor.new, target.new) result }
     ensures said { IfOk result (λ done. IsHeadSaid (O.has_said visit.now.opener.now)
         (I.bytes input.old) (head_view head.now)) }
 {
@@ -179,7 +179,7 @@ fn visit_records<O: Opener, I: FileInput, T, V: Visitor<T>>(
         (choice_view visit.now.choice.now) (O.may_open visit.now.opener.now) O.File.remaining
         (visitor.old, target.old) (visitor.new, target.new) result
         machine (records_in walk.entry all))
-        ⊎ IsNoneVisited (visitor.old, target.old) (visitor.new, target.new) result }
+        ⊎ IsNoneVisited {V = V × T} (visitor.old, target.old) (visitor.new, target.new) result }
     ensures said { IfOk result (λ done. IsWalkSaid (O.has_said visit.now.opener.now)
         (I.bytes input.old) walk.entry) }
 {
@@ -205,7 +205,7 @@ fn visit_index<O: Opener, I: FileInput, T, V: Visitor<T>>(
         (choice_view visit.now.choice.now) (O.may_open visit.now.opener.now) O.File.remaining
         (visitor.old, target.old) (visitor.new, target.new) result
         machine sorted index.now.error)
-        ⊎ IsNoneVisited (visitor.old, target.old) (visitor.new, target.new) result }
+        ⊎ IsNoneVisited {V = V × T} (visitor.old, target.old) (visitor.new, target.new) result }
     ensures said { IsTallySaid (O.has_said visit.now.opener.now) index.now.tally }
 {
     let tally = index.tally;
@@ -236,7 +236,7 @@ fn visit_mapped<O: Opener, I: FileInput, T, V: Visitor<T>>(
         (choice_view visit.now.choice.now) (O.may_open visit.now.opener.now) O.File.remaining
         (visitor.old, target.old) (visitor.new, target.new) result
         machine sorted index.now.error)
-        ⊎ IsNoneVisited (visitor.old, target.old) (visitor.new, target.new) result }
+        ⊎ IsNoneVisited {V = V × T} (visitor.old, target.old) (visitor.new, target.new) result }
 {
     let chosen = ChosenSamples {
         alloc: visit.alloc,

@@ -4,10 +4,10 @@ use Rattle.cfi_perf.specs.Profiles.{profile_view}
 use Rattle.cfi_stacks.specs.declared.visitor.VisitError.TheVariants.{Profile}
 use Rattle.cfi_stacks.specs.Choices.{choice_view}
 use Rattle.cfi_stacks.specs.ProfileIndexes.{HasRecordsAt}
-use Rattle.cfi_stacks.specs.Visits.{IsMachineUnknown, IsProfileRefused, VisitsAll}
 use Rattle.cfi_stacks.proofs.AroundLemmas.{has_own_records}
 use Rattle.cfi_stacks.proofs.ContentLemmas.{not_parsed, of_parsed}
 use Rattle.cfi_stacks.proofs.NoticeLemmas.{parsed_said, says_then}
+use Rattle.cfi_stacks.proofs.VisitedSo.{AllOf, Refused, Unknown}
 use Rattle.cfi_stacks.proofs.visits.visit_bytes.Goals as goal
 
 pub visit_head-requires : goal.visit_head-requires
@@ -16,12 +16,10 @@ visit_head-requires g c =
 
 pub returns-in-Ok-clause-visited : goal.returns-in-Ok-clause-visited
 returns-in-Ok-clause-visited g c =
-    let old = (c.args.visitor.now, c.args.target.now) in
-    let new = (c.visit_head.new.visitor, c.visit_head.new.target) in
     let visit = c.args.visit.now in
     of_parsed visit.with_functions (g.O.Opener.may_open visit.opener.now) g.O.File.Read.remaining
-    (VisitsAll g.V.Visitor.visits g.V.Visitor.refuses visit.with_functions (choice_view visit.choice.now) (g.O.Opener.may_open visit.opener.now) g.O.File.Read.remaining old new c.visit_head.result)
-    (IsProfileRefused old new c.visit_head.result) (IsMachineUnknown old new c.visit_head.result)
+    (AllOf g.V.Visitor.visits g.V.Visitor.refuses visit.with_functions (choice_view visit.choice.now) (g.O.Opener.may_open visit.opener.now) g.O.File.Read.remaining (c.args.visitor.now, c.args.target.now) (c.visit_head.new.visitor, c.visit_head.new.target) c.visit_head.result)
+    (Refused g.V.Visitor.visits g.V.Visitor.refuses (c.args.visitor.now, c.args.target.now) (c.visit_head.new.visitor, c.visit_head.new.target) c.visit_head.result) (Unknown g.V.Visitor.visits g.V.Visitor.refuses (c.args.visitor.now, c.args.target.now) (c.visit_head.new.visitor, c.visit_head.new.target) c.visit_head.result)
     c.args.bytes.now (profile_view c.in-Ok.profile) (head_view c.head-head.result) (sym c.in-Ok.ensures) c.head-head.ensures c.visit_head.ensures.visited
 
 pub returns-in-Ok-clause-said : goal.returns-in-Ok-clause-said
@@ -31,9 +29,8 @@ returns-in-Ok-clause-said g c =
 
 pub returns-in-Err-clause-visited : goal.returns-in-Err-clause-visited
 returns-in-Err-clause-visited g c =
-    let old = (c.args.visitor.now, c.args.target.now) in
     let visit = c.args.visit.now in
     not_parsed visit.with_functions (g.O.Opener.may_open visit.opener.now) g.O.File.Read.remaining
-    (VisitsAll g.V.Visitor.visits g.V.Visitor.refuses visit.with_functions (choice_view visit.choice.now) (g.O.Opener.may_open visit.opener.now) g.O.File.Read.remaining old old (Err (Profile c.in-Err.error)))
-    (IsProfileRefused old old (Err (Profile c.in-Err.error))) (IsMachineUnknown old old (Err (Profile c.in-Err.error)))
+    (AllOf g.V.Visitor.visits g.V.Visitor.refuses visit.with_functions (choice_view visit.choice.now) (g.O.Opener.may_open visit.opener.now) g.O.File.Read.remaining (c.args.visitor.now, c.args.target.now) (c.args.visitor.now, c.args.target.now) (Err (Profile c.in-Err.error)))
+    (Refused g.V.Visitor.visits g.V.Visitor.refuses (c.args.visitor.now, c.args.target.now) (c.args.visitor.now, c.args.target.now) (Err (Profile c.in-Err.error))) (Unknown g.V.Visitor.visits g.V.Visitor.refuses (c.args.visitor.now, c.args.target.now) (c.args.visitor.now, c.args.target.now) (Err (Profile c.in-Err.error)))
     c.args.bytes.now c.in-Err.error (sym c.in-Err.ensures) (refl, refl)

@@ -1,9 +1,9 @@
 use Rattle.std.proofs.Common.{ℕ, List, Option, inr, refl, subst, sym}
 use Rattle.cfi_stacks.specs.Choices.{choice_view}
 use Rattle.cfi_stacks.specs.ProfileIndexes.{IsIndex}
-use Rattle.cfi_stacks.specs.Visits.{VisitsAll}
 use Rattle.cfi_stacks.proofs.ContentLemmas.{of_index}
 use Rattle.cfi_stacks.proofs.NoticeLemmas.{says, walk_said}
+use Rattle.cfi_stacks.proofs.VisitedSo.{AllOf}
 use Rattle.cfi_stacks.proofs.visits.visit_records.Goals as goal
 
 pub visit_index-requires : goal.visit_index-requires
@@ -11,11 +11,9 @@ visit_index-requires g c = subst (λ (known : Option (List ℕ)). IsIndex known 
 
 pub returns-in-Ok-clause-visited : goal.returns-in-Ok-clause-visited
 returns-in-Ok-clause-visited g c =
-    let old = (c.args.visitor.now, c.args.target.now) in
-    let new = (c.visit_index.new.visitor, c.visit_index.new.target) in
     let visit = c.args.visit.now in
     of_index visit.with_functions (g.O.Opener.may_open visit.opener.now) g.O.File.Read.remaining
-    (VisitsAll g.V.Visitor.visits g.V.Visitor.refuses visit.with_functions (choice_view visit.choice.now) (g.O.Opener.may_open visit.opener.now) g.O.File.Read.remaining old new c.visit_index.result)
+    (AllOf g.V.Visitor.visits g.V.Visitor.refuses visit.with_functions (choice_view visit.choice.now) (g.O.Opener.may_open visit.opener.now) g.O.File.Read.remaining (c.args.visitor.now, c.args.target.now) (c.visit_index.new.visitor, c.visit_index.new.target) c.visit_index.result)
     (g.I.FileInput.bytes c.args.input.now) c.in-Ok.index c.args.walk c.args.machine c.in-Ok.ensures.walk (rw c.in-Ok.ensures.same at c.visit_index.ensures.visited)
 
 pub returns-in-Ok-clause-said : goal.returns-in-Ok-clause-said
