@@ -10,9 +10,9 @@ use Rattle.cfi_text.proofs.WrittenLemmas.{none_yet}
 use Rattle.cfi_frames.specs.Outputs.{IsSaidIn}
 
 -- nothing was written of it
-pub none_written : {T E : Type 0} (format : Format) (old : Option (List ℕ)) (object : List ℕ) (e : E) → (text : List ℕ) × Writes {T = T} {E = E} old old (Err e) text × IsSaidIn format (text ≡ object)
-none_written formats.Text old object e = (object, ([], none_yet old, (object, refl)), tt)
-none_written formats.Json old object e = (object, ([], none_yet old, (object, refl)), refl)
+pub none_written : (format : Format) (old : Option (List ℕ)) (object : List ℕ) → (text : List ℕ) × ((begun : List ℕ) × Appends old old begun × IsBeginning begun text) × IsSaidIn format (text ≡ object)
+none_written formats.Text old object = (object, ([], none_yet old, (object, refl)), tt)
+none_written formats.Json old object = (object, ([], none_yet old, (object, refl)), refl)
 
 module _ (old new : Option (List ℕ)) (empty put : Text) (object : List ℕ) (none : contents empty ≡ []) where
   is_object : Puts object empty put → IsWhole put → contents put ≡ object
