@@ -1,5 +1,5 @@
 -- What is said of a profile: after the status 0 alone, from the tally of an index up to the bytes of the file.
-use Rattle.std.proofs.Common.{◌≡◌, ◌∙◌, ◌≤◌, ◌+◌, ◌&&◌, ℕ, Bool, List, Option, Some, None, Result, Ok, Err, IfOk, IfSome, ap, arith, inl, inr, not, refl, subst, sym}
+use Rattle.std.proofs.Common.{◌≡◌, ◌∙◌, ◌≤◌, ◌+◌, ◌&&◌, ℕ, Bool, List, Option, Some, None, Result, Ok, Err, IfOk, ap, arith, inl, inr, not, refl, subst, sym}
 use Rattle.std.specs.Prelude.{◌==◌, ⊤, slice_range}
 use Rattle.std.specs.Result.{IsErr}
 use Rattle.cfi_text.specs.Readings.{AreLeft}
@@ -9,7 +9,7 @@ use Rattle.cfi_perf.specs.Events.{Record}
 use Rattle.cfi_perf.specs.ProfileHeads.{ProfileHead}
 use Rattle.cfi_perf.specs.Profiles.{Profile, profile, profile_records, records_by}
 use Rattle.cfi_perf.specs.ProfilesAround.{profile_around}
-use Rattle.cfi_perf.specs.Recordings.{has_samples, has_stacks, lacks_stacks, lost_in}
+use Rattle.cfi_perf.specs.Recordings.{has_samples, lacks_stacks, lost_in}
 use Rattle.cfi_perf.specs.Records.{Records}
 use Rattle.cfi_perf.specs.Windows.{next_place, record_bytes_left, records_in}
 use Rattle.cfi_mapped.specs.Notices.{Notice, lost}

@@ -19,7 +19,6 @@ use crate::sample_walk::walk_sample;
 use crate::taken_sample::TakenSample;
 use crate::turns::{Walker, follow_other, is_left_out, one_less};
 use crate::visitor::{VisitError, Visitor, ended};
-use cfi_processes::room::Room;
 use cfi_object::input::FileInput;
 use cfi_perf::{PlaceKind, RecordPlace, Sample};
 use cfi_processes::Frame;
@@ -27,6 +26,7 @@ use cfi_processes::process_code::KERNEL;
 use cfi_processes::profile_files::ProfileFile;
 use cfi_processes::registers::SampleMachine;
 use cfi_processes::replay::Replay;
+use cfi_processes::room::Room;
 use cfi_text::reading::InputError;
 use std::alloc::Global;
 

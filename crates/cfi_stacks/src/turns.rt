@@ -12,10 +12,10 @@ ghost use Rattle.cfi_stacks.specs.KnownSamples.{known_in};
 
 use crate::choice::Choice;
 use crate::profile_index::ProfileIndex;
-use cfi_processes::room::Room;
 use cfi_perf::{Event, PlaceKind, RecordPlace, Sample};
 use cfi_processes::Frame;
 use cfi_processes::replay::Replay;
+use cfi_processes::room::Room;
 use cfi_text::reading::InputError;
 
 /// What the records said that were followed, and what samples are walked in.
