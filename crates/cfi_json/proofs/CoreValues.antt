@@ -27,10 +27,10 @@ use Rattle.cfi_json.proofs.FrameValues.{IsPlain}
 use Rattle.cfi_json.proofs.ThreadValues.{cores_read}
 use Rattle.cfi_json.proofs.Values.{reads_back}
 
-abbrev AreRead : List ℕ → Type 0
+abbrev pub AreRead : List ℕ → Type 0
 AreRead characters = (values : List Json) × AreLinesOf characters values
 
-read_both : (a b : List ℕ) → AreRead a → AreRead b → AreRead (a ++ b)
+pub read_both : (a b : List ℕ) → AreRead a → AreRead b → AreRead (a ++ b)
 read_both a b (vs, h) (ws, k) = (
   vs ++ ws,
   record { are = ap₂ (λ (x y : List ℕ). x ++ y) h.are k.are ∙ sym (flat_map-append (λ v. json_text v ++ 10 ∷ []) vs ws); each = All-append IsReadBack vs ws h.each k.each },
@@ -84,20 +84,20 @@ error_is reason plain =
 shallow_error : (reason : List ℕ) → NestsWithin (error_value reason)
 shallow_error reason = omega arith
 
-error_read : (reason : List ℕ) → IsPlain reason → AreRead (error_object reason ++ 10 ∷ [])
+pub error_read : (reason : List ℕ) → IsPlain reason → AreRead (error_object reason ++ 10 ∷ [])
 error_read reason plain = (
   error_value reason ∷ [],
   record { are = error_is reason plain ∙ sym (append-nil (json_text (error_value reason) ++ 10 ∷ [])); each = each_read_back error_value (λ r. reads_back (error_value r) (shallow_error r)) (reason ∷ []) },
 )
 
-input_read : (why : InputError) → AreRead (input_refusal formats.Json why).text
+pub input_read : (why : InputError) → AreRead (input_refusal formats.Json why).text
 input_read OutOfMemory = error_read (codes "OutOfMemory") refl
 input_read Unreadable = error_read (codes "wrong input") refl
 input_read NotHexadecimal = error_read (codes "wrong input") refl
 
 -- ---- the output
 
-abbrev IsRead : Line → Type 0
+abbrev pub IsRead : Line → Type 0
 IsRead printed = AreRead printed.text
 
 ended_read : (characters : List ℕ) (error : Option CoreError) → AreRead characters → IsRead (core_ended formats.Json characters error)

@@ -9,5 +9,6 @@ pub mod FrameValues
 pub mod SampleValues
 pub mod ThreadValues
 pub mod CoreValues
+pub mod ProfileValues
 mod WorkedValues
 mod WorkedStacks

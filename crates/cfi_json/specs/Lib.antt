@@ -4,3 +4,4 @@ pub mod FrameValues
 pub mod SampleValues
 pub mod ThreadValues
 pub mod CoreValues
+pub mod ProfileValues
