@@ -60,8 +60,12 @@ use Rattle.cfi_core_stacks.specs.CoreCode.{AreOpenedFor, and_file, core_code_fil
 use Rattle.cfi_core_stacks.specs.CoreOutputs.{AreThreadsPrinted, IsCoreOfOpened, IsCoreOwed, IsOfCore, IsOfLacking, IsOfRead, PrintsCoreOwed, PrintsFound, WritesFound, core_ended, core_memory, no_thread}
 use Rattle.cfi_core_stacks.specs.AskedThreads.{asked_threads, lacks_thread}
 use Rattle.cfi_frames.specs.Outputs.{no_memory}
-use Rattle.cfi_core_stacks.specs.KnownCores.{IsKnownBy, IsPartOf, IsStackIn, end_lacks, memory_by, walk_lacks}
+use Rattle.cfi_core_stacks.specs.KnownCores.{IsKnownBy, IsMemoryOf, IsPartOf, IsStackIn, end_lacks, memory_by, walk_lacks}
 use Rattle.cfi_core_stacks.specs.declared.known_core.StackParts.{StackParts}
+use Rattle.cfi_core_stacks.specs.declared.known_memory.KnownMemory.{KnownMemory}
+use Rattle.cfi_core_stacks.specs.declared.known_memory.KnownMemory.TheVariants.{Parts, Whole}
+use Rattle.cfi_cores.specs.declared.memory.CoreMemory.{CoreMemory as MemoryOfCode}
+use Rattle.cfi_cores.specs.CoreMemories.{memory_number, memory_view}
 use Rattle.cfi_frames.specs.Sequences.{AreOfAll}
 use Rattle.cfi_processes.specs.ProfileFiles.{AreProfileFilesOf}
 use Rattle.cfi_elf.specs.declared.image.Image.{Image as ImageOfCode}
@@ -287,6 +291,12 @@ pub whole_memory : (parts : Option StackParts) (core whole : Core) (lent : List 
 whole_memory (Some p) core whole lent is known = absurd (cc)
 whole_memory None core whole lent is known = ap (λ (c : Core). core_memory c lent) known
 
+pub memory_is : (known : KnownMemory) (memory : MemoryOfCode) (all : ℕ → ℕ → Option ℕ) → known ≡ Whole memory → IsMemoryOf known all → memory_number (memory_view memory) ≡ all
+memory_is (Whole m) memory all is same =
+    let one : memory ≡ m = cc in
+    ap (λ (m : MemoryOfCode). memory_number (memory_view m)) one ∙ same
+memory_is (Parts p) memory all is same = absurd (cc)
+
 pub part_memory : (parts : Option StackParts) (p : StackParts) (core whole : Core) (lent : List CoreSegment) → parts ≡ Some p → IsKnownBy parts core whole → IsPartOf p (core_memory whole lent)
 part_memory (Some q) p core whole lent is (bytes, of, heads, same) =
     let one : q ≡ p = cc in
@@ -334,9 +344,6 @@ module _ (listing : ThreadListing) {Handle : Type 0} (may_open : FilePlace → O
 
   -- what is printed of parts of a file is what is printed of the whole file
   module _ (known : Option (List ℕ)) (image : ImageOfCode) (partial : PartialCore) (input : AreOfInput known (image_view image)) (each : (bytes : List ℕ) → IsImageOf (image_view image) bytes → IsPartial bytes partial) where
-    pub in_order : IsNonDecreasingBy (λ (h : ProgramHeader). h.p_vaddr) partial.places.items
-    in_order = let (bytes, left, is) = input in (each bytes is).in_order
-
     owed : (bytes : List ℕ) → IsPartial bytes partial → (line : Line) → (IsOfCore listing may_open remaining (with_all bytes (core_view partial.core) partial.places.items) line ⊎ (line ≡ no_memory listing.format))
         → IsCoreOwed listing may_open remaining bytes line
     owed bytes p line (inl of) =
@@ -362,7 +369,10 @@ module _ (listing : ThreadListing) {Handle : Type 0} (may_open : FilePlace → O
           (line, (subst (Writes old new result) all written, each_ok result (λ s. s ≡ status) (λ s. s ≡ line.status) (λ s is. is ∙ same) answers), owed bytes p line of),
         )
 
+pub places_in_order : (known : Option (List ℕ)) (image : Image) (partial : PartialCore) → AreOfInput known image → ((bytes : List ℕ) → IsImageOf image bytes → IsPartial bytes partial) → IsNonDecreasingBy (λ (h : ProgramHeader). h.p_vaddr) partial.places.items
+places_in_order known image partial (bytes, left, is) each = (each bytes is).in_order
+
 -- memory is refused for an input of which parts were read
-pub refused_of_parts : {E : Type 0} (listing : ThreadListing) {Handle : Type 0} (may_open : FilePlace → Option Handle → Type 0) (remaining : Handle → Option (List ℕ)) (image : Image) (known old : Option (List ℕ)) (result : Result ℕ E)
-    → AreOfInput known image → IsErr result → PrintsCoreOwed listing may_open remaining known old old result
-refused_of_parts listing may_open remaining image known old result (bytes, left, is) err = (bytes, left, begun_some _ old old result (no_memory listing.format) err (nothing_yet old (no_memory listing.format).text) (inl (inr refl)))
+pub refused_of_parts : {E : Type 0} (listing : ThreadListing) {Handle : Type 0} (may_open : FilePlace → Option Handle → Type 0) (remaining : Handle → Option (List ℕ)) (image : Image) (known old new : Option (List ℕ)) (result : Result ℕ E)
+    → AreOfInput known image → Prints (no_memory listing.format) old new result → PrintsCoreOwed listing may_open remaining known old new result
+refused_of_parts listing may_open remaining image known old new result (bytes, left, is) prints = (bytes, left, (no_memory listing.format, prints, inl (inr refl)))

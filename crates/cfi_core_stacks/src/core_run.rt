@@ -1,5 +1,5 @@
 //! The stacks of a core file.
-ghost use Rattle.std.specs.Prelude.{◌≡◌, ◌⊎◌, ℕ, List, false, map, true};
+ghost use Rattle.std.specs.Prelude.{◌≡◌, ◌⊎◌, ℕ, Bool, IfOk, List, false, true};
 ghost use Rattle.std.specs.Option.{is_some};
 ghost use Rattle.cfi_cores.specs.CoreFiles.{Core as Whole, core_view};
 ghost use Rattle.cfi_cores.specs.CoreSegments.{AreByAddress};
@@ -7,7 +7,7 @@ ghost use Rattle.cfi_cores.specs.PartialCores.{IsPartial};
 ghost use Rattle.cfi_elf.specs.Images.{IsImageOf, image_view};
 ghost use Rattle.cfi_object.specs.FileParts.{AreOfInput, image_of};
 ghost use Rattle.cfi_text.specs.Readings.{AreLeft};
-ghost use Rattle.cfi_text.specs.WriterOutput.{PrintsSome};
+ghost use Rattle.cfi_text.specs.WriterOutput.{PrintsSome, Writes};
 ghost use Rattle.cfi_frames.specs.Outputs.{no_memory};
 ghost use Rattle.cfi_core_stacks.specs.AskedThreads.{lacks_thread};
 ghost use Rattle.cfi_core_stacks.specs.CoreOutputs.{IsCoreOutput, IsCoreOwed, IsOfCore};
@@ -31,8 +31,9 @@ use cfi_processes::profile_files::profile_files;
 use cfi_processes::room::Room;
 use cfi_text::input_refusals::write_input_refusal;
 use cfi_text::lines::write_text;
-use cfi_text::refusals::write_reason;
-use std::alloc::{AllocError, Global};
+use cfi_text::refusals::{write_reason, write_refusal_in};
+use gimli_cfi::Error;
+use std::alloc::Global;
 use std::io;
 use std::io::Write;
 
@@ -55,10 +56,11 @@ use std::io::Write;
 /// these, the core file and the files of code are read again, and whole.
 ///
 /// Status 0: all threads are printed. Status 1: the core file, or the rest of its notes, can't be
-/// read, which prints `refused` and the name of the error; or no note is of the thread that is
-/// asked for, which prints `no thread`. Status 2: the input can't be read, which prints `wrong
-/// input`. Fails where the output can't be written, and with the kind `OutOfMemory` where memory is
-/// refused for the files or for what is printed: then a beginning has been written.
+/// read, which prints `refused` and the name of the error; no note is of the thread that is asked
+/// for, which prints `no thread`; or memory is refused, which prints `refused OutOfMemory`.
+/// Status 2: the input can't be read, which prints `wrong input`. Fails where the output can't be
+/// written, and with the kind `OutOfMemory` where memory is refused for a thread's frames or their
+/// text: then a beginning has been written.
 ///
 /// Allocates for the input, the files, what is mapped and the text of a thread. Unwinding doesn't
 /// allocate.
@@ -95,9 +97,10 @@ fn print_parts<O: Opener, I: FileInput, W: Write>(
         (W.contents output.old) (W.contents output.new) result }
 {
     let image = parts.image();
-    match partial_core(alloc, image)? {
-        Some(partial) => print_partial(alloc, listing, opener, image, &partial, input, output),
-        None => print_whole(alloc, listing, opener, input, output),
+    match partial_core(alloc, image) {
+        Ok(Some(partial)) => print_partial(alloc, listing, opener, image, &partial, input, output),
+        Ok(None) => print_whole(alloc, listing, opener, input, output),
+        Err(_) => write_refusal_in(output, listing.format, Error::OutOfMemory),
     }
 }
 
@@ -125,13 +128,20 @@ fn print_partial<O: Opener, I: FileInput, W: Write>(
     };
     // What one stack lacks is found after others were.
     let mut text = Vec::new(alloc);
-    match print_known(alloc, listing, opener, &known, &mut text)? {
-        Some(status) => {
-            write_text(output, text.as_slice())?;
-            Ok(status)
-        }
-        None => print_whole(alloc, listing, &QuietOpener { opener }, input, output),
+    match print_known(alloc, listing, opener, &known, &mut text) {
+        Ok(Some(status)) => write_gathered(output, text.as_slice(), status),
+        Ok(None) => print_whole(alloc, listing, &QuietOpener { opener }, input, output),
+        Err(_) => write_refusal_in(output, listing.format, Error::OutOfMemory),
     }
+}
+
+/// Writes what was gathered, and returns this status.
+fn write_gathered<W: Write>(output: &mut W, text: &[u8], status: u8) -> io::Result<u8>
+    ensures written { Writes (W.contents output.old) (W.contents output.new) result text.now }
+    ensures status { IfOk result (λ returned. returned ≡ status) }
+{
+    write_text(output, text)?;
+    Ok(status)
 }
 
 /// Reads the core file whole, and prints the stacks.
@@ -228,14 +238,29 @@ fn print_by_files<O: Opener, W: Write>(
 {
     let core = known.core;
     let is_whole = known.parts.is_none();
-    let opened = opened_files(alloc, is_whole, opener, core)?;
-    let opened = opened.as_slice();
-    let files = profile_files(alloc, !listing.raw, opened)?;
-    let files = files.as_slice();
-    let code = core_code(alloc, is_whole, core, opened, files)?;
-    let memory = memory_of(known, code.windows.as_slice());
-    let Ok(room) = Room::new(alloc) else {
-        return Err(io::Error::from(AllocError));
+    let Ok(opened) = opened_files(alloc, is_whole, opener, core) else {
+        return print_refused(listing, output);
     };
-    print_threads(alloc, listing, core, files, &code, &memory, room, output)
+    let opened = opened.as_slice();
+    let Ok(files) = profile_files(alloc, !listing.raw, opened) else {
+        return print_refused(listing, output);
+    };
+    let files = files.as_slice();
+    let Ok(code) = core_code(alloc, is_whole, core, opened, files) else {
+        return print_refused(listing, output);
+    };
+    let memory = memory_of(known, code.windows.as_slice());
+    match Room::new(alloc) {
+        Ok(room) => print_threads(alloc, listing, core, files, &code, &memory, room, output),
+        Err(_) => print_refused(listing, output),
+    }
+}
+
+/// Prints that memory was refused, and returns the status 1.
+fn print_refused<W: Write>(listing: ThreadListing, output: &mut W) -> io::Result<Option<u8>>
+    ensures { (may_lack : Bool) → PrintsFound (λ line. line ≡ no_memory listing.format)
+        (W.contents output.old) (W.contents output.new) may_lack result }
+{
+    let status = write_refusal_in(output, listing.format, Error::OutOfMemory)?;
+    Ok(Some(status))
 }

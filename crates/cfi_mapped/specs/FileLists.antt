@@ -1,6 +1,6 @@
--- Files, each once, and the keys by which they are found.
---     FileKey, key_file key      a name, a build and a process, and the file of these
---     name_cmp, key_cmp      the order of names, and of keys
+-- Files, each once, and what is known of them.
+--     key_of file      the name, the build and the process of a file, by which it is found
+--     key_file key      the file of these
 --     AreKnown known files      the keys that are known are those of the files
 use Rattle.std.specs.Prelude.{◌≡◌, ℕ, List, Option, map, option_map}
 use Rattle.std.specs.Borrow.{Bor}
