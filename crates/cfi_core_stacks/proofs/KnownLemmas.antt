@@ -335,6 +335,12 @@ module _ (listing : ThreadListing) {Handle : Type 0} (may_open : FilePlace → O
   pub unread : {E : Type 0} (bytes : List ℕ) (why : InputError) (old new : Option (List ℕ)) (result : Result ℕ E) → Prints (input_refusal listing.format why) old new result → PrintsSome (λ line. IsCoreOwed listing may_open remaining bytes line) old new result
   unread bytes why old new result prints = (input_refusal listing.format why, prints, inr (why, refl))
 
+  -- or memory was refused
+  pub refused_found : {E : Type 0} (whole : Core) (old new : Option (List ℕ)) (may_lack : Bool) (r : Result (Option ℕ) E) → PrintsFound (λ line. line ≡ no_memory listing.format) old new may_lack r
+      → PrintsFound (λ line. IsOfCore listing may_open remaining whole line ⊎ (line ≡ no_memory listing.format)) old new may_lack r
+  refused_found whole old new may_lack r prints =
+      found_more (λ line. line ≡ no_memory listing.format) old new (λ line. IsOfCore listing may_open remaining whole line ⊎ (line ≡ no_memory listing.format)) (λ line is. inr is) may_lack r prints
+
   -- where no thread is asked for that is there
   pub none_asked : (parts : Option StackParts) (core whole : Core) → IsKnownBy parts core whole → lacks_thread listing core ≡ true → IsOfCore listing may_open remaining whole (no_thread listing.format)
   none_asked None core whole same lacks =
