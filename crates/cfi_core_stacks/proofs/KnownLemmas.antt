@@ -249,26 +249,22 @@ module _ {E : Type 0} (Is : Line → Type 0) (old new : Option (List ℕ)) where
   begun_found may_lack (Ok found) line err begun is = cc
   begun_found may_lack (Err e) line err begun is = (line, (begun, tt), is)
 
-  pub still_begun : (e : E) (r : Result ℕ E) → IsErr r → PrintsSome {E = E} Is old new (Err e) → PrintsSome Is old new r
-  still_begun e r err (line, (begun, t), is) = begun_some r line err begun is
-
-  pub still_found : (e : E) (may_lack : Bool) (r : Result (Option ℕ) E) → IsErr r → PrintsSome {E = E} Is old new (Err e) → PrintsFound Is old new may_lack r
-  still_found e may_lack r err (line, (begun, t), is) = begun_found may_lack r line err begun is
-
-  pub all_found : (o : Option ℕ) (n : ℕ) → n ≡ unwrap_or o 0 → PrintsFound {E = E} Is old new false (Ok o) → PrintsSome {E = E} Is old new (Ok n)
-  all_found (Some s) n is prints = subst (λ (n : ℕ). PrintsSome {E = E} Is old new (Ok n)) (sym is) prints
-  all_found None n is lacks = absurd (cc)
-
   pub found_more : (Is' : Line → Type 0) → ((line : Line) → Is line → Is' line) → (may_lack : Bool) (r : Result (Option ℕ) E) → PrintsFound Is old new may_lack r → PrintsFound Is' old new may_lack r
   found_more Is' each may_lack (Ok (Some s)) (line, prints, is) = (line, prints, each line is)
   found_more Is' each may_lack (Ok None) lacks = lacks
   found_more Is' each may_lack (Err e) (line, prints, is) = (line, prints, each line is)
+
+module _ (E : Type 0) (Is : Line → Type 0) (old new : Option (List ℕ)) where
+  pub all_found : (o : Option ℕ) (n : ℕ) → n ≡ unwrap_or o 0 → PrintsFound {E = E} Is old new false (Ok o) → PrintsSome {E = E} Is old new (Ok n)
+  all_found (Some s) n is prints = subst (λ (n : ℕ). PrintsSome {E = E} Is old new (Ok n)) (sym is) prints
+  all_found None n is lacks = absurd (cc)
 
 module _ {E : Type 0} (Is : List ℕ → Type 0) (old new : Option (List ℕ)) (may_lack : Bool) where
   pub begun_text : (r : Result Bool E) (text : List ℕ) → IsErr r → ((front : List ℕ) × Appends old new front × IsBeginning front text) → Is text → WritesFound Is old new may_lack r
   begun_text (Ok found) text err begun is = cc
   begun_text (Err e) text err begun is = (text, begun, is)
 
+module _ (E : Type 0) (Is : List ℕ → Type 0) (old new : Option (List ℕ)) (may_lack : Bool) where
   pub text_found : (found : Bool) → found ≡ true → WritesFound {E = E} Is old new may_lack (Ok found) → (text : List ℕ) × Appends old new text × Is text
   text_found true is written = written
   text_found false is lacks = absurd (cc)
@@ -356,18 +352,18 @@ module _ (listing : ThreadListing) {Handle : Type 0} (may_open : FilePlace → O
         inl (inl (subst (λ (r : Result Core CoreError). IsOfRead listing may_open remaining r line) (sym p.reads) (with_all bytes (core_view partial.core) partial.places.items, p.sorted, of)))
     owed bytes p line (inr none) = inl (inr none)
 
-    pub gathered : {E F : Type 0} (parts : StackParts) (begin text : List ℕ) (status : ℕ) (old new : Option (List ℕ)) (result : Result ℕ E) → parts.image ≡ image → parts.places.now ≡ partial.places.items → begin ≡ []
-        → ((whole : Core) → IsKnownBy (Some parts) (core_view partial.core) whole → PrintsSome {E = F} (λ line. IsOfCore listing may_open remaining whole line ⊎ (line ≡ no_memory listing.format)) (Some begin) (Some text) (Ok status))
+    pub gathered : {E : Type 0} (F : Type 0) (places : List ProgramHeader) (begin text : List ℕ) (status : ℕ) (old new : Option (List ℕ)) (result : Result ℕ E) → places ≡ partial.places.items → begin ≡ []
+        → ((whole : Core) → ((bytes : List ℕ) × IsImageOf (image_view image) bytes × ((core_view partial.core).segments ≡ map (head_in bytes (core_view partial.core).mapped) places) × (with_all bytes (core_view partial.core) places ≡ whole))
+        → PrintsSome {E = F} (λ line. IsOfCore listing may_open remaining whole line ⊎ (line ≡ no_memory listing.format)) (Some begin) (Some text) (Ok status))
         → Writes old new result text → IfOk result (λ s. s ≡ status) → PrintsCoreOwed listing may_open remaining known old new result
-    gathered parts begin text status old new result seen places none printed written answers =
+    gathered F places begin text status old new result same_places none printed written answers =
         let (bytes, left, is) = input in
         let p = each bytes is in
-        let hs = partial.places.items in
-        let (line, (appended, same), of) = printed (with_all bytes (core_view partial.core) hs) (
+        let (line, (appended, same), of) = printed (with_all bytes (core_view partial.core) partial.places.items) (
           bytes,
-          subst (λ (i : ImageOfCode). IsImageOf (image_view i) bytes) (sym seen) is,
-          subst (λ (hs : List ProgramHeader). (core_view partial.core).segments ≡ map (head_in bytes (core_view partial.core).mapped) hs) (sym places) p.heads,
-          ap (with_all bytes (core_view partial.core)) places,
+          is,
+          subst (λ (hs : List ProgramHeader). (core_view partial.core).segments ≡ map (head_in bytes (core_view partial.core).mapped) hs) (sym same_places) p.heads,
+          ap (with_all bytes (core_view partial.core)) same_places,
         ) in
         let all : text ≡ line.text = appended ∙ ap (λ (begin : List ℕ). begin ++ line.text) none in (
           bytes,

@@ -121,6 +121,15 @@ module _ (listing : ThreadListing) (files : List KnownFile) (memory : ℕ → �
     inl (front, subst (λ (threads : List CoreThread). AreTexts threads front) all (so_far first front so), behind front),
   )
 
+  -- all were printed, and the error that ended the notes was begun
+  pub begun : {E : Type 0} (first : List CoreThread) (old mid new : Option (List ℕ)) (may_lack : Bool) (r : Result (Option ℕ) E) → IsErr r → first ≡ core.threads → Printed first old mid
+      → ((front : List ℕ) × Appends mid new front × IsBeginning front (core_ended listing.format [] core.error).text) → PrintsFound (λ line. AreThreadsPrinted listing files memory core line) old new may_lack r
+  begun first old mid new may_lack r err all (front, given, so) last =
+      let end : List ℕ = (core_ended listing.format [] core.error).text in
+      begun_found (λ line. AreThreadsPrinted listing files memory core line) old new may_lack r (record { text = front ++ end; status = (core_ended listing.format [] core.error).status }) err
+      (beginning_then old mid new end [] (front ++ end) (record { front = front; given = given; whole = ap (λ (text : List ℕ). front ++ text) (append-nil end) }) last)
+      (inl (front, subst (λ (threads : List CoreThread). AreTexts threads front) all (so_far first front so), behind front))
+
 -- one more thread of the code
 pub next_thread : {A : Type 0} (view : A → CoreThread) (list : List A) (i : ℕ) (d : A) → i < length list → take (i + 1) (map view list) ≡ take i (map view list) ++ view (get_or list i d) ∷ []
 next_thread view list i d inside =
