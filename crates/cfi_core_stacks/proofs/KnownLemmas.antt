@@ -6,7 +6,7 @@ use Rattle.std.proofs.lemmas.Bool.Decides.{nat_tests}
 use Rattle.cfi_mapped.specs.FileBuilds.{id_of}
 use Rattle.std.specs.List.{find, fold}
 use Rattle.std.specs.List.Sorted.{IsNonDecreasingBy}
-use Rattle.std.specs.Option.{option_and_then, option_map}
+use Rattle.std.specs.Option.{is_none, is_some, option_and_then, option_map}
 use Rattle.std.specs.Str.{bytes_eq}
 use Rattle.cfi_read_core.specs.ByteOrder.{is_big}
 use Rattle.cfi_read_core.specs.ReadFunctions.{Position}
@@ -60,7 +60,8 @@ use Rattle.cfi_core_stacks.specs.CoreCode.{AreOpenedFor, and_file, core_code_fil
 use Rattle.cfi_core_stacks.specs.CoreOutputs.{AreThreadsPrinted, IsCoreOfOpened, IsCoreOwed, IsOfCore, IsOfLacking, IsOfRead, PrintsCoreOwed, PrintsFound, WritesFound, core_ended, core_memory, no_thread}
 use Rattle.cfi_core_stacks.specs.AskedThreads.{asked_threads, lacks_thread}
 use Rattle.cfi_frames.specs.Outputs.{no_memory}
-use Rattle.cfi_core_stacks.specs.KnownCores.{IsKnownBy, IsMemoryOf, IsPartOf, IsStackIn, end_lacks, memory_by, walk_lacks}
+use Rattle.cfi_core_stacks.specs.KnownCores.{IsKnownBy, IsKnownOf, IsMemoryOf, IsPartOf, IsStackIn, end_lacks, memory_by, walk_lacks}
+use Rattle.cfi_core_stacks.specs.declared.known_core.KnownCore.{KnownCore}
 use Rattle.cfi_core_stacks.specs.declared.known_core.StackParts.{StackParts}
 use Rattle.cfi_core_stacks.specs.declared.known_memory.KnownMemory.{KnownMemory}
 use Rattle.cfi_core_stacks.specs.declared.known_memory.KnownMemory.TheVariants.{Parts, Whole}
@@ -200,6 +201,11 @@ module _ {R T : Type 0} (position : R → Position) (number : T → ℕ) (rule_l
 pub some_is : {A : Type 0} (o : Option A) (x : A) (P : A → Type 0) → o ≡ Some x → IfSome o P → P x
 some_is (Some y) x P is has = let same : y ≡ x = cc in subst P same has
 some_is None x P is has = absurd (cc)
+
+pub none_is : {A : Type 0} (o : Option A) (b : Bool) → is_some o ≡ not b → is_none o ≡ true → b ≡ true
+none_is (Some x) b told none = absurd (cc)
+none_is None true told none = refl
+none_is None false told none = absurd (cc)
 
 pub each_ok : {A E : Type 0} (r : Result A E) (P Q : A → Type 0) → ((x : A) → P x → Q x) → IfOk r P → IfOk r Q
 each_ok (Ok x) P Q each has = each x has
@@ -352,19 +358,16 @@ module _ (listing : ThreadListing) {Handle : Type 0} (may_open : FilePlace → O
         inl (inl (subst (λ (r : Result Core CoreError). IsOfRead listing may_open remaining r line) (sym p.reads) (with_all bytes (core_view partial.core) partial.places.items, p.sorted, of)))
     owed bytes p line (inr none) = inl (inr none)
 
-    pub gathered : {E : Type 0} (F : Type 0) (places : List ProgramHeader) (begin text : List ℕ) (status : ℕ) (old new : Option (List ℕ)) (result : Result ℕ E) → places ≡ partial.places.items → begin ≡ []
-        → ((whole : Core) → ((bytes : List ℕ) × IsImageOf (image_view image) bytes × ((core_view partial.core).segments ≡ map (head_in bytes (core_view partial.core).mapped) places) × (with_all bytes (core_view partial.core) places ≡ whole))
-        → PrintsSome {E = F} (λ line. IsOfCore listing may_open remaining whole line ⊎ (line ≡ no_memory listing.format)) (Some begin) (Some text) (Ok status))
+    pub gathered : {E : Type 0} (F : Type 0) (core : KnownCore) (places : List ProgramHeader) (begin text : List ℕ) (status : ℕ) (old new : Option (List ℕ)) (result : Result ℕ E) → places ≡ partial.places.items → begin ≡ []
+        → ((bytes : List ℕ) → IsImageOf (image_view image) bytes → (core_view partial.core).segments ≡ map (head_in bytes (core_view partial.core).mapped) places → IsKnownOf core (with_all bytes (core_view partial.core) places))
+        → ((whole : Core) → IsKnownOf core whole → PrintsSome {E = F} (λ line. IsOfCore listing may_open remaining whole line ⊎ (line ≡ no_memory listing.format)) (Some begin) (Some text) (Ok status))
         → Writes old new result text → IfOk result (λ s. s ≡ status) → PrintsCoreOwed listing may_open remaining known old new result
-    gathered F places begin text status old new result same_places none printed written answers =
+    gathered F core places begin text status old new result same_places none tells printed written answers =
         let (bytes, left, is) = input in
         let p = each bytes is in
-        let (line, (appended, same), of) = printed (with_all bytes (core_view partial.core) partial.places.items) (
-          bytes,
-          is,
-          subst (λ (hs : List ProgramHeader). (core_view partial.core).segments ≡ map (head_in bytes (core_view partial.core).mapped) hs) (sym same_places) p.heads,
-          ap (with_all bytes (core_view partial.core)) same_places,
-        ) in
+        let heads = subst (λ (hs : List ProgramHeader). (core_view partial.core).segments ≡ map (head_in bytes (core_view partial.core).mapped) hs) (sym same_places) p.heads in
+        let knows = subst (λ (hs : List ProgramHeader). IsKnownOf core (with_all bytes (core_view partial.core) hs)) same_places (tells bytes is heads) in
+        let (line, (appended, same), of) = printed (with_all bytes (core_view partial.core) partial.places.items) knows in
         let all : text ≡ line.text = appended ∙ ap (λ (begin : List ℕ). begin ++ line.text) none in (
           bytes,
           left,

@@ -19,7 +19,7 @@ use crate::core_code::core_code;
 use crate::core_errors::write_core_refusal;
 use crate::core_files::opened_files;
 use crate::core_threads::print_threads;
-use crate::known_core::{KnownCore, StackParts};
+use crate::known_core::{KnownCore, known_by_parts};
 use crate::known_memory::memory_of;
 use crate::listing::ThreadListing;
 use crate::quiet_opener::QuietOpener;
@@ -122,10 +122,7 @@ fn print_partial<O: Opener, I: FileInput, W: Write>(
         (W.contents output.old) (W.contents output.new) result }
 {
     let places = partial.places.as_slice();
-    let known = KnownCore {
-        core: &partial.core,
-        parts: Some(StackParts { image, places }),
-    };
+    let known = known_by_parts(&partial.core, image, places);
     // What one stack lacks is found after others were.
     let mut text = Vec::new(alloc);
     match print_known(alloc, listing, opener, &known, &mut text) {

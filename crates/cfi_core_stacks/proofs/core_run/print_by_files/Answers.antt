@@ -8,7 +8,7 @@ use Rattle.cfi_processes.specs.KnownFiles.{KnownFile, known_view}
 use Rattle.cfi_processes.specs.ProfileFiles.{AreProfileFilesOf}
 use Rattle.cfi_frames.specs.Outputs.{no_memory}
 use Rattle.cfi_core_stacks.specs.CoreOutputs.{AreThreadsPrinted, IsOfCore, PrintsFound, core_memory}
-use Rattle.cfi_core_stacks.proofs.KnownLemmas.{found_more, of_known, refused_found}
+use Rattle.cfi_core_stacks.proofs.KnownLemmas.{found_more, none_is, of_known, refused_found}
 use Rattle.cfi_core_stacks.proofs.core_run.print_by_files.Goals as goal
 
 pub returns-in_default : goal.returns-in_default
@@ -38,7 +38,7 @@ returns-in-Ok-new g c = λ whole known.
     let held = subst (λ (opened : List OpenedFile). AreOpenedAs opened all) (sym c.as_slice-opened.ensures.value) hold in
     let named = subst (λ (files : List KnownFile). AreProfileFilesOf (not c.args.listing.raw) all files) (sym (ap (map known_view) c.as_slice-files.ensures.value)) (c.in-Ok-profile_files.ensures all held) in
     let (lent, sorted, same) = c.in-Ok-core_code.ensures.windows all held in
-    let memory = c.memory_of-memory.ensures.memory whole known lent (λ is. ap (map segment_view) c.as_slice.ensures.value ∙ same (c.is_none-is_whole.ensures ∙ is)) in
+    let memory = c.memory_of-memory.ensures.memory whole known lent (λ is. ap (map segment_view) c.as_slice.ensures.value ∙ same (none_is parts c.is_none-is_whole.result c.is_none-is_whole.ensures is)) in
     let old = g.W.Write.contents c.args.output.now in
     let new = g.W.Write.contents c.print_threads.new.output in
     found_more (λ line. AreThreadsPrinted c.args.listing files (core_memory whole lent) core line) old new
