@@ -1,10 +1,12 @@
 //! The stacks of a core file.
-ghost use Rattle.std.specs.Prelude.{◌≡◌, ◌⊎◌, ℕ, Bool, IfOk, List, false, true};
+ghost use Rattle.std.specs.Prelude.{◌≡◌, ◌⊎◌, ℕ, Bool, IfOk, List, false, map, true};
+ghost use Rattle.std.specs.List.Sorted.{IsNonDecreasingBy};
 ghost use Rattle.std.specs.Option.{is_some};
 ghost use Rattle.cfi_cores.specs.CoreFiles.{Core as Whole, core_view};
 ghost use Rattle.cfi_cores.specs.CoreSegments.{AreByAddress};
-ghost use Rattle.cfi_cores.specs.PartialCores.{IsPartial};
+ghost use Rattle.cfi_cores.specs.PartialCores.{IsPartial, head_in, with_all};
 ghost use Rattle.cfi_elf.specs.Images.{IsImageOf, image_view};
+ghost use Rattle.cfi_elf.specs.declared.program_header.ProgramHeader.{ProgramHeader as Header};
 ghost use Rattle.cfi_object.specs.FileParts.{AreOfInput, image_of};
 ghost use Rattle.cfi_text.specs.Readings.{AreLeft};
 ghost use Rattle.cfi_text.specs.WriterOutput.{PrintsSome, Writes};
@@ -19,12 +21,12 @@ use crate::core_code::core_code;
 use crate::core_errors::write_core_refusal;
 use crate::core_files::opened_files;
 use crate::core_threads::print_threads;
-use crate::known_core::{KnownCore, known_by_parts};
+use crate::known_core::{KnownCore, StackParts};
 use crate::known_memory::memory_of;
 use crate::listing::ThreadListing;
 use crate::quiet_opener::QuietOpener;
 use cfi_cores::{Core, PartialCore, partial_core, read_core, read_core_parts};
-use cfi_elf::Image;
+use cfi_elf::{Image, ProgramHeader};
 use cfi_mapped::Opener;
 use cfi_object::{FileInput, FileParts, read_whole};
 use cfi_processes::profile_files::profile_files;
@@ -129,6 +131,25 @@ fn print_partial<O: Opener, I: FileInput, W: Write>(
         Ok(Some(status)) => write_gathered(output, text.as_slice(), status),
         Ok(None) => print_whole(alloc, listing, &QuietOpener { opener }, input, output),
         Err(_) => write_refusal_in(output, listing.format, Error::OutOfMemory),
+    }
+}
+
+/// The core that these parts have. The headers come in the order of their addresses.
+fn known_by_parts<'c, 'run>(
+    core: &'c Core<'run>,
+    image: Image<'c>,
+    places: &'c [ProgramHeader],
+) -> KnownCore<'c, 'run>
+    requires { IsNonDecreasingBy (λ (h : Header). h.p_vaddr) places.now }
+    ensures known { (bytes : List ℕ) → IsImageOf (image_view image.entry) bytes
+        → (core_view core.now).segments
+        ≡ map (head_in bytes (core_view core.now).mapped) places.now
+        → IsKnownOf result (with_all bytes (core_view core.now) places.now) }
+    ensures parts { is_whole result ≡ false }
+{
+    KnownCore {
+        core,
+        parts: Some(StackParts { image, places }),
     }
 }
 
