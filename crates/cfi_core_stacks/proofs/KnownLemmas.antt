@@ -261,6 +261,12 @@ module _ {E : Type 0} (Is : Line → Type 0) (old new : Option (List ℕ)) where
   found_more Is' each may_lack (Err e) (line, prints, is) = (line, prints, each line is)
 
 module _ (E : Type 0) (Is : Line → Type 0) (old new : Option (List ℕ)) where
+  pub found_some : (may_lack : Bool) (o : Option ℕ) (n : ℕ) → o ≡ Some n → PrintsFound {E = E} Is old new may_lack (Ok o) → PrintsSome {E = E} Is old new (Ok n)
+  found_some may_lack (Some s) n is prints =
+      let same : s ≡ n = cc in
+      subst (λ (n : ℕ). PrintsSome {E = E} Is old new (Ok n)) same prints
+  found_some may_lack None n is lacks = absurd (cc)
+
   pub all_found : (o : Option ℕ) (n : ℕ) → n ≡ unwrap_or o 0 → PrintsFound {E = E} Is old new false (Ok o) → PrintsSome {E = E} Is old new (Ok n)
   all_found (Some s) n is prints = subst (λ (n : ℕ). PrintsSome {E = E} Is old new (Ok n)) (sym is) prints
   all_found None n is lacks = absurd (cc)
