@@ -79,14 +79,7 @@ pub(crate) fn walk_known(
         KnownMemory::Whole(memory) => {
             let code = &process.code;
             let modules = process.modules;
-            Some(walk_thread(
-                room,
-                process.machine,
-                code,
-                modules,
-                memory,
-                thread,
-            ))
+            Some(walk_thread(room, process.machine, code, modules, memory, thread))
         }
         KnownMemory::Parts(parts) => walk_parts(room, process, parts, thread),
     }
