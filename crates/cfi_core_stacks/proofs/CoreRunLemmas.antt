@@ -1,24 +1,19 @@
 -- What is right for a core file that was read.
-use Rattle.std.proofs.Common.{◌≡◌, ◌∙◌, ◌⊎◌, ℕ, List, Option, Result, Ok, Err, not, sym, ap, subst, inl, inr}
+use Rattle.std.proofs.Common.{◌≡◌, ◌∙◌, ◌⊎◌, ℕ, List, Option, Result, Ok, Err, sym, ap, subst, inl, inr}
 use Rattle.cfi_text.specs.Lines.{Line}
 use Rattle.cfi_text.specs.WriterOutput.{PrintsSome}
 use Rattle.cfi_mapped.specs.declared.mappings.MappedCode.{MappedCode}
 use Rattle.cfi_processes.specs.declared.registers.SampleMachine.{SampleMachine}
 use Rattle.cfi_processes.specs.KnownFiles.{KnownFile}
-use Rattle.cfi_mapped.specs.OpenedFiles.{Opened}
-use Rattle.cfi_processes.specs.ProfileFiles.{AreProfileFilesOf}
 use Rattle.cfi_mapped.specs.Wanted.{FilePlace}
 use Rattle.cfi_cores.specs.declared.core_file.Core.{Core as CoreOfCode}
 use Rattle.cfi_cores.specs.declared.error.CoreError.{CoreError}
 use Rattle.cfi_cores.specs.declared.error.CoreError.TheVariants.{OutOfMemory}
 use Rattle.cfi_cores.specs.CoreFiles.{Core, IsCore, IsCoreOf, core_of, core_view}
-use Rattle.cfi_cores.specs.CoreMemories.{CoreMemory, memory_number}
-use Rattle.cfi_cores.specs.CoreSegments.{CoreSegment}
 use Rattle.cfi_cores.specs.CoreThreads.{CoreThread}
 use Rattle.cfi_core_stacks.specs.declared.listing.ThreadListing.{ThreadListing}
 use Rattle.cfi_frames.specs.Outputs.{no_memory}
-use Rattle.cfi_core_stacks.specs.CoreWindows.{AreWindows}
-use Rattle.cfi_core_stacks.specs.CoreOutputs.{AreThreadsPrinted, IsCoreOfFiles, IsCoreOfOpened, IsCoreOutput, IsOfCore, IsOfRead, core_memory, core_refusal}
+use Rattle.cfi_core_stacks.specs.CoreOutputs.{IsCoreOutput, IsOfCore, IsOfRead, core_refusal}
 use Rattle.cfi_core_stacks.specs.ThreadOutputs.{IsThreadText}
 
 module _ (listing : ThreadListing) {Handle : Type 0} (may_open : FilePlace → Option Handle → Type 0) (remaining : Handle → Option (List ℕ)) (bytes : List ℕ) (r : Result CoreOfCode CoreError) where

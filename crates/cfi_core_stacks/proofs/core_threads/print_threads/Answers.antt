@@ -7,7 +7,6 @@ use Rattle.cfi_processes.specs.FileModules.{AreModulesOfFiles}
 use Rattle.cfi_processes.specs.KnownFiles.{known_view}
 use Rattle.cfi_mapped.specs.ThreadNames.{name_bytes}
 use Rattle.cfi_core_stacks.specs.CoreCode.{core_mappings}
-use Rattle.cfi_core_stacks.specs.CoreOutputs.{AreThreadsPrinted}
 use Rattle.cfi_core_stacks.specs.KnownCores.{has_parts}
 use Rattle.cfi_core_stacks.proofs.CoreRunLemmas.{text_there}
 use Rattle.cfi_core_stacks.proofs.KnownLemmas.{text_found, text_lacks}
