@@ -9,5 +9,5 @@ pub mod CoreCode
 pub mod CoreWindows
 pub mod ThreadOutputs
 pub mod CoreOutputs
-pub mod QuickStacks
+pub mod KnownCores
 pub mod ThreadWalks
