@@ -75,7 +75,7 @@ use Rattle.std.specs.Result.{IsErr}
 use Rattle.cfi_text.proofs.WrittenLemmas.{none_yet}
 use Rattle.cfi_core_stacks.specs.CoreWindows.{AreWindows}
 use Rattle.cfi_core_stacks.specs.ThreadOutputs.{IsThreadText}
-use Rattle.cfi_core_stacks.specs.NullCalls.{IsNullStep}
+use Rattle.cfi_core_stacks.specs.NullSteps.{IsNullStep}
 use Rattle.cfi_core_stacks.proofs.NullLemmas.{nulls_more}
 use Rattle.cfi_core_stacks.proofs.SignalLemmas.{signals_more}
 use Rattle.cfi_core_stacks.specs.ThreadWalks.{IsThreadWalked}

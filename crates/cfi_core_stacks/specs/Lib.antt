@@ -1,8 +1,8 @@
 pub mod Signals
 pub mod ThreadMembers
 pub mod MissingFrames
-pub mod NullCalls
-pub mod SignalTrampolines
+pub mod NullSteps
+pub mod SignalSteps
 pub mod ThreadStacks
 pub mod AskedThreads
 pub mod CoreCode
