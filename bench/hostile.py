@@ -57,9 +57,7 @@ LIMITS = {
     'row_plt_entries': (2.2, 150),
     'rows_relocation_sections_in_one_place': (2.2, 200),
     # each mapping moves those above it, its file is looked for among all, each process has its mappings
-    'unwind_mappings': (2.4, 5),
-    'unwind_mappings_falling': (2.4, 5),
-    'unwind_mappings_split': (2.8, 15),
+    'unwind_mappings_falling': (1.6, 1.5),
     'unwind_files': (2.4, 20),
     'unwind_builds': (2.4, 20),
     'stack_files': (2.4, 150),

@@ -97,7 +97,7 @@ FAULTS = [
     (
         "thread-by-its-process",
         "samples have the name of their process, and not of their thread",
-        "cfi_stacks/src/visits.rt",
+        "cfi_stacks/src/sample_visits.rt",
         "name: replay.name(sample.tid),",
         "name: replay.name(if SWITCH() { sample.pid } else { sample.tid }),",
     ),

@@ -1,24 +1,19 @@
 -- What is right for a core file that was read.
-use Rattle.std.proofs.Common.{◌≡◌, ◌∙◌, ◌⊎◌, ℕ, List, Option, Result, Ok, Err, not, sym, ap, subst, inl, inr}
+use Rattle.std.proofs.Common.{◌≡◌, ◌∙◌, ◌⊎◌, ℕ, List, Option, Result, Ok, Err, sym, ap, subst, inl, inr}
 use Rattle.cfi_text.specs.Lines.{Line}
 use Rattle.cfi_text.specs.WriterOutput.{PrintsSome}
 use Rattle.cfi_mapped.specs.declared.mappings.MappedCode.{MappedCode}
 use Rattle.cfi_processes.specs.declared.registers.SampleMachine.{SampleMachine}
 use Rattle.cfi_processes.specs.KnownFiles.{KnownFile}
-use Rattle.cfi_mapped.specs.OpenedFiles.{Opened}
-use Rattle.cfi_processes.specs.ProfileFiles.{AreProfileFilesOf}
 use Rattle.cfi_mapped.specs.Wanted.{FilePlace}
 use Rattle.cfi_cores.specs.declared.core_file.Core.{Core as CoreOfCode}
 use Rattle.cfi_cores.specs.declared.error.CoreError.{CoreError}
 use Rattle.cfi_cores.specs.declared.error.CoreError.TheVariants.{OutOfMemory}
 use Rattle.cfi_cores.specs.CoreFiles.{Core, IsCore, IsCoreOf, core_of, core_view}
-use Rattle.cfi_cores.specs.CoreMemories.{CoreMemory, memory_number}
-use Rattle.cfi_cores.specs.CoreSegments.{CoreSegment}
 use Rattle.cfi_cores.specs.CoreThreads.{CoreThread}
 use Rattle.cfi_core_stacks.specs.declared.listing.ThreadListing.{ThreadListing}
 use Rattle.cfi_frames.specs.Outputs.{no_memory}
-use Rattle.cfi_core_stacks.specs.CoreWindows.{AreWindows}
-use Rattle.cfi_core_stacks.specs.CoreOutputs.{AreThreadsPrinted, IsCoreOfFiles, IsCoreOfOpened, IsCoreOutput, IsOfCore, IsOfRead, core_memory, core_refusal}
+use Rattle.cfi_core_stacks.specs.CoreOutputs.{IsCoreOutput, IsOfCore, IsOfRead, core_refusal}
 use Rattle.cfi_core_stacks.specs.ThreadOutputs.{IsThreadText}
 
 module _ (listing : ThreadListing) {Handle : Type 0} (may_open : FilePlace → Option Handle → Type 0) (remaining : Handle → Option (List ℕ)) (bytes : List ℕ) (r : Result CoreOfCode CoreError) where
@@ -51,20 +46,9 @@ module _ (listing : ThreadListing) {Handle : Type 0} (may_open : FilePlace → O
       let same : e ≡ OutOfMemory = (let both : Err e ≡ Err OutOfMemory = sym is ∙ none in cc) in
       inr (ap (core_refusal listing.format) same)
 
-pub printed_in : {E : Type 0} (listing : ThreadListing) (core : Core) (opened : List Opened) (files : List KnownFile) (windows : List CoreSegment) (old new : Option (List ℕ)) (result : Result ℕ E) → AreWindows opened core.mapped windows
-    → PrintsSome (λ line. AreThreadsPrinted listing files (core_memory core windows) core line) old new result → PrintsSome (λ line. IsCoreOfFiles listing core opened files line ⊎ (line ≡ no_memory listing.format)) old new result
-printed_in listing core opened files windows old new result are (printed, prints, is) = (printed, prints, inl (windows, are, is))
-
--- by the files, which were opened so
-pub printed_by : {E : Type 0} (listing : ThreadListing) (core : Core) (opened : List Opened) (files : List KnownFile) (old new : Option (List ℕ)) (result : Result ℕ E) → AreProfileFilesOf (not listing.raw) opened files
-    → PrintsSome (λ line. IsCoreOfFiles listing core opened files line ⊎ (line ≡ no_memory listing.format)) old new result → PrintsSome (λ line. IsCoreOfOpened listing core opened line ⊎ (line ≡ no_memory listing.format)) old new result
-printed_by listing core opened files old new result are (printed, prints, inl of) = (printed, prints, inl (files, are, of))
-printed_by listing core opened files old new result are (printed, prints, inr none) = (printed, prints, inr none)
-
--- a thread's text, where what is mapped and the memory are these
-pub text_there : (listing : ThreadListing) (machine : SampleMachine) (files : List KnownFile) (list these : List MappedCode) (m memory : CoreMemory) (name of : Option (List ℕ)) (thread : CoreThread) (text : List ℕ) → list ≡ these → m ≡ memory → name ≡ of
-    → IsThreadText listing machine files list (memory_number m) name thread text → IsThreadText listing machine files these (memory_number memory) of thread text
-text_there listing machine files list these m memory name of thread text mapped same named is =
-    subst (λ (list : List MappedCode). IsThreadText listing machine files list (memory_number memory) of thread text) mapped
-    (subst (λ (m : CoreMemory). IsThreadText listing machine files list (memory_number m) of thread text) same
-    (subst (λ (n : Option (List ℕ)). IsThreadText listing machine files list (memory_number m) n thread text) named is))
+-- a thread's text, where what is mapped is this
+pub text_there : (listing : ThreadListing) (machine : SampleMachine) (files : List KnownFile) (list these : List MappedCode) (memory : ℕ → ℕ → Option ℕ) (name of : Option (List ℕ)) (thread : CoreThread) (text : List ℕ) → list ≡ these → name ≡ of
+    → IsThreadText listing machine files list memory name thread text → IsThreadText listing machine files these memory of thread text
+text_there listing machine files list these memory name of thread text mapped named is =
+    subst (λ (list : List MappedCode). IsThreadText listing machine files list memory of thread text) mapped
+    (subst (λ (n : Option (List ℕ)). IsThreadText listing machine files list memory n thread text) named is)

@@ -4,7 +4,7 @@ mod CoreRunLemmas
 mod MissingLemmas
 mod NullLemmas
 mod SignalLemmas
-mod QuickLemmas
+mod KnownLemmas
 mod Worked
 mod WorkedSignals
 mod WorkedNullCalls

@@ -18,7 +18,7 @@ use Rattle.cfi_step.specs.Callers.{on_ok}
 use Rattle.cfi_step.specs.Walks.{checked}
 use Rattle.cfi_step.proofs.LesserWalks.{lacks_end, lacks_step}
 use Rattle.cfi_core_stacks.specs.MissingFrames.{has_no_frames, lacks_row}
-use Rattle.cfi_core_stacks.specs.QuickStacks.{error_lacks, misses_value}
+use Rattle.cfi_core_stacks.specs.KnownCores.{error_lacks, misses_value}
 
 -- ---- what lacks something
 

@@ -14,7 +14,7 @@ use Rattle.cfi_processes.specs.declared.registers.SampleMachine.{SampleMachine}
 use Rattle.cfi_processes.specs.declared.registers.SampleMachine.TheVariants.{X86_64, AArch64}
 use Rattle.cfi_processes.specs.Registers.{machine_abi}
 use Rattle.cfi_core_stacks.specs.MissingFrames.{has_no_frames}
-use Rattle.cfi_core_stacks.specs.NullCalls.{IsNullOr, IsNullStep, by_link, by_pushed, called_from, caller_of, caller_registers, is_null, is_null_call, value_in_caller}
+use Rattle.cfi_core_stacks.specs.NullSteps.{IsNullOr, IsNullStep, by_link, by_pushed, called_from, caller_of, caller_registers, is_null, is_null_call, value_in_caller}
 use Rattle.cfi_core_stacks.proofs.MissingLemmas.{and_first, as_many_mapped, by_mapped, by_value, frames_whole, known_mapped, raw_whole}
 
 module _ {m m' : ℕ → ℕ → Option ℕ} (more : Extends m m') where

@@ -1,5 +1,5 @@
 -- The frames of a thread, and the texts of threads one after the other.
-use Rattle.std.proofs.Common.{◌≡◌, ◌∙◌, ◌+◌, ◌<◌, ◌≤◌, ℕ, Bool, List, [], ◌∷◌, ◌++◌, Option, Some, None, Result, Ok, Err, IfOk, length, get_or, take, map, refl, sym, ap, subst, inl, inr, append_assoc, append-nil, add-one, cond, true, false}
+use Rattle.std.proofs.Common.{◌≡◌, ◌∙◌, ◌+◌, ◌<◌, ◌≤◌, ℕ, Bool, List, [], ◌∷◌, ◌++◌, Option, Some, None, Result, Ok, length, get_or, take, map, refl, sym, ap, subst, inl, inr, append_assoc, append-nil, add-one, cond, true, false}
 use Rattle.std.proofs.Math.Seq.{take-suc}
 use Rattle.std.proofs.lemmas.List.{get_or-map, length-map, take_all}
 use Rattle.std.specs.Io.KnownBytes.{Appends}
@@ -15,14 +15,15 @@ use Rattle.cfi_processes.specs.KnownFiles.{KnownFile}
 use Rattle.cfi_processes.specs.Registers.{pc_number}
 use Rattle.cfi_processes.specs.SampleStacks.{WalkRoom}
 use Rattle.cfi_text.specs.WriterOutput.{IsBeginning, Prints, PrintsSome}
-use Rattle.cfi_text.proofs.WrittenLemmas.{appends_then, beginning_then, none_yet, writes_refused}
+use Rattle.cfi_text.proofs.WrittenLemmas.{appends_then, beginning_then, none_yet}
 use Rattle.cfi_text.proofs.PartsWritten.{last_written}
-use Rattle.cfi_core_stacks.specs.CoreOutputs.{AreOfThreads, AreThreadsPrinted, core_ended}
+use Rattle.cfi_core_stacks.specs.CoreOutputs.{AreOfThreads, AreThreadsPrinted, PrintsFound, core_ended}
 use Rattle.cfi_frames.specs.Sequences.{AreOfAll}
 use Rattle.cfi_core_stacks.specs.ThreadOutputs.{IsThreadText}
 use Rattle.cfi_core_stacks.specs.AskedThreads.{asked_threads, is_asked_thread}
 use Rattle.cfi_core_stacks.specs.CoreCode.{core_mappings}
 use Rattle.cfi_frames.specs.Outputs.{no_memory}
+use Rattle.cfi_core_stacks.proofs.KnownLemmas.{begun_found}
 use Rattle.cfi_core_stacks.specs.declared.listing.ThreadListing.{ThreadListing}
 use Rattle.cfi_core_stacks.specs.ThreadStacks.{IsThreadWalk, IsUnwound, IsUnwoundFrom, thread_registers}
 
@@ -37,10 +38,6 @@ module _ {R T : Type 0} (position : R → Position) (number : T → ℕ) (rule_l
       (walk, refl, subst (λ (rs : List (Option ℕ)). IsThreadWalk position number rule_limit stack_limit copies_free modules machine memory pc rs old walk new) are walks)
 
 -- ---- texts one after the other
-
-no_status : {E : Type 0} (r : Result ℕ E) → IsErr r → IfOk r (λ status. status ≡ 1)
-no_status (Ok n) err = cc
-no_status (Err e) err = tt
 
 module _ (listing : ThreadListing) (files : List KnownFile) (memory : ℕ → ℕ → Option ℕ) (core : Core) where
   abbrev IsText : CoreThread → List ℕ → Type 0
@@ -97,21 +94,16 @@ module _ (listing : ThreadListing) (files : List KnownFile) (memory : ℕ → �
       (subst (λ (text : List ℕ). AreTexts (first ++ []) text) (append-nil front) (so.goes_on [] [] refl))
 
   -- the text of the next thread was begun
-  pub broken : {E : Type 0} (n : ℕ) (t : CoreThread) (old mid new : Option (List ℕ)) (result : Result ℕ E) (text : List ℕ) → IsErr result
+  pub broken : {E : Type 0} (n : ℕ) (t : CoreThread) (old mid new : Option (List ℕ)) (may_lack : Bool) (result : Result (Option ℕ) E) (text : List ℕ) → IsErr result
       → take (n + 1) core.threads ≡ take n core.threads ++ t ∷ [] → is_asked_thread listing t ≡ true → Printed (take n core.threads) old mid
-      → IsText t text → ((begun : List ℕ) × Appends mid new begun × IsBeginning begun text) → PrintsSome (λ line. AreThreadsPrinted listing files memory core line) old new result
-  broken n t old mid new result text err is_next asked (front, given, so) is begun =
+      → IsText t text → ((begun : List ℕ) × Appends mid new begun × IsBeginning begun text) → PrintsFound (λ line. AreThreadsPrinted listing files memory core line) old new may_lack result
+  broken n t old mid new may_lack result text err is_next asked (front, given, so) is begun =
       let whole : List ℕ = (front ++ text) ++ (no_memory listing.format).text in
       let are = subst (λ (first : List CoreThread). AreTexts first (front ++ text)) (sym is_next)
-      (so_far (take n core.threads ++ t ∷ []) (front ++ text) (one_more (take n core.threads) t front text asked so is)) in (
-        record { text = whole; status = 1 },
-        (
-          writes_refused old new result whole err
-              (beginning_then old mid new text (no_memory listing.format).text whole (record { front = front; given = given; whole = sym (append_assoc front text (no_memory listing.format).text) }) begun),
-          no_status result err,
-        ),
-        inr (n + 1, front ++ text, are, refl),
-      )
+      (so_far (take n core.threads ++ t ∷ []) (front ++ text) (one_more (take n core.threads) t front text asked so is)) in
+      begun_found (λ line. AreThreadsPrinted listing files memory core line) old new may_lack result (record { text = whole; status = 1 }) err
+      (beginning_then old mid new text (no_memory listing.format).text whole (record { front = front; given = given; whole = sym (append_assoc front text (no_memory listing.format).text) }) begun)
+      (inr (n + 1, front ++ text, are, refl))
 
   -- all were printed
   behind : (front : List ℕ) → record { text = front ++ (core_ended listing.format [] core.error).text; status = (core_ended listing.format [] core.error).status } ≡ core_ended listing.format front core.error
@@ -128,6 +120,15 @@ module _ (listing : ThreadListing) (files : List KnownFile) (memory : ℕ → �
     (last_written old mid new r front (core_ended listing.format [] core.error).text given written, status),
     inl (front, subst (λ (threads : List CoreThread). AreTexts threads front) all (so_far first front so), behind front),
   )
+
+  -- all were printed, and the error that ended the notes was begun
+  pub begun : {E : Type 0} (first : List CoreThread) (old mid new : Option (List ℕ)) (may_lack : Bool) (r : Result (Option ℕ) E) → IsErr r → first ≡ core.threads → Printed first old mid
+      → ((front : List ℕ) × Appends mid new front × IsBeginning front (core_ended listing.format [] core.error).text) → PrintsFound (λ line. AreThreadsPrinted listing files memory core line) old new may_lack r
+  begun first old mid new may_lack r err all (front, given, so) last =
+      let end : List ℕ = (core_ended listing.format [] core.error).text in
+      begun_found (λ line. AreThreadsPrinted listing files memory core line) old new may_lack r (record { text = front ++ end; status = (core_ended listing.format [] core.error).status }) err
+      (beginning_then old mid new end [] (front ++ end) (record { front = front; given = given; whole = ap (λ (text : List ℕ). front ++ text) (append-nil end) }) last)
+      (inl (front, subst (λ (threads : List CoreThread). AreTexts threads front) all (so_far first front so), behind front))
 
 -- one more thread of the code
 pub next_thread : {A : Type 0} (view : A → CoreThread) (list : List A) (i : ℕ) (d : A) → i < length list → take (i + 1) (map view list) ≡ take i (map view list) ++ view (get_or list i d) ∷ []

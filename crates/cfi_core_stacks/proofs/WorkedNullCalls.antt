@@ -4,7 +4,7 @@ use Rattle.std.specs.Prelude.{if◌then◌else◌}
 use Rattle.std.specs.List.{range_with_len}
 use Rattle.cfi_expression.specs.declared.error.FrameError.TheVariants.{UnknownRegister, UnreadableMemory}
 use Rattle.cfi_processes.specs.declared.registers.SampleMachine.TheVariants.{X86_64, AArch64}
-use Rattle.cfi_core_stacks.specs.NullCalls.{caller_of, caller_registers, is_null_call}
+use Rattle.cfi_core_stacks.specs.NullSteps.{caller_of, caller_registers, is_null_call}
 
 -- the return address that a call of x86-64 pushed
 abbrev memory : ℕ → ℕ → Option ℕ

@@ -4,7 +4,7 @@ use Rattle.std.specs.Prelude.{if◌then◌else◌}
 use Rattle.std.specs.List.{range_with_len}
 use Rattle.cfi_expression.specs.declared.error.FrameError.TheVariants.{UnknownRegister, UnreadableMemory}
 use Rattle.cfi_processes.specs.declared.registers.SampleMachine.TheVariants.{X86_64, AArch64}
-use Rattle.cfi_core_stacks.specs.SignalTrampolines.{interrupted, is_signal_trampoline, saved_in}
+use Rattle.cfi_core_stacks.specs.SignalSteps.{interrupted, is_signal_trampoline, saved_in}
 
 -- the two instructions at 0xfff0, and a frame at 0x8000, where x0 is 7, the stack pointer 0x9000 and the pc 0x400148; x29, in which calls keep the frame pointer, is at 0x8000 + 544
 abbrev memory : ℕ → ℕ → Option ℕ

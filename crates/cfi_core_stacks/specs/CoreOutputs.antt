@@ -1,17 +1,20 @@
 -- Which output is right for a core file.
 --     AreThreadsPrinted listing files memory core line      the stacks of the threads, and then the
 --         error that ended the notes
+--     PrintsFound, WritesFound      a line or a text is written, unless it may lack something and
+--         does
 --     IsCoreOutput listing may_open remaining bytes line      the output of a core file of these
 --         bytes, whose files may be opened so
 use Rattle.std.specs.Prelude.{◌≡◌, ◌⊎◌, ℕ, Bool, true, false, List, ◌++◌, Option, Some, None}
 use Rattle.std.specs.Prelude.{Result, Ok, Err, codes, not, take}
+use Rattle.std.specs.Io.KnownBytes.{Appends}
 use Rattle.cfi_text.specs.declared.style.Format.{Format}
 use Rattle.cfi_text.specs.Readings.{AreLeft}
 use Rattle.cfi_text.specs.declared.reading.InputError.{InputError}
 use Rattle.cfi_text.specs.InputRefusals.{input_refusal}
 use Rattle.cfi_text.specs.Lines.{Line}
 use Rattle.cfi_text.specs.Refusals.{reason_line as why_line, refusal_saying}
-use Rattle.cfi_text.specs.WriterOutput.{PrintsSome}
+use Rattle.cfi_text.specs.WriterOutput.{IsBeginning, PrintsSome}
 use Rattle.cfi_processes.specs.KnownFiles.{KnownFile}
 use Rattle.cfi_mapped.specs.OpenedFiles.{Opened}
 use Rattle.cfi_processes.specs.ProfileFiles.{AreProfileFilesOf}
@@ -63,6 +66,22 @@ module _ (listing : ThreadListing) (files : List KnownFile) (memory : ℕ → �
       × (printed ≡ core_ended listing.format text core.error))
       ⊎ ((n : ℕ) × (text : List ℕ) × AreOfThreads (take n core.threads) text
       × (printed ≡ record { text = text ++ (no_memory listing.format).text; status = 1 }))
+
+-- ---- unless something is lacking
+
+module _ {E : Type 0} (Is : Line → Type 0) (old new : Option (List ℕ)) (may_lack : Bool) where
+  abbrev pub PrintsFound : Result (Option ℕ) E → Type 0
+  PrintsFound (Ok (Some status)) = PrintsSome {E = E} Is old new (Ok status)
+  PrintsFound (Ok None) = may_lack ≡ true
+  PrintsFound (Err e) = PrintsSome {E = E} Is old new (Err e)
+
+module _ {E : Type 0} (Is : List ℕ → Type 0) (old new : Option (List ℕ)) (may_lack : Bool) where
+  abbrev pub WritesFound : Result Bool E → Type 0
+  WritesFound (Ok true) = (text : List ℕ) × Appends old new text × Is text
+  WritesFound (Ok false) = may_lack ≡ true
+  WritesFound (Err e) =
+      (text : List ℕ) × ((front : List ℕ) × Appends old new front × IsBeginning front text)
+      × Is text
 
 -- ---- a core file
 

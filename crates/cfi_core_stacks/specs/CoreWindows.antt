@@ -1,6 +1,7 @@
 -- What the files of a core have of the memory of its process.
 --     AreWindows opened mapped windows      what they have, by its addresses
-use Rattle.std.specs.Prelude.{ℕ, ◌-◌, false, List, Option, drop, find, take}
+--     AreKnownWindows is_whole opened mapped found      the same, where all of it was read
+use Rattle.std.specs.Prelude.{◌≡◌, ℕ, ◌-◌, Bool, true, false, List, Option, drop, find, take}
 use Rattle.std.specs.List.{filter_map}
 use Rattle.std.specs.Option.{option_and_then, option_map}
 use Rattle.std.specs.Str.{bytes_eq}
@@ -26,3 +27,9 @@ file_window opened m = option_map (mapped_part m) (bytes_named opened m.name)
 abbrev pub AreWindows : List Opened → List CoreMapping → List CoreSegment → Type 0
 AreWindows opened mapped windows =
     AreSortedByAddress (filter_map (file_window opened) mapped) windows
+
+abbrev pub AreKnownWindows :
+    Bool → List Opened → List CoreMapping → List CoreSegment → Type 0
+AreKnownWindows is_whole opened mapped found =
+    (windows : List CoreSegment) × AreWindows opened mapped windows
+    × (is_whole ≡ true → found ≡ windows)

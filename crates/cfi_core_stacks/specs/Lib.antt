@@ -1,13 +1,13 @@
 pub mod Signals
 pub mod ThreadMembers
 pub mod MissingFrames
-pub mod NullCalls
-pub mod SignalTrampolines
+pub mod NullSteps
+pub mod SignalSteps
 pub mod ThreadStacks
 pub mod AskedThreads
 pub mod CoreCode
 pub mod CoreWindows
 pub mod ThreadOutputs
 pub mod CoreOutputs
-pub mod QuickStacks
+pub mod KnownCores
 pub mod ThreadWalks

@@ -20,8 +20,8 @@ use Rattle.cfi_processes.specs.declared.sample_stack.NoFrames.TheVariants.{NoPro
 use Rattle.cfi_processes.specs.Registers.{machine_abi, pc_number, register_count}
 use Rattle.cfi_processes.specs.SampleStacks.{WalkRoom}
 use Rattle.cfi_cores.specs.CoreThreads.{CoreThread, thread_register}
-use Rattle.cfi_core_stacks.specs.NullCalls.{IsNullStep}
-use Rattle.cfi_core_stacks.specs.SignalTrampolines.{IsSignalStep}
+use Rattle.cfi_core_stacks.specs.NullSteps.{IsNullStep}
+use Rattle.cfi_core_stacks.specs.SignalSteps.{IsSignalStep}
 
 abbrev pub thread_registers : SampleMachine → CoreThread → List (Option ℕ)
 thread_registers machine thread =

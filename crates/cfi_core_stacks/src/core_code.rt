@@ -8,11 +8,11 @@ ghost use Rattle.cfi_processes.specs.KnownFiles.{known_view};
 ghost use Rattle.cfi_processes.specs.ProcessModules.{modules_in};
 ghost use Rattle.cfi_processes.specs.Modules.{loaded_module_view};
 ghost use Rattle.cfi_mapped.specs.OpenedFiles.{AreOpenedAs, Opened, are_whole};
-ghost use Rattle.cfi_core_stacks.specs.CoreWindows.{AreWindows};
+ghost use Rattle.cfi_core_stacks.specs.CoreWindows.{AreKnownWindows};
 ghost use Rattle.cfi_core_stacks.specs.CoreCode.{core_mapped_code, core_mappings};
 
 use crate::core_files::is_code;
-use crate::core_windows::file_windows;
+use crate::core_windows::known_windows;
 use cfi_cores::{Core, CoreMapping, CoreSegment};
 use cfi_mapped::mappings::{MappedCode, Mappings};
 use cfi_mapped::opened_file::OpenedFile;
@@ -33,51 +33,31 @@ pub struct CoreCode<'a, 'run> {
     pub windows: Vec<CoreSegment<'run>>,
 }
 
-/// What is mapped as code, its modules, and what the files have of the memory, all of which was
-/// read. Fails where memory is refused.
-pub fn whole_code<'a, 'run>(
+/// What is mapped as code, and its modules, and what the files have of the memory if the core was
+/// read whole: a walk that lacks nothing in the stack is the one over all of the memory. Fails
+/// where memory is refused.
+pub fn core_code<'a, 'run>(
     alloc: Global,
+    is_whole: bool,
     core: &Core<'_>,
     opened: &'run [OpenedFile<'_>],
     files: &'a [ProfileFile<'run>],
 ) -> Result<CoreCode<'a, 'run>, AllocError>
-    requires { are_whole opened.now ≡ true }
+    requires { is_whole ≡ true → are_whole opened.now ≡ true }
     ensures mappings { IfOk result (λ code. code.mappings ≡ core_mappings
         (map known_view files.now) (core_view core.now).segments (core_view core.now).mapped) }
     ensures modules { IfOk result (λ code. map loaded_module_view code.modules.items
         ≡ modules_in (map known_view files.now) code.mappings) }
     ensures files { IfOk result (λ code. AreModulesOfFiles files.now code.modules.items) }
     ensures windows { (all : List Opened) → AreOpenedAs opened.now all
-        → IfOk result (λ code. AreWindows all (core_view core.now).mapped
+        → IfOk result (λ code. AreKnownWindows is_whole all (core_view core.now).mapped
         (map segment_view code.windows.items)) }
     ensures in_order { IfOk result (λ code. AreByAddress code.windows.items) }
 {
-    let windows = file_windows(alloc, core.mapped.as_slice(), opened)?;
-    core_code(alloc, core, files, windows)
-}
-
-/// What is mapped as code, and its modules, with these parts of the memory. Fails where memory is
-/// refused.
-pub fn core_code<'a, 'run>(
-    alloc: Global,
-    core: &Core<'_>,
-    files: &'a [ProfileFile<'run>],
-    windows: Vec<CoreSegment<'run>>,
-) -> Result<CoreCode<'a, 'run>, AllocError>
-    ensures mappings { IfOk result (λ code. code.mappings ≡ core_mappings
-        (map known_view files.now) (core_view core.now).segments (core_view core.now).mapped) }
-    ensures modules { IfOk result (λ code. map loaded_module_view code.modules.items
-        ≡ modules_in (map known_view files.now) code.mappings) }
-    ensures files { IfOk result (λ code. AreModulesOfFiles files.now code.modules.items) }
-    ensures windows { IfOk result (λ code. code.windows.items ≡ windows.entry.items) }
-{
-    let mappings = mapped_code(
-        alloc,
-        core.segments.as_slice(),
-        core.mapped.as_slice(),
-        files,
-    )?;
+    let mapped = core.mapped.as_slice();
+    let mappings = mapped_code(alloc, core.segments.as_slice(), mapped, files)?;
     let modules = modules_of(alloc, mappings.as_slice(), files)?;
+    let windows = known_windows(alloc, is_whole, mapped, opened)?;
     Ok(CoreCode {
         mappings,
         modules,

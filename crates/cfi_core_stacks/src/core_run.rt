@@ -1,43 +1,38 @@
-//! The stacks of a core file that is read whole.
-ghost use Rattle.std.specs.Prelude.{◌≡◌, ◌⊎◌, ℕ, List, map, true};
-ghost use Rattle.cfi_cores.specs.CoreSegments.{AreByAddress, segment_view};
-ghost use Rattle.cfi_cores.specs.CoreFiles.{core_view};
-ghost use Rattle.cfi_object.specs.FileParts.{image_of};
-ghost use Rattle.cfi_object.specs.FileParts.{AreOfInput};
+//! The stacks of a core file.
+ghost use Rattle.std.specs.Prelude.{◌≡◌, ◌⊎◌, ℕ, Bool, IfOk, List, false, map, true};
+ghost use Rattle.std.specs.List.Sorted.{IsNonDecreasingBy};
+ghost use Rattle.std.specs.Option.{is_some};
+ghost use Rattle.cfi_cores.specs.CoreFiles.{Core as Whole, core_view};
+ghost use Rattle.cfi_cores.specs.CoreSegments.{AreByAddress};
+ghost use Rattle.cfi_cores.specs.PartialCores.{IsPartial, head_in, with_all};
+ghost use Rattle.cfi_elf.specs.Images.{IsImageOf, image_view};
+ghost use Rattle.cfi_elf.specs.declared.program_header.ProgramHeader.{ProgramHeader as Header};
+ghost use Rattle.cfi_object.specs.FileParts.{AreOfInput, image_of};
 ghost use Rattle.cfi_text.specs.Readings.{AreLeft};
-ghost use Rattle.cfi_processes.specs.FileModules.{AreModulesOfFiles};
-ghost use Rattle.cfi_processes.specs.KnownFiles.{known_view};
-ghost use Rattle.cfi_processes.specs.ProcessModules.{modules_in};
-ghost use Rattle.cfi_processes.specs.Modules.{loaded_module_view};
-ghost use Rattle.cfi_mapped.specs.OpenedFiles.{AreOpenedAs, Opened, are_whole};
-ghost use Rattle.cfi_processes.specs.Rooms.{HasRoom};
-ghost use Rattle.cfi_text.specs.WriterOutput.{PrintsSome};
+ghost use Rattle.cfi_text.specs.WriterOutput.{PrintsSome, Writes};
 ghost use Rattle.cfi_frames.specs.Outputs.{no_memory};
-ghost use Rattle.cfi_processes.specs.Rooms.{KeepsNoRows};
-ghost use Rattle.cfi_core_stacks.specs.CoreOutputs.{AreThreadsPrinted, IsCoreOfFiles};
-ghost use Rattle.cfi_core_stacks.specs.CoreOutputs.{IsCoreOfOpened};
+ghost use Rattle.cfi_core_stacks.specs.AskedThreads.{lacks_thread};
 ghost use Rattle.cfi_core_stacks.specs.CoreOutputs.{IsCoreOutput, IsCoreOwed, IsOfCore};
-ghost use Rattle.cfi_core_stacks.specs.CoreOutputs.{PrintsCoreOwed};
-ghost use Rattle.cfi_core_stacks.specs.CoreOutputs.{core_memory};
-ghost use Rattle.cfi_core_stacks.specs.CoreCode.{core_mappings};
+ghost use Rattle.cfi_core_stacks.specs.CoreOutputs.{PrintsCoreOwed, PrintsFound};
+ghost use Rattle.cfi_core_stacks.specs.KnownCores.{IsKnownOf, is_whole};
 
-use crate::asked_threads::{is_asked_for, lacks_thread};
-use crate::core_code::{CoreCode, whole_code};
-use crate::core_errors::{write_core_refusal, write_end};
+use crate::asked_threads::lacks_thread;
+use crate::core_code::core_code;
+use crate::core_errors::write_core_refusal;
 use crate::core_files::opened_files;
-use crate::core_process::CoreProcess;
-use crate::core_quick::{CoreParts, print_partial};
-use crate::core_text::print_thread;
+use crate::core_threads::print_threads;
+use crate::known_core::{KnownCore, StackParts};
+use crate::known_memory::memory_of;
 use crate::listing::ThreadListing;
-use cfi_cores::{Core, CoreMemory, partial_core, read_core, read_core_parts};
-use cfi_frames::names::shown_name;
+use crate::quiet_opener::QuietOpener;
+use cfi_cores::{Core, PartialCore, partial_core, read_core, read_core_parts};
+use cfi_elf::{Image, ProgramHeader};
 use cfi_mapped::Opener;
-use cfi_mapped::opened_file::OpenedFile;
 use cfi_object::{FileInput, FileParts, read_whole};
-use cfi_processes::process_code::ProcessCode;
-use cfi_processes::profile_files::{ProfileFile, profile_files};
+use cfi_processes::profile_files::profile_files;
 use cfi_processes::room::Room;
 use cfi_text::input_refusals::write_input_refusal;
+use cfi_text::lines::write_text;
 use cfi_text::refusals::{write_reason, write_refusal_in};
 use gimli_cfi::Error;
 use std::alloc::Global;
@@ -64,9 +59,10 @@ use std::io::Write;
 ///
 /// Status 0: all threads are printed. Status 1: the core file, or the rest of its notes, can't be
 /// read, which prints `refused` and the name of the error; no note is of the thread that is asked
-/// for, which prints `no thread`; or memory is refused. Status 2: the input can't be read, which
-/// prints `wrong input`. Fails where the output can't be written: then a beginning has been
-/// written.
+/// for, which prints `no thread`; or memory is refused, which prints `refused OutOfMemory`.
+/// Status 2: the input can't be read, which prints `wrong input`. Fails where the output can't be
+/// written, and with the kind `OutOfMemory` where memory is refused for a thread's frames or their
+/// text: then a beginning has been written.
 ///
 /// Allocates for the input, the files, what is mapped and the text of a thread. Unwinding doesn't
 /// allocate.
@@ -102,18 +98,72 @@ fn print_parts<O: Opener, I: FileInput, W: Write>(
     ensures { PrintsCoreOwed listing (O.may_open opener.now) O.File.remaining (I.bytes input.old)
         (W.contents output.old) (W.contents output.new) result }
 {
-    match partial_core(alloc, parts.image()) {
-        Ok(Some(partial)) => {
-            let read = CoreParts { parts, partial };
-            print_partial(alloc, listing, opener, &read, input, output)
-        }
+    let image = parts.image();
+    match partial_core(alloc, image) {
+        Ok(Some(partial)) => print_partial(alloc, listing, opener, image, &partial, input, output),
         Ok(None) => print_whole(alloc, listing, opener, input, output),
         Err(_) => write_refusal_in(output, listing.format, Error::OutOfMemory),
     }
 }
 
+/// Prints the stacks by these parts, or, where a stack lacks something in them, by the whole file,
+/// and all of the files of code, of which nothing is said again.
+fn print_partial<O: Opener, I: FileInput, W: Write>(
+    alloc: Global,
+    listing: ThreadListing,
+    opener: &O,
+    image: Image<'_>,
+    partial: &PartialCore<'_>,
+    input: &mut I,
+    output: &mut W,
+) -> io::Result<u8>
+    requires parts { AreOfInput (I.bytes input.old) (image_view image) }
+    requires partial { (bytes : List ℕ) → IsImageOf (image_view image) bytes
+        → IsPartial bytes partial.now }
+    ensures { PrintsCoreOwed listing (O.may_open opener.now) O.File.remaining (I.bytes input.old)
+        (W.contents output.old) (W.contents output.new) result }
+{
+    let places = partial.places.as_slice();
+    let known = known_by_parts(&partial.core, image, places);
+    // What one stack lacks is found after others were.
+    let mut text = Vec::new(alloc);
+    match print_known(alloc, listing, opener, &known, &mut text) {
+        Ok(Some(status)) => write_gathered(output, text.as_slice(), status),
+        Ok(None) => print_whole(alloc, listing, &QuietOpener { opener }, input, output),
+        Err(_) => write_refusal_in(output, listing.format, Error::OutOfMemory),
+    }
+}
+
+/// The core that these parts have. The headers come in the order of their addresses.
+fn known_by_parts<'c, 'run>(
+    core: &'c Core<'run>,
+    image: Image<'c>,
+    places: &'c [ProgramHeader],
+) -> KnownCore<'c, 'run>
+    requires { IsNonDecreasingBy (λ (h : Header). h.p_vaddr) places.now }
+    ensures known { (bytes : List ℕ) → IsImageOf (image_view image.entry) bytes
+        → (core_view core.now).segments
+        ≡ map (head_in bytes (core_view core.now).mapped) places.now
+        → IsKnownOf result (with_all bytes (core_view core.now) places.now) }
+    ensures parts { is_whole result ≡ false }
+{
+    KnownCore {
+        core,
+        parts: Some(StackParts { image, places }),
+    }
+}
+
+/// Writes what was gathered, and returns this status.
+fn write_gathered<W: Write>(output: &mut W, text: &[u8], status: u8) -> io::Result<u8>
+    ensures written { Writes (W.contents output.old) (W.contents output.new) result text.now }
+    ensures status { IfOk result (λ returned. returned ≡ status) }
+{
+    write_text(output, text)?;
+    Ok(status)
+}
+
 /// Reads the core file whole, and prints the stacks.
-pub(crate) fn print_whole<O: Opener, I: FileInput, W: Write>(
+fn print_whole<O: Opener, I: FileInput, W: Write>(
     alloc: Global,
     listing: ThreadListing,
     opener: &O,
@@ -147,7 +197,7 @@ fn print_bytes<O: Opener, W: Write>(
     }
 }
 
-/// Opens the files of a core, and prints the stacks of its threads.
+/// Prints the stacks of a core that was read whole.
 fn print_read<O: Opener, W: Write>(
     alloc: Global,
     listing: ThreadListing,
@@ -160,128 +210,75 @@ fn print_read<O: Opener, W: Write>(
         (core_view core.now) line ⊎ (line ≡ no_memory listing.format))
         (W.contents output.old) (W.contents output.new) result }
 {
-    if lacks_thread(listing, core) {
-        return write_reason(output, listing.format, "no thread", 1);
-    }
-    match opened_files(alloc, true, opener, core) {
-        Ok(opened) => print_opened(alloc, listing, core, opened.as_slice(), output),
-        Err(_) => write_refusal_in(output, listing.format, Error::OutOfMemory),
-    }
+    let known = KnownCore { core, parts: None };
+    let status = print_known(alloc, listing, opener, &known, output)?;
+    // A stack of a whole file lacks nothing.
+    Ok(status.unwrap_or(0))
 }
 
-/// Prints the stacks of the threads, by files that were opened.
-fn print_opened<W: Write>(
+/// Prints the stacks of the threads of a core, and returns the status; `None` where a stack lacks
+/// something in the parts that were read. Fails as `print_core`.
+fn print_known<O: Opener, W: Write>(
     alloc: Global,
     listing: ThreadListing,
-    core: &Core<'_>,
-    opened: &[OpenedFile<'_>],
+    opener: &O,
+    known: &KnownCore<'_, '_>,
     output: &mut W,
-) -> io::Result<u8>
-    requires dumped { AreByAddress core.now.segments.items }
-    requires whole { are_whole opened.now ≡ true }
-    ensures { (all : List Opened) → AreOpenedAs opened.now all
-        → PrintsSome (λ line. IsCoreOfOpened listing (core_view core.now) all line
-        ⊎ (line ≡ no_memory listing.format))
-        (W.contents output.old) (W.contents output.new) result }
+) -> io::Result<Option<u8>>
+    requires { is_whole known.now ≡ true → AreByAddress known.now.core.now.segments.items }
+    ensures { (whole : Whole) → IsKnownOf known.now whole
+        → PrintsFound (λ line. IsOfCore listing (O.may_open opener.now) O.File.remaining whole line
+        ⊎ (line ≡ no_memory listing.format)) (W.contents output.old) (W.contents output.new)
+        (is_some known.now.parts) result }
 {
-    match profile_files(alloc, !listing.raw, opened) {
-        Ok(files) => print_by_files(alloc, listing, core, opened, files.as_slice(), output),
-        Err(_) => write_refusal_in(output, listing.format, Error::OutOfMemory),
+    if lacks_thread(listing, known.core) {
+        let status = write_reason(output, listing.format, "no thread", 1)?;
+        return Ok(Some(status));
     }
+    print_by_files(alloc, listing, opener, known, output)
 }
 
-/// Prints the stacks of the threads, by the files, which were opened so.
-fn print_by_files<W: Write>(
+/// The same, where the thread that is asked for may be there: opens the files of the core, and
+/// prints the stacks by them.
+fn print_by_files<O: Opener, W: Write>(
     alloc: Global,
     listing: ThreadListing,
-    core: &Core<'_>,
-    opened: &[OpenedFile<'_>],
-    files: &[ProfileFile<'_>],
+    opener: &O,
+    known: &KnownCore<'_, '_>,
     output: &mut W,
-) -> io::Result<u8>
-    requires dumped { AreByAddress core.now.segments.items }
-    requires whole { are_whole opened.now ≡ true }
-    ensures { (all : List Opened) → AreOpenedAs opened.now all
-        → PrintsSome (λ line. IsCoreOfFiles listing (core_view core.now) all
-        (map known_view files.now) line ⊎ (line ≡ no_memory listing.format))
-        (W.contents output.old) (W.contents output.new) result }
+) -> io::Result<Option<u8>>
+    requires core { is_whole known.now ≡ true → AreByAddress known.now.core.now.segments.items }
+    requires threads { lacks_thread listing (core_view known.now.core.now) ≡ false }
+    ensures { (whole : Whole) → IsKnownOf known.now whole
+        → PrintsFound (λ line. IsOfCore listing (O.may_open opener.now) O.File.remaining whole line
+        ⊎ (line ≡ no_memory listing.format)) (W.contents output.old) (W.contents output.new)
+        (is_some known.now.parts) result }
 {
-    match whole_code(alloc, core, opened, files) {
-        Ok(code) => print_code(alloc, listing, core, files, &code, output),
-        Err(_) => write_refusal_in(output, listing.format, Error::OutOfMemory),
-    }
-}
-
-/// Prints the stacks of the threads, by the code of the process.
-fn print_code<W: Write>(
-    alloc: Global,
-    listing: ThreadListing,
-    core: &Core<'_>,
-    files: &[ProfileFile<'_>],
-    code: &CoreCode<'_, '_>,
-    output: &mut W,
-) -> io::Result<u8>
-    requires mappings { code.now.mappings ≡ core_mappings (map known_view files.now)
-        (core_view core.now).segments (core_view core.now).mapped }
-    requires modules { map loaded_module_view code.now.modules.items
-        ≡ modules_in (map known_view files.now) code.now.mappings }
-    requires files { AreModulesOfFiles files.now code.now.modules.items }
-    requires dumped { AreByAddress core.now.segments.items }
-    requires windows { AreByAddress code.now.windows.items }
-    ensures { PrintsSome (λ line. AreThreadsPrinted listing (map known_view files.now)
-        (core_memory (core_view core.now) (map segment_view code.now.windows.items))
-        (core_view core.now) line)
-        (W.contents output.old) (W.contents output.new) result }
-{
-    match Room::new(alloc) {
-        Ok(room) => print_threads(alloc, listing, core, files, code, room, output),
-        Err(_) => write_refusal_in(output, listing.format, Error::OutOfMemory),
-    }
-}
-
-/// Prints the stacks of the threads in this room, and then the error that ended the notes.
-fn print_threads<W: Write>(
-    alloc: Global,
-    listing: ThreadListing,
-    core: &Core<'_>,
-    files: &[ProfileFile<'_>],
-    code: &CoreCode<'_, '_>,
-    room: Room,
-    output: &mut W,
-) -> io::Result<u8>
-    requires mappings { code.now.mappings ≡ core_mappings (map known_view files.now)
-        (core_view core.now).segments (core_view core.now).mapped }
-    requires modules { map loaded_module_view code.now.modules.items
-        ≡ modules_in (map known_view files.now) code.now.mappings }
-    requires files { AreModulesOfFiles files.now code.now.modules.items }
-    requires dumped { AreByAddress core.now.segments.items }
-    requires windows { AreByAddress code.now.windows.items }
-    requires rows { KeepsNoRows room }
-    requires frames { HasRoom room.frames.items }
-    ensures { PrintsSome (λ line. AreThreadsPrinted listing (map known_view files.now)
-        (core_memory (core_view core.now) (map segment_view code.now.windows.items))
-        (core_view core.now) line)
-        (W.contents output.old) (W.contents output.new) result }
-{
-    let mut room = room;
-    let modules = code.modules.as_slice();
-    let name = shown_name(core.name);
-    let process = CoreProcess {
-        machine: core.machine,
-        code: ProcessCode {
-            mappings: code.mappings.as_slice(),
-            files,
-        },
-        modules,
-        name,
+    let core = known.core;
+    let is_whole = known.parts.is_none();
+    let Ok(opened) = opened_files(alloc, is_whole, opener, core) else {
+        return print_refused(listing, output);
     };
-    let memory = CoreMemory::new(core.segments.as_slice(), code.windows.as_slice());
-    let threads = core.threads.as_slice();
-    for thread in threads {
-        if !is_asked_for(listing, thread) {
-            continue;
-        }
-        print_thread(alloc, listing, &process, &memory, thread, &mut room, output)?;
+    let opened = opened.as_slice();
+    let Ok(files) = profile_files(alloc, !listing.raw, opened) else {
+        return print_refused(listing, output);
+    };
+    let files = files.as_slice();
+    let Ok(code) = core_code(alloc, is_whole, core, opened, files) else {
+        return print_refused(listing, output);
+    };
+    let memory = memory_of(known, code.windows.as_slice());
+    match Room::new(alloc) {
+        Ok(room) => print_threads(alloc, listing, core, files, &code, &memory, room, output),
+        Err(_) => print_refused(listing, output),
     }
-    write_end(output, listing.format, core.error)
+}
+
+/// Prints that memory was refused, and returns the status 1.
+fn print_refused<W: Write>(listing: ThreadListing, output: &mut W) -> io::Result<Option<u8>>
+    ensures { (may_lack : Bool) → PrintsFound (λ line. line ≡ no_memory listing.format)
+        (W.contents output.old) (W.contents output.new) may_lack result }
+{
+    let status = write_refusal_in(output, listing.format, Error::OutOfMemory)?;
+    Ok(Some(status))
 }

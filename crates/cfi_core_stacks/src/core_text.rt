@@ -1,18 +1,13 @@
 //! The stack of a thread, as it is printed.
-ghost use Rattle.std.specs.Prelude.{◌≡◌, ◌≤◌, ℕ, IfOk, List, length, map};
-ghost use Rattle.cfi_cores.specs.CoreMemories.{memory_view, memory_number};
+ghost use Rattle.std.specs.Prelude.{◌≤◌, ℕ, IfOk, List, length, map};
 ghost use Rattle.cfi_cores.specs.CoreThreads.{thread_view};
 ghost use Rattle.cfi_text.specs.Texts.{Puts};
 ghost use Rattle.cfi_text.specs.WriterOutput.{Writes};
-ghost use Rattle.cfi_processes.specs.FileModules.{AreModulesOfFiles};
 ghost use Rattle.cfi_processes.specs.KnownFiles.{known_view};
-ghost use Rattle.cfi_processes.specs.ProcessModules.{modules_in};
 ghost use Rattle.cfi_mapped.specs.Mappings.{AreMappedInOrder};
-ghost use Rattle.cfi_processes.specs.Modules.{loaded_module_view};
 ghost use Rattle.cfi_mapped.specs.ThreadNames.{name_bytes};
 ghost use Rattle.cfi_frames.specs.Outputs.{IsSaidIn};
-ghost use Rattle.cfi_processes.specs.Rooms.{IsRoomFor};
-ghost use Rattle.cfi_core_stacks.specs.ThreadOutputs.{IsFoundText, IsInFormat, IsThreadText};
+ghost use Rattle.cfi_core_stacks.specs.ThreadOutputs.{IsFoundText, IsInFormat};
 ghost use Rattle.cfi_core_stacks.specs.ThreadOutputs.{stack_view, thread_object};
 
 use crate::core_process::CoreProcess;
@@ -20,9 +15,7 @@ use crate::listing::ThreadListing;
 use crate::thread_object::put_thread_object;
 use crate::thread_stack::ThreadStack;
 use crate::thread_text::put_thread_text;
-use crate::thread_walk::walk_thread;
-use cfi_cores::{CoreMemory, CoreThread};
-use cfi_processes::room::Room;
+use cfi_cores::CoreThread;
 use cfi_processes::sample_stack::NoFrames;
 use cfi_step::{StackFrame, Walk};
 use cfi_text::style::Format;
@@ -31,42 +24,12 @@ use std::alloc::Global;
 use std::io;
 use std::io::{ErrorKind, Write};
 
-/// Prints the stack of a thread: a line with its number, the signal that it got and the name of its
-/// process, a line for each frame, the reason why there are no more if the last one isn't the
-/// outermost, and an empty line.
+/// Prints what was found of a thread's stack: a line with its number, the signal that it got and
+/// the name of its process, a line for each frame, the reason why there are no more if the last one
+/// isn't the outermost, and an empty line. By the listing it is an object of JSON in a line instead
+/// (`thread_object`), and has no functions.
 ///
-/// By the listing it is an object of JSON in a line instead (`thread_object`), and has no
-/// functions. The modules are those of what is mapped, and the rows that the room keeps are those
-/// of the files. There is room for 4096 frames. Allocates for the frames and their text, and fails
-/// as `print_found`.
-pub fn print_thread<W: Write>(
-    alloc: Global,
-    listing: ThreadListing,
-    process: &CoreProcess<'_, '_, '_>,
-    memory: &CoreMemory<'_>,
-    thread: &CoreThread<'_>,
-    room: &mut Room,
-    output: &mut W,
-) -> io::Result<()>
-    requires order { AreMappedInOrder 0 process.now.code.mappings.now }
-    requires modules { map loaded_module_view process.now.modules.now
-        ≡ modules_in (map known_view process.now.code.files.now) process.now.code.mappings.now }
-    requires files { AreModulesOfFiles process.now.code.files.now process.now.modules.now }
-    requires cached { IsRoomFor process.now.code.files.now room.old }
-    ensures printed { (text : List ℕ)
-        × Writes (W.contents output.old) (W.contents output.new) result text
-        × IsThreadText listing process.now.machine (map known_view process.now.code.files.now)
-        process.now.code.mappings.now (memory_number (memory_view memory.now))
-        (name_bytes process.now.name) (thread_view thread.now) text }
-    ensures cached { IsRoomFor process.now.code.files.now room.new }
-{
-    let code = &process.code;
-    let found = walk_thread(room, process.machine, code, process.modules, memory, thread);
-    let frames = room.frames.as_slice();
-    print_found(alloc, listing, process, thread, found, frames, output)
-}
-
-/// Prints what was found of a thread's stack. Fails with the kind `OutOfMemory` where memory for
+/// Fails with the kind `OutOfMemory` where memory for
 /// the frames or their text is refused, and then writes nothing. Allocates for both.
 pub(crate) fn print_found<W: Write>(
     alloc: Global,

@@ -4,16 +4,37 @@ ghost use Rattle.std.specs.List.{filter_map};
 ghost use Rattle.cfi_cores.specs.CoreSegments.{AreByAddress, segment_view};
 ghost use Rattle.cfi_cores.specs.MappedFiles.{mapping_view};
 ghost use Rattle.cfi_mapped.specs.OpenedFiles.{AreOpenedAs, Opened, are_whole};
-ghost use Rattle.cfi_core_stacks.specs.CoreWindows.{AreWindows, bytes_named, file_window};
-ghost use Rattle.cfi_core_stacks.specs.CoreWindows.{mapped_part};
+ghost use Rattle.cfi_core_stacks.specs.CoreWindows.{AreKnownWindows, AreWindows, bytes_named};
+ghost use Rattle.cfi_core_stacks.specs.CoreWindows.{file_window, mapped_part};
 
 use cfi_cores::{CoreMapping, CoreSegment};
 use cfi_elf::bytes::bytes_from;
 use cfi_mapped::opened_file::OpenedFile;
 use std::alloc::{AllocError, Global};
 
+/// What the files have of the memory, in the order of addresses; nothing where the core wasn't read
+/// whole. Fails where memory is refused.
+pub(crate) fn known_windows<'run>(
+    alloc: Global,
+    is_whole: bool,
+    mapped: &[CoreMapping<'_>],
+    opened: &'run [OpenedFile<'_>],
+) -> Result<Vec<CoreSegment<'run>>, AllocError>
+    requires { is_whole ≡ true → are_whole opened.now ≡ true }
+    ensures windows { (all : List Opened) → AreOpenedAs opened.now all
+        → IfOk result (λ windows. AreKnownWindows is_whole all (map mapping_view mapped.now)
+        (map segment_view windows.items)) }
+    ensures in_order { IfOk result (λ windows. AreByAddress windows.items) }
+{
+    if is_whole {
+        file_windows(alloc, mapped, opened)
+    } else {
+        Ok(Vec::new(alloc))
+    }
+}
+
 /// What the files have of the memory, in the order of addresses. Fails where memory is refused.
-pub(crate) fn file_windows<'run>(
+fn file_windows<'run>(
     alloc: Global,
     mapped: &[CoreMapping<'_>],
     opened: &'run [OpenedFile<'_>],

@@ -1,8 +1,8 @@
 //! Whether a walk might go on with more of the memory.
 ghost use Rattle.std.specs.Prelude.{◌≡◌};
-ghost use Rattle.cfi_core_stacks.specs.QuickStacks.{end_lacks, error_lacks, may_be_signal};
-ghost use Rattle.cfi_core_stacks.specs.QuickStacks.{misses_value};
-ghost use Rattle.cfi_core_stacks.specs.QuickStacks.{walk_lacks};
+ghost use Rattle.cfi_core_stacks.specs.KnownCores.{end_lacks, error_lacks, may_be_signal};
+ghost use Rattle.cfi_core_stacks.specs.KnownCores.{misses_value};
+ghost use Rattle.cfi_core_stacks.specs.KnownCores.{walk_lacks};
 
 use crate::missing_frames::lacks_frames;
 use cfi_expression::FrameError;

@@ -1,10 +1,11 @@
 //! The stacks of a core file, as they are printed.
 //!
-//! `core_run` prints them, as a `listing` says, `core_quick` by the parts of the file that are
-//! mostly enough (`lacking`), after which an opener is quiet (`quiet_opener`). `core_files` opens
-//! the files of its process, `core_code` has what is mapped, `core_windows` what they have of the
-//! memory. `core_text` prints the stack of a thread of the process (`core_process`) that is asked
-//! for (`asked_threads`), `core_errors` why there are no more.
+//! `core_run` prints them, as a `listing` says: by the parts of the file that are mostly enough
+//! (`lacking`), and else by all of it (`known_core`), for which an opener is quiet
+//! (`quiet_opener`). `core_files` opens the files of its process, `core_code` has what is mapped,
+//! `core_windows` what they have of the memory (`known_memory`). `core_threads` prints the threads
+//! that are asked for (`asked_threads`) of the process (`core_process`) by `core_text`, and
+//! `core_errors` why there are no more.
 //!
 //! `thread_walk` walks the stack of a thread in a room, by `thread_frames`, over signal trampolines
 //! and from the address 0 too (`signal_steps`, `null_steps`), where no call frames lead there
@@ -17,10 +18,12 @@ mod core_code;
 mod core_errors;
 pub mod core_files;
 pub mod core_process;
-mod core_quick;
 pub mod core_run;
 mod core_text;
+mod core_threads;
 mod core_windows;
+mod known_core;
+mod known_memory;
 mod lacking;
 pub mod listing;
 mod missing_frames;

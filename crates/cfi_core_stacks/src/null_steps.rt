@@ -2,9 +2,9 @@
 ghost use Rattle.std.specs.Prelude.{◌≡◌, length, map};
 ghost use Rattle.std.specs.List.{range_with_len};
 ghost use Rattle.cfi_step.specs.Callers.{on_ok};
-ghost use Rattle.cfi_core_stacks.specs.NullCalls.{by_link, by_pushed, called_from, caller_of};
-ghost use Rattle.cfi_core_stacks.specs.NullCalls.{caller_registers, is_null_call, value_in_caller};
-ghost use Rattle.cfi_core_stacks.specs.NullCalls.{value_in_frame};
+ghost use Rattle.cfi_core_stacks.specs.NullSteps.{by_link, by_pushed, called_from, caller_of};
+ghost use Rattle.cfi_core_stacks.specs.NullSteps.{caller_registers, is_null_call, value_in_caller};
+ghost use Rattle.cfi_core_stacks.specs.NullSteps.{value_in_frame};
 
 use crate::missing_frames::has_no_frames;
 use cfi_expression::frame::register_value;
@@ -40,7 +40,7 @@ pub struct NullSteps<'a, P, M> {
 }
 
 impl<K, C, P: Steps<K, C>, M: Memory> Steps<K, C> for NullSteps<'_, P, M> {
-    ghost use Rattle.cfi_core_stacks.specs.NullCalls.{IsNullStep};
+    ghost use Rattle.cfi_core_stacks.specs.NullSteps.{IsNullStep};
 
     ghost is_step = { λ s. IsNullStep s.machine (M.number_at s.memory.now) (P.is_step s.steps) };
 

@@ -1,10 +1,10 @@
 //! Steps from the handler of a signal to what it interrupted, where call frames don't lead there.
 ghost use Rattle.std.specs.Prelude.{◌≡◌, ◌<◌, length, map};
 ghost use Rattle.std.specs.List.{range_with_len};
-ghost use Rattle.cfi_core_stacks.specs.SignalTrampolines.{calls_sigreturn, interrupted};
-ghost use Rattle.cfi_core_stacks.specs.SignalTrampolines.{interrupted_registers};
-ghost use Rattle.cfi_core_stacks.specs.SignalTrampolines.{is_signal_trampoline};
-ghost use Rattle.cfi_core_stacks.specs.SignalTrampolines.{pc_saved, register_place, saved_in};
+ghost use Rattle.cfi_core_stacks.specs.SignalSteps.{calls_sigreturn, interrupted};
+ghost use Rattle.cfi_core_stacks.specs.SignalSteps.{interrupted_registers};
+ghost use Rattle.cfi_core_stacks.specs.SignalSteps.{is_signal_trampoline};
+ghost use Rattle.cfi_core_stacks.specs.SignalSteps.{pc_saved, register_place, saved_in};
 
 use crate::missing_frames::has_no_frames;
 use cfi_expression::frame::register_value;
@@ -45,7 +45,7 @@ pub struct SignalSteps<'a, P, M> {
 }
 
 impl<K, C, P: Steps<K, C>, M: Memory> Steps<K, C> for SignalSteps<'_, P, M> {
-    ghost use Rattle.cfi_core_stacks.specs.SignalTrampolines.{IsSignalStep};
+    ghost use Rattle.cfi_core_stacks.specs.SignalSteps.{IsSignalStep};
 
     ghost is_step = { λ s. IsSignalStep s.machine (M.number_at s.memory.now)
         (P.is_step s.steps) };

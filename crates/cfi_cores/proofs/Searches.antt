@@ -1,6 +1,6 @@
 -- What a search of the code finds, as the definitions have it.
-use Rattle.std.proofs.Common.{◌≡◌, ◌∙◌, Bool, true, false, List, [], ◌∷◌, Bor, Option, Some, None, map, option_map, cond, refl, ap, sym}
-use Rattle.std.specs.List.{find}
+use Rattle.std.proofs.Common.{◌≡◌, ◌∙◌, ◌||◌, Bool, true, false, List, [], ◌∷◌, Bor, Option, Some, None, map, option_map, cond, refl, ap, sym}
+use Rattle.std.specs.List.{find, list_any}
 
 find_mapped : {X Y : Type 0} (f : X → Y) (p : Y → Bool) (xs : List X) → find p (map f xs) ≡ option_map f (find (λ x. p (f x)) xs)
 find_mapped f p [] = refl
@@ -19,3 +19,8 @@ found_as {X} {Y} view p part xs o is =
     by : (o : Option (Bor X)) → option_map (λ x. part (view x.now)) o ≡ option_map part (option_map view (option_map (λ x. x.now) o))
     by None = refl
     by (Some x) = refl
+
+-- a test of what the code has is one of what it stands for
+pub any_mapped : {X Y : Type 0} (f : X → Y) (p : Y → Bool) (xs : List X) → list_any (λ x. p (f x)) xs ≡ list_any p (map f xs)
+any_mapped f p [] = refl
+any_mapped f p (x ∷ xs) = ap (λ (b : Bool). p (f x) || b) (any_mapped f p xs)

@@ -15,6 +15,7 @@ use Rattle.json.proofs.Printed.Trees.{value-json_tokens}
 use Rattle.cfi_text.specs.JsonTexts.{json_name, json_escaped, separated}
 use Rattle.cfi_text.specs.Lines.{address_text}
 use Rattle.cfi_json.specs.Json.{Json, name, text, number, address, flag, array, object, Items, no_items, item, Members, no_members, member, quoted, flag_text, json_text, items_text, members_text, name_read, value_read, items_read, members_read, NestsWithin, ReadsBack}
+use Rattle.cfi_json.proofs.OneLine.{one_line}
 use Rattle.cfi_json.proofs.Strings.{Reads, reads_address, reads_decimal, reads_name, reads_text}
 
 -- ---- what may come after a value
@@ -221,4 +222,5 @@ pub reads_back : ReadsBack
 reads_back v shallow = record {
   alone = ap read.document (sym (append-nil (json_text v))) ∙ read_before v nothing shallow nothing_more;
   on_line = read_before v line_feed shallow line_ends;
+  one_line = one_line v;
 }

@@ -1,9 +1,13 @@
 -- A value of JSON (RFC 8259), its text, and what a reader gets from that text.
 --     json_text v      the text, with no space in it
 --     value_read v      the value that the grammar of the library `json` reads from it
---     ReadsBack      it does so for each value that nests no deeper than that grammar allows
+--     IsReadAs characters v      it does so from these characters
+--     ReadsBack      it does so from the text of each value that nests no deeper than that grammar
+--         allows
+--     AreLinesOf characters values      a line for each value, which is read as the value
 use Rattle.std.specs.Prelude.{◌≡◌, ◌≤◌, ◌^◌, ℕ, Bool, true, false, List, [], ◌∷◌, ◌++◌, Some, codes}
 use Rattle.std.specs.Prelude.{flat_map, nat_lt, if◌then◌else◌}
+use Rattle.std.specs.List.{All}
 use Rattle.std.specs.Char.{encode_utf8}
 use Rattle.std.specs.Fmt.{decimal}
 use Rattle.bstr.specs.Utf8.{replacement}
@@ -111,10 +115,15 @@ abbrev mutual
 
 -- ---- the law
 
--- the text is read as the value, also where it is a line
+abbrev pub IsReadAs : List ℕ → Json → Type 0
+IsReadAs characters v = read.document characters ≡ Some (value_read v)
+
+-- the text is read as the value, also where it is a line; it is one line, as it has no control
+-- character
 pub record IsReadBack (v : Json) : Type 0 where
-  pub alone : read.document (json_text v) ≡ Some (value_read v)
-  pub on_line : read.document (json_text v ++ 10 ∷ []) ≡ Some (value_read v)
+  pub alone : IsReadAs (json_text v) v
+  pub on_line : IsReadAs (json_text v ++ 10 ∷ []) v
+  pub one_line : All (λ c. 32 ≤ c) (json_text v)
 
 -- arrays and objects may nest as deep as the grammar allows, 128 levels
 abbrev pub NestsWithin : Json → Type 0
@@ -122,3 +131,9 @@ NestsWithin v = depth (value_read v) ≤ read.max_depth
 
 abbrev pub ReadsBack : Type 0
 ReadsBack = (v : Json) → NestsWithin v → IsReadBack v
+
+-- ---- lines
+
+pub record AreLinesOf (characters : List ℕ) (values : List Json) : Type 0 where
+  pub are : characters ≡ flat_map (λ v. json_text v ++ 10 ∷ []) values
+  pub each : All IsReadBack values

@@ -1,12 +1,13 @@
 mod ChosenLemmas
 mod VisitLemmas
+mod VisitedSo
 mod CountedLemmas
 mod ReadLemmas
 mod Worked
 mod PieceLemmas
 mod ShowLemmas
 mod AroundLemmas
-mod ShownLemmas
+mod ContentLemmas
 mod NoticeLemmas
 mod TakenLemmas
 mod FoundLemmas

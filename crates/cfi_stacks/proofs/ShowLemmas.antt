@@ -1,5 +1,5 @@
 -- Stacks that are printed one after the other.
-use Rattle.std.proofs.Common.{◌≡◌, ◌∙◌, ℕ, Bool, true, false, not, List, [], ◌∷◌, ◌++◌, Option, Some, None, Result, Ok, Err, OnOk, IfErr, IfOk, ap, append_assoc, append-nil, inl, inr, map, refl, subst, sym, take}
+use Rattle.std.proofs.Common.{◌≡◌, ◌∙◌, ◌⊎◌, ℕ, not, List, [], ◌∷◌, ◌++◌, Option, Some, None, Result, Ok, Err, OnOk, IfErr, IfOk, ap, append_assoc, append-nil, inl, inr, refl, subst, sym, take}
 use Rattle.std.specs.Prelude.{⊤}
 use Rattle.std.specs.Io.KnownBytes.{Appends}
 use Rattle.std.specs.List.{FoldsTo}
@@ -12,18 +12,20 @@ use Rattle.cfi_text.specs.declared.reading.InputError.{InputError}
 use Rattle.cfi_text.specs.declared.reading.InputError.TheVariants.{OutOfMemory}
 use Rattle.cfi_text.specs.Lines.{Line}
 use Rattle.cfi_text.specs.WriterOutput.{IsBeginning, Prints, PrintsSome, Writes}
-use Rattle.cfi_text.proofs.WrittenLemmas.{appends_then, beginning_then, given_first, none_yet, writes_refused}
+use Rattle.cfi_text.proofs.WrittenLemmas.{appends_then, beginning_then, none_yet}
 use Rattle.cfi_text.proofs.PartsWritten.{first_refused, last_written}
 use Rattle.cfi_processes.specs.declared.registers.SampleMachine.{SampleMachine}
+use Rattle.cfi_mapped.specs.Wanted.{FilePlace}
 use Rattle.cfi_processes.specs.KnownFiles.{KnownFile}
 use Rattle.cfi_stacks.specs.declared.listing.StackStyle.{StackStyle}
-use Rattle.cfi_stacks.specs.declared.visitor.Stopped.{Stopped}
-use Rattle.cfi_stacks.specs.declared.visitor.Stopped.TheVariants.{Input, Visitor}
+use Rattle.cfi_stacks.specs.declared.visitor.VisitError.{VisitError}
+use Rattle.cfi_stacks.specs.declared.visitor.VisitError.TheVariants as stopped
 use Rattle.cfi_stacks.specs.Choices.{Choice}
-use Rattle.cfi_stacks.specs.ChosenStacks.{AreStackTexts}
-use Rattle.cfi_stacks.specs.ProfileOutputs.{ArePrinted, AreStacksPrinted, after_text, profile_ended}
-use Rattle.cfi_stacks.specs.SampleOutputs.{Begins, IsInFormat, IsSaidIn, Shows, Stack, sample_object}
-use Rattle.cfi_stacks.specs.Turns.{AreVisited}
+use Rattle.cfi_stacks.specs.ChosenStacks.{AreStackTexts, AreStacks}
+use Rattle.cfi_stacks.specs.ProfileOutputs.{AreStacksPrinted, Ends, IsInputRefused, IsOwed, after_text, profile_ended}
+use Rattle.cfi_stacks.specs.SampleOutputs.{Begins, IsInFormat, IsSaidIn, Shows, Stack}
+use Rattle.cfi_stacks.specs.Visits.{AreVisited, IsMachineUnknown, IsProfileRefused, IsProfileVisited, VisitsAll}
+use Rattle.cfi_stacks.proofs.ContentLemmas.{print_profile}
 use Rattle.cfi_frames.specs.Sequences.{AreOfAll}
 
 -- a text, and the error that ended the records behind it
@@ -77,54 +79,71 @@ module _ {V : Type 0} (last : V) (style_of : V → StackStyle) (bytes_of : V →
         also ∙ same,
       )
 
-  pub are_printed : {T E : Type 0} (machine : SampleMachine) (files : List KnownFile) (choice : Choice) (records : List Record) (style : StackStyle) (old : V) (r : Result T (Stopped E)) → style_of old ≡ style
-      → AreVisited Prints-each (Begins-each E) (not style.raw) machine files choice records old last r → ArePrinted style machine files choice records (bytes_of old) (bytes_of last) r
-  are_printed machine files choice records style old (Ok done) is (stacks, are, folds) =
-      let (text, texts, goes, same) = texts_of stacks old last folds in (text, (stacks, are, subst (λ (s : StackStyle). AreOfAll (IsInFormat s) stacks text) is texts), goes)
-  are_printed machine files choice records style old (Err (Input why)) is (n, stacks, are, folds) =
-      let (text, texts, goes, same) = texts_of stacks old last folds in (n, text, (stacks, are, subst (λ (s : StackStyle). AreOfAll (IsInFormat s) stacks text) is texts), goes)
-  are_printed machine files choice records style old (Err (Visitor why)) is (n, stacks, stack, mid, are, folds, (last_text, is_last, begun)) =
-      let (text, texts, goes, same) = texts_of stacks old mid folds in
-      let front = subst (λ (s : StackStyle). AreOfAll (IsInFormat s) stacks text) is texts in
-      let back = subst (λ (s : StackStyle). IsInFormat s stack last_text) (same ∙ is) is_last in (
-        n,
-        text ++ last_text,
-        (stacks ++ stack ∷ [], are, are_then (IsInFormat style) stacks (stack ∷ []) text last_text front (alone (IsInFormat style) stack last_text back)),
-        beginning_then (bytes_of old) (bytes_of mid) (bytes_of last) last_text [] (text ++ last_text) (record { front = text; given = goes; whole = ap (λ (l : List ℕ). text ++ l) (append-nil last_text) }) begun,
-      )
+  -- ---- and what comes after them
 
--- ---- and what comes after them
+  module _ {E F Handle : Type 0} (style : StackStyle) (choice : Choice) (may_open : FilePlace → Option Handle → Type 0) (remaining : Handle → Option (List ℕ)) (old : V) (is : style_of old ≡ style) (visited : Result ⊤ (VisitError E)) (new : Option (List ℕ)) (r : Result ℕ F) where
+    abbrev IsEnd : Result ⊤ (VisitError E) → Option (List ℕ) → Type 0
+    IsEnd result before = Ends style.format result before new r
 
-module _ (style : StackStyle) (machine : SampleMachine) (files : List KnownFile) (choice : Choice) (records : List Record) (old mid new : Option (List ℕ)) (error : Option PerfError) where
-  abbrev Printed : {E : Type 0} → Result ℕ E → Type 0
-  Printed r = PrintsSome (λ line. AreStacksPrinted style machine files choice records error line) old new r
+    -- where nothing was visited
+    as_before : (why : VisitError E) → visited ≡ Err why → last ≡ old → IsEnd visited (bytes_of last) → IsEnd (Err why) (bytes_of old)
+    as_before why same none ends = subst (λ (v : V). IsEnd (Err why) (bytes_of v)) none (subst (λ (result : Result ⊤ (VisitError E)). IsEnd result (bytes_of last)) same ends)
 
-  abbrev Each : Result ⊤ (Stopped ⊤) → Type 0
-  Each result = ArePrinted style machine files choice records old mid result
+    module _ (machine : SampleMachine) (files : List KnownFile) (records : List Record) where
+      abbrev Are : List Stack → List Record → Type 0
+      Are stacks records = AreStacks (not style.raw) machine files choice records stacks
 
-  pub ended : {F : Type 0} (r : Result ℕ F) → Each (Ok tt) → Prints (profile_ended style.format [] error) mid new r → Printed r
-  ended r (text, are, goes) (written, status) = (
-    record { text = text ++ (profile_ended style.format [] error).text; status = (profile_ended style.format [] error).status },
-    (last_written old mid new r text (profile_ended style.format [] error).text goes written, status),
-    inl (text, are, behind style.format text error),
-  )
+      abbrev Printed : Option PerfError → Type 0
+      Printed error = PrintsSome (λ line. AreStacksPrinted style choice machine files records error line ⊎ IsInputRefused style.format line) (bytes_of old) new r
 
-  pub refused : {F : Type 0} (why : InputError) (r : Result ℕ F) → Each (Err (Input why)) → Prints (input_refusal style.format why) mid new r → Printed r
-  refused why r (n, text, are, goes) (written, status) = (
-    after_text text (input_refusal style.format why),
-    (last_written old mid new r text (input_refusal style.format why).text goes written, status),
-    inr (n, text, are, why, refl),
-  )
+      texts : (stacks : List Stack) (some : List Record) (mid : V) → Are stacks some → FoldsTo Prints-each old stacks mid
+          → (text : List ℕ) × AreStackTexts style machine files choice some text × Appends (bytes_of old) (bytes_of mid) text
+      texts stacks some mid are folds =
+          let (text, are_texts, goes, same) = texts_of stacks old mid folds in (text, (stacks, are, subst (λ (s : StackStyle). AreOfAll (IsInFormat s) stacks text) is are_texts), goes)
 
--- a stack was begun
-module _ (style : StackStyle) (machine : SampleMachine) (files : List KnownFile) (choice : Choice) (records : List Record) (old new : Option (List ℕ)) (error : Option PerfError) where
-  abbrev Begun : Result ⊤ (Stopped ⊤) → Type 0
-  Begun result = ArePrinted style machine files choice records old new result
+      ended : (error own : Option PerfError) (stacks : List Stack) → own ≡ error → Are stacks records → FoldsTo Prints-each old stacks last → Prints (profile_ended style.format [] error) (bytes_of last) new r → Printed own
+      ended error own stacks same are folds (written, status) =
+          let (text, are_texts, goes) = texts stacks records last are folds in
+          subst Printed (sym same) (
+            record { text = text ++ (profile_ended style.format [] error).text; status = (profile_ended style.format [] error).status },
+            (last_written (bytes_of old) (bytes_of last) new r text (profile_ended style.format [] error).text goes written, status),
+            inl (inl (text, are_texts, behind style.format text error)),
+          )
 
-  pub broken : {F : Type 0} (r : Result ℕ F) → IsErr r → Begun (Err (Visitor tt)) → PrintsSome (λ line. AreStacksPrinted style machine files choice records error line) old new r
-  broken r err (n, text, are, begun) =
-      let refusal : Line = input_refusal style.format OutOfMemory in (
-        after_text text refusal,
-        (first_refused old new r text refusal.text err begun, no_status_is r refusal.status err),
-        inr (n, text, are, OutOfMemory, refl),
-      )
+      refused : (error : Option PerfError) (why : InputError) (n : ℕ) (stacks : List Stack) → Are stacks (take n records) → FoldsTo Prints-each old stacks last → Prints (input_refusal style.format why) (bytes_of last) new r → Printed error
+      refused error why n stacks are folds (written, status) =
+          let (text, are_texts, goes) = texts stacks (take n records) last are folds in (
+            after_text text (input_refusal style.format why),
+            (last_written (bytes_of old) (bytes_of last) new r text (input_refusal style.format why).text goes written, status),
+            inl (inr (n, text, are_texts, why, refl)),
+          )
+
+      -- a stack was begun
+      broken : (error : Option PerfError) (n : ℕ) (stacks : List Stack) (stack : Stack) (mid : V) → Are (stacks ++ stack ∷ []) (take n records) → FoldsTo Prints-each old stacks mid → Begins (style_of mid) (bytes_of mid) stack (bytes_of last)
+          → new ≡ bytes_of last → IsErr r → Printed error
+      broken error n stacks stack mid are folds (last_text, is_last, begun) same err =
+          let (text, are_texts, goes, also) = texts_of stacks old mid folds in
+          let front = subst (λ (s : StackStyle). AreOfAll (IsInFormat s) stacks text) is are_texts in
+          let back = subst (λ (s : StackStyle). IsInFormat s stack last_text) (also ∙ is) is_last in
+          let both = beginning_then (bytes_of old) (bytes_of mid) (bytes_of last) last_text [] (text ++ last_text) (record { front = text; given = goes; whole = ap (λ (l : List ℕ). text ++ l) (append-nil last_text) }) begun in
+          let refusal : Line = input_refusal style.format OutOfMemory in (
+            after_text (text ++ last_text) refusal,
+            (subst (λ (o : Option (List ℕ)). Writes (bytes_of old) o r ((text ++ last_text) ++ refusal.text)) (sym same) (first_refused (bytes_of old) (bytes_of last) r (text ++ last_text) refusal.text err both), no_status_is r refusal.status err),
+            inl (inr (n, text ++ last_text, (stacks ++ stack ∷ [], are, are_then (IsInFormat style) stacks (stack ∷ []) text last_text front (alone (IsInFormat style) stack last_text back)), OutOfMemory, refl)),
+          )
+
+      each : (error : Option PerfError) (result : Result ⊤ (VisitError E)) → AreVisited Prints-each (Begins-each E) (not style.raw) machine files choice records error old last result → IsEnd result (bytes_of last) → Printed error
+      each error (Ok done) (none, stacks, are, folds) ends = ended None error stacks none are folds ends
+      each error (Err (stopped.Records e)) (same, stacks, are, folds) ends = ended (Some e) error stacks same are folds ends
+      each error (Err (stopped.Input why)) (n, stacks, are, folds) ends = refused error why n stacks are folds ends
+      each error (Err (stopped.Visitor why)) (n, stacks, stack, mid, are, folds, begun) (same, err) = broken error n stacks stack mid are folds begun same err
+      each error (Err (stopped.Profile e)) visits ends = absurd visits
+      each error (Err stopped.UnknownMachine) visits ends = absurd visits
+
+    pub stacks_printed : (bytes : List ℕ) → IsEnd visited (bytes_of last) → IsProfileVisited Prints-each (Begins-each E) (not style.raw) choice may_open remaining old last visited bytes
+        → PrintsSome (IsOwed style.format (not style.raw) may_open remaining (AreStacksPrinted style choice) bytes) (bytes_of old) new r
+    stacks_printed bytes ends (inl holds) =
+        print_profile (not style.raw) may_open remaining (VisitsAll Prints-each (Begins-each E) (not style.raw) choice may_open remaining old last visited) (IsProfileRefused old last visited) (IsMachineUnknown old last visited)
+        style.format (AreStacksPrinted style choice) (bytes_of old) new r (λ machine files sorted error visits. each machine files sorted error visited visits ends)
+        (λ e none. as_before (stopped.Profile e) none.0 none.1 ends) (λ none. as_before stopped.UnknownMachine none.0 none.1 ends) bytes holds
+    stacks_printed bytes ends (inr (why, same, none)) = (input_refusal style.format why, as_before (stopped.Input why) same none ends, inr (why, refl))

@@ -9,6 +9,8 @@ pub mod SampleOutputs
 pub mod KnownSamples
 pub mod TakenSamples
 pub mod ChosenStacks
-pub mod ProfileOutputs
+pub mod ProfileContents
 pub mod Turns
+pub mod Visits
+pub mod ProfileOutputs
 pub mod SampleWalks

@@ -1,8 +1,8 @@
 -- What is said of a profile beside its output.
 --     AreNoticesSaid Said records      that the samples have no copies of stacks, and what was lost
---     IsProfileSaid Said known result      after the status 0 it was, of the records of the file,
---         where its bytes are known
-use Rattle.std.specs.Prelude.{◌≡◌, ℕ, ◌+◌, ◌==◌, true, false, ◌&&◌, List, Option, Result}
+--     IsProfileSaid Said known      it was said of the records of the file, where its bytes are
+--         known
+use Rattle.std.specs.Prelude.{◌≡◌, ℕ, ◌+◌, ◌==◌, true, false, ◌&&◌, List, Option}
 use Rattle.std.specs.Prelude.{IfOk, IfSome, slice_range}
 use Rattle.cfi_perf.specs.declared.windows.RecordWalk.{RecordWalk}
 use Rattle.cfi_perf.specs.Events.{Record}
@@ -19,31 +19,21 @@ pub record AreNoticesSaid (Said : Notice → Type 0) (records : List Record) : T
       ((lost_in records).records == 0 && (lost_in records).samples == 0) ≡ false →
       Said (lost (lost_in records).records (lost_in records).samples)
 
--- where the result is the status 0
-abbrev pub IfAllPrinted : {E : Type 0} → Result ℕ E → Type 0 → Type 0
-IfAllPrinted result P = IfOk result (λ status. status ≡ 0 → P)
-
 -- of the records of a walk that is at the first one
-abbrev pub IsWalkSaid :
-    {E : Type 0} → (Notice → Type 0) → Option (List ℕ) → RecordWalk → Result ℕ E → Type 0
-IsWalkSaid Said known walk result =
-    IfAllPrinted result
-    (IfSome known
-    (λ file. AreNoticesSaid Said (records_in walk (records_bytes walk file)).records))
+abbrev pub IsWalkSaid : (Notice → Type 0) → Option (List ℕ) → RecordWalk → Type 0
+IsWalkSaid Said known walk =
+    IfSome known
+    (λ file. AreNoticesSaid Said (records_in walk (records_bytes walk file)).records)
 
 -- of those that follow what a profile says before them
-abbrev pub IsHeadSaid :
-    {E : Type 0} → (Notice → Type 0) → Option (List ℕ) → ProfileHead → Result ℕ E → Type 0
-IsHeadSaid Said known head result =
-    IfAllPrinted result
-    (IfSome known
+abbrev pub IsHeadSaid : (Notice → Type 0) → Option (List ℕ) → ProfileHead → Type 0
+IsHeadSaid Said known head =
+    IfSome known
     (λ file.
     AreNoticesSaid Said
-    (records_by head (slice_range file head.place (head.place + head.size))).records))
+    (records_by head (slice_range file head.place (head.place + head.size))).records)
 
-abbrev pub IsProfileSaid :
-    {E : Type 0} → (Notice → Type 0) → Option (List ℕ) → Result ℕ E → Type 0
-IsProfileSaid Said known result =
-    IfAllPrinted result
-    (IfSome known
-    (λ file. IfOk (profile file) (λ p. AreNoticesSaid Said (profile_records p).records)))
+abbrev pub IsProfileSaid : (Notice → Type 0) → Option (List ℕ) → Type 0
+IsProfileSaid Said known =
+    IfSome known
+    (λ file. IfOk (profile file) (λ p. AreNoticesSaid Said (profile_records p).records))

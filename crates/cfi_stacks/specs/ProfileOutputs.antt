@@ -1,53 +1,45 @@
 -- Which output is right for a profile.
---     AreStacksPrinted .. records error line      the stacks of the samples that are chosen, and
---         then the error that ended the records; or a beginning of them, and that memory was
---         refused, or that the input can't be read
---     IsFolded .. records error line      their folded stacks, and then that error; or that memory
---         was refused, that the input can't be read, or that a stack has too many
---     IsListingPrinted listing choice .. records error line      either of these
---     IsProfileOutput listing choice may_open remaining bytes line      the output of a profile of
---         these bytes, whose files may be opened so
+--     AreStacksPrinted style choice .. records error line      the stacks of the samples that are
+--         chosen, and then the error that ended the records; or a beginning of them, and that
+--         memory was refused, or that the input can't be read
+--     IsFolded by_period choice .. records error line      their folded stacks, and then that
+--         error; or that a stack has too many
+--     Ends format visited old new result, EndsFolded ..      what is printed after them
+--     IsOwed format .. Printed bytes line      the output of a profile of these bytes, of whose
+--         records this is printed; or that memory was refused, or that the input can't be read
+--     IsListingOwed listing choice may_open remaining bytes line      that of a listing
 use Rattle.std.specs.Prelude.{◌≡◌, ◌⊎◌, ◌<◌, ◌^◌, ℕ, Bool, true, List, [], ◌∷◌, ◌++◌, Option}
 use Rattle.std.specs.Prelude.{Some, None}
 use Rattle.std.specs.Prelude.{Result, Ok, Err, codes, not, take, unwrap_or}
-use Rattle.std.specs.Io.KnownBytes.{Appends}
 use Rattle.std.specs.List.{flat_map}
+use Rattle.std.specs.Result.{IsErr}
 use Rattle.cfi_perf.specs.declared.error.PerfError.{PerfError}
 use Rattle.cfi_perf.specs.Events.{Record}
-use Rattle.cfi_perf.specs.Indexes.{IsInTimeOrder}
-use Rattle.cfi_perf.specs.Profiles.{Profile, architecture, profile, profile_records}
-use Rattle.cfi_perf.specs.Records.{Records}
 use Rattle.cfi_text.specs.InputRefusals.{input_refusal}
 use Rattle.cfi_text.specs.declared.reading.InputError.{InputError}
 use Rattle.cfi_text.specs.declared.reading.InputError.TheVariants.{OutOfMemory}
 use Rattle.cfi_text.specs.declared.style.Format.{Format}
 use Rattle.cfi_text.specs.declared.style.Format.TheVariants as formats
 use Rattle.cfi_text.specs.Lines.{Line, line}
-use Rattle.cfi_text.specs.WriterOutput.{IsBeginning}
+use Rattle.cfi_text.specs.WriterOutput.{Prints, PrintsSome}
 use Rattle.cfi_text.specs.Refusals.{reason_line as why_line}
 use Rattle.cfi_processes.specs.declared.registers.SampleMachine.{SampleMachine}
 use Rattle.cfi_processes.specs.KnownFiles.{KnownFile}
-use Rattle.cfi_mapped.specs.OpenedFiles.{Opened}
-use Rattle.cfi_processes.specs.ProfileFiles.{AreProfileFilesOf}
-use Rattle.cfi_mapped.specs.FileReads.{AreOpened}
-use Rattle.cfi_processes.specs.Registers.{machine_named}
-use Rattle.cfi_mapped.specs.WantedFiles.{wanted_of}
-use Rattle.cfi_mapped.specs.Wanted.{FilePlace, Wanted}
+use Rattle.cfi_mapped.specs.Wanted.{FilePlace}
 use Rattle.cfi_flame.specs.FoldedCounts.{AreCounted, counted, line_text}
 use Rattle.cfi_flame.specs.FoldedStacks.{Stack}
 use Rattle.cfi_flame.specs.declared.folded.FoldedError.{FoldedError}
 use Rattle.cfi_flame.specs.declared.folded.FoldedError.TheVariants.{TooManySamples}
+use Rattle.cfi_stacks.specs.ProfileContents.{HoldsOfProfile}
 use Rattle.cfi_stacks.specs.ProfileErrors.{perf_refusal}
-use Rattle.cfi_stacks.specs.declared.folding.Unfolded.{Unfolded}
-use Rattle.cfi_stacks.specs.declared.folding.Unfolded.TheVariants.{Input, TooMany}
 use Rattle.cfi_stacks.specs.declared.listing.Listing.{Listing}
 use Rattle.cfi_stacks.specs.declared.listing.Listing.TheVariants.{Folded, Frames, Json}
 use Rattle.cfi_stacks.specs.declared.listing.StackStyle.{StackStyle}
 use Rattle.cfi_stacks.specs.Choices.{Choice}
 use Rattle.cfi_stacks.specs.ChosenStacks.{AreSamples, AreStackTexts, folded_sample}
 use Rattle.cfi_stacks.specs.SampleOutputs.{Stack as SampleStack}
-use Rattle.cfi_stacks.specs.declared.visitor.Stopped.{Stopped}
-use Rattle.cfi_stacks.specs.declared.visitor.Stopped.TheVariants as stopped
+use Rattle.cfi_stacks.specs.declared.visitor.VisitError.{VisitError}
+use Rattle.cfi_stacks.specs.declared.visitor.VisitError.TheVariants as stopped
 
 -- ---- all samples
 
@@ -65,20 +57,7 @@ profile_ended format text None = record { text = text; status = 0 }
 profile_ended format text (Some error) =
     record { text = text ++ (perf_refusal format error).text; status = 1 }
 
--- those of the chosen samples, or of those of the first records, or a beginning of these
-abbrev pub ArePrinted :
-    {T E : Type 0} → StackStyle → SampleMachine → List KnownFile → Choice → List Record →
-    Option (List ℕ) → Option (List ℕ) → Result T (Stopped E) → Type 0
-ArePrinted style machine files choice records old new (Ok done) =
-    (text : List ℕ) × AreStackTexts style machine files choice records text × Appends old new text
-ArePrinted style machine files choice records old new (Err (stopped.Input why)) =
-    (n : ℕ) × (text : List ℕ) × AreStackTexts style machine files choice (take n records) text
-    × Appends old new text
-ArePrinted style machine files choice records old new (Err (stopped.Visitor why)) =
-    (n : ℕ) × (text : List ℕ) × AreStackTexts style machine files choice (take n records) text
-    × ((begun : List ℕ) × Appends old new begun × IsBeginning begun text)
-
-module _ (style : StackStyle) (machine : SampleMachine) (files : List KnownFile) (choice : Choice)
+module _ (style : StackStyle) (choice : Choice) (machine : SampleMachine) (files : List KnownFile)
   where
     abbrev pub AreStacksPrinted : List Record → Option PerfError → Line → Type 0
     AreStacksPrinted records error printed =
@@ -106,16 +85,15 @@ IsNotCounted by_period old stack TooManySamples =
     HasTooMany (all ++ folded_sample by_period stack ∷ [])
 IsNotCounted by_period old stack why = Unit {0}
 
-abbrev pub unfolded_of : Stopped FoldedError → Unfolded
-unfolded_of (stopped.Input why) = Input why
-unfolded_of (stopped.Visitor TooManySamples) = TooMany
-unfolded_of (stopped.Visitor why) = Input OutOfMemory
+abbrev pub too_many : Line
+too_many = line (codes "refused TooManySamples") 1
 
-abbrev pub folded_refusal : Unfolded → Line
-folded_refusal TooMany = line (codes "refused TooManySamples") 1
-folded_refusal (Input why) = input_refusal formats.Text why
+-- why a stack wasn't counted
+abbrev pub uncounted : FoldedError → Line
+uncounted TooManySamples = too_many
+uncounted why = input_refusal formats.Text OutOfMemory
 
-module _ (by_period : Bool) (machine : SampleMachine) (files : List KnownFile) (choice : Choice)
+module _ (by_period : Bool) (choice : Choice) (machine : SampleMachine) (files : List KnownFile)
   where
     -- each different stack, with how many samples have it
     abbrev pub AreFolded : List Record → List Stack → Type 0
@@ -123,95 +101,88 @@ module _ (by_period : Bool) (machine : SampleMachine) (files : List KnownFile) (
         (samples : List Stack) × AreSamples by_period machine files choice records samples
         × AreCounted samples folded
 
-    -- memory was refused, the input can't be read, or a stack has too many samples of the first
-    -- records
-    abbrev pub IsUnfolded : List Record → Unfolded → Type 0
-    IsUnfolded records (Input why) = Unit {0}
-    IsUnfolded records TooMany =
+    -- a stack has too many of those of the first records
+    abbrev pub HaveTooMany : List Record → Type 0
+    HaveTooMany records =
         (n : ℕ) × (samples : List Stack)
         × AreSamples by_period machine files choice (take n records) samples × HasTooMany samples
 
-    -- their lines, and then the error that ended the records; or why there are none
+    -- their lines, and then the error that ended the records
     abbrev pub IsFolded : List Record → Option PerfError → Line → Type 0
     IsFolded records error printed =
         ((folded : List Stack) × AreFolded records folded
         × (printed ≡ profile_ended formats.Text (flat_map line_text folded) error))
-        ⊎ ((why : Unfolded) × IsUnfolded records why × (printed ≡ folded_refusal why))
+        ⊎ (HaveTooMany records × (printed ≡ too_many))
 
--- ---- as they are listed
-
--- what says why there is no more is an object of JSON where the stacks are
-abbrev pub listing_format : Listing → Format
-listing_format (Json raw) = formats.Json
-listing_format _ = formats.Text
-
-abbrev pub IsListingPrinted :
-    Listing → Choice → SampleMachine → List KnownFile → List Record → Option PerfError → Line →
-    Type 0
-IsListingPrinted (Frames raw) choice machine files records error printed =
-    AreStacksPrinted (record { raw = raw; format = formats.Text }) machine files choice records
-    error printed
-IsListingPrinted (Json raw) choice machine files records error printed =
-    AreStacksPrinted (record { raw = raw; format = formats.Json }) machine files choice records
-    error printed
-IsListingPrinted (Folded by_period) choice machine files records error printed =
-    IsFolded by_period machine files choice records error printed
-
--- ---- a profile
+-- ---- what is printed after what was visited
 
 abbrev pub unknown_machine : Format → Line
 unknown_machine format = why_line format (codes "unknown machine") 1
 
--- whether functions are printed
-abbrev pub names_functions : Listing → Bool
-names_functions (Frames raw) = not raw
-names_functions (Json raw) = not raw
-names_functions (Folded by_period) = true
+-- behind stacks that were printed
+abbrev pub EndsBy :
+    {E F : Type 0} → Format → VisitError E → Option (List ℕ) → Option (List ℕ) → Result ℕ F →
+    Type 0
+EndsBy format (stopped.Records e) old new result =
+    Prints (profile_ended format [] (Some e)) old new result
+EndsBy format (stopped.Profile e) old new result = Prints (perf_refusal format e) old new result
+EndsBy format stopped.UnknownMachine old new result = Prints (unknown_machine format) old new result
+EndsBy format (stopped.Input why) old new result = Prints (input_refusal format why) old new result
+EndsBy format (stopped.Visitor why) old new result = (new ≡ old) × IsErr result
 
--- by files that were opened
-abbrev pub IsProfileOfOpened :
-    Listing → Choice → SampleMachine → List Opened → List Record → Option PerfError → Line → Type 0
-IsProfileOfOpened listing choice machine opened sorted error printed =
-    (files : List KnownFile) × AreProfileFilesOf (names_functions listing) opened files
-    × IsListingPrinted listing choice machine files sorted error printed
+abbrev pub Ends :
+    {T E F : Type 0} → Format → Result T (VisitError E) → Option (List ℕ) → Option (List ℕ) →
+    Result ℕ F → Type 0
+Ends format (Ok done) old new result = Prints (profile_ended format [] None) old new result
+Ends format (Err why) old new result = EndsBy format why old new result
 
-module _ (listing : Listing) (choice : Choice) {Handle : Type 0}
-    (may_open : FilePlace → Option Handle → Type 0) (remaining : Handle → Option (List ℕ)) where
-  -- by these files
-  abbrev pub IsProfileOfWanted :
-      SampleMachine → List Wanted → List Record → Option PerfError → Line → Type 0
-  IsProfileOfWanted machine wanted sorted error printed =
-      (opened : List Opened) × AreOpened may_open remaining wanted opened
-      × IsProfileOfOpened listing choice machine opened sorted error printed
+-- folded stacks, or memory was refused for their lines
+abbrev pub IsEndFolded : List Stack → Option PerfError → Line → Type 0
+IsEndFolded folded error printed =
+    (printed ≡ profile_ended formats.Text (flat_map line_text folded) error)
+    ⊎ (printed ≡ input_refusal formats.Text OutOfMemory)
 
-  abbrev pub IsProfileOfSorted : SampleMachine → List Record → Option PerfError → Line → Type 0
-  IsProfileOfSorted machine sorted error printed =
-      IsProfileOfWanted machine (wanted_of sorted) sorted error printed
+abbrev pub EndsFoldedBy :
+    {F : Type 0} → List Stack → VisitError FoldedError → Option (List ℕ) → Option (List ℕ) →
+    Result ℕ F → Type 0
+EndsFoldedBy folded (stopped.Records e) old new result =
+    PrintsSome (IsEndFolded folded (Some e)) old new result
+EndsFoldedBy folded (stopped.Profile e) old new result =
+    Prints (perf_refusal formats.Text e) old new result
+EndsFoldedBy folded stopped.UnknownMachine old new result =
+    Prints (unknown_machine formats.Text) old new result
+EndsFoldedBy folded (stopped.Input why) old new result =
+    Prints (input_refusal formats.Text why) old new result
+EndsFoldedBy folded (stopped.Visitor why) old new result = Prints (uncounted why) old new result
 
-  -- or memory was refused before the first stack, or the input can't be read
-  abbrev pub IsOfRecords : SampleMachine → Records → Line → Type 0
-  IsOfRecords machine found printed =
-      ((sorted : List Record) × IsInTimeOrder found.records sorted
-      × IsProfileOfSorted machine sorted found.error printed)
-      ⊎ IsInputRefused (listing_format listing) printed
+abbrev pub EndsFolded :
+    {T F : Type 0} → List Stack → Result T (VisitError FoldedError) → Option (List ℕ) →
+    Option (List ℕ) → Result ℕ F → Type 0
+EndsFolded folded (Ok done) old new result = PrintsSome (IsEndFolded folded None) old new result
+EndsFolded folded (Err why) old new result = EndsFoldedBy folded why old new result
 
-  abbrev pub IsOfMachine : Option SampleMachine → Records → Line → Type 0
-  IsOfMachine None found printed = printed ≡ unknown_machine (listing_format listing)
-  IsOfMachine (Some machine) found printed = IsOfRecords machine found printed
+-- ---- a profile
 
-  abbrev pub IsOfArchitecture : Result (Option (List ℕ)) PerfError → Records → Line → Type 0
-  IsOfArchitecture (Err e) found printed = printed ≡ perf_refusal (listing_format listing) e
-  IsOfArchitecture (Ok None) found printed = printed ≡ unknown_machine (listing_format listing)
-  IsOfArchitecture (Ok (Some name)) found printed = IsOfMachine (machine_named name) found printed
+module _ (format : Format) (with_functions : Bool) {Handle : Type 0}
+    (may_open : FilePlace → Option Handle → Type 0) (remaining : Handle → Option (List ℕ))
+    (Printed : SampleMachine → List KnownFile → List Record → Option PerfError → Line → Type 0)
+  where
+    abbrev pub IsOwed : List ℕ → Line → Type 0
+    IsOwed bytes printed =
+        HoldsOfProfile with_functions may_open remaining
+        (λ machine files sorted error. Printed machine files sorted error printed)
+        (λ e. printed ≡ perf_refusal format e) (printed ≡ unknown_machine format) bytes
+        ⊎ IsInputRefused format printed
 
-  abbrev pub IsOfProfile : Result Profile PerfError → Line → Type 0
-  IsOfProfile (Err e) printed = printed ≡ perf_refusal (listing_format listing) e
-  IsOfProfile (Ok p) printed = IsOfArchitecture (architecture p) (profile_records p) printed
-
-  abbrev pub IsProfileOutput : List ℕ → Line → Type 0
-  IsProfileOutput bytes printed = IsOfProfile (profile bytes) printed
-
-  -- or there was no memory, or the input can't be read
-  abbrev pub IsListingOwed : List ℕ → Line → Type 0
-  IsListingOwed bytes printed =
-      IsProfileOutput bytes printed ⊎ IsInputRefused (listing_format listing) printed
+-- what says why there is no more is an object of JSON where the stacks are
+abbrev pub IsListingOwed :
+    Listing → Choice → {Handle : Type 0} → (FilePlace → Option Handle → Type 0) →
+    (Handle → Option (List ℕ)) → List ℕ → Line → Type 0
+IsListingOwed (Frames raw) choice may_open remaining bytes printed =
+    IsOwed formats.Text (not raw) may_open remaining
+    (AreStacksPrinted (record { raw = raw; format = formats.Text }) choice) bytes printed
+IsListingOwed (Json raw) choice may_open remaining bytes printed =
+    IsOwed formats.Json (not raw) may_open remaining
+    (AreStacksPrinted (record { raw = raw; format = formats.Json }) choice) bytes printed
+IsListingOwed (Folded by_period) choice may_open remaining bytes printed =
+    IsOwed formats.Text true may_open remaining (IsFolded by_period choice) bytes printed

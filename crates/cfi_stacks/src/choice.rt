@@ -45,8 +45,23 @@ impl Choice<'_> {
     ghost use Rattle.std.specs.Prelude.{◌≡◌};
     ghost use Rattle.cfi_perf.specs.Samples.{sample_view};
     ghost use Rattle.cfi_mapped.specs.ThreadNames.{name_bytes};
-    ghost use Rattle.cfi_stacks.specs.Choices.{choice_view, chooses, is_in_time};
+    ghost use Rattle.cfi_stacks.specs.Choices.{choice_view, chooses, everything, is_in_time};
     ghost use Rattle.cfi_stacks.specs.Choices.{is_of_thread};
+
+    /// All samples.
+    pub fn everything() -> Self
+        ensures { choice_view result ≡ everything }
+    {
+        Choice {
+            comm: None,
+            pid: None,
+            tid: None,
+            from: None,
+            until: None,
+            event: None,
+            limit: None,
+        }
+    }
 
     /// Returns whether a sample is one of those that are chosen, whatever the limit is. Its thread
     /// has this name, if one is known; the time is in nanoseconds. Does not allocate.

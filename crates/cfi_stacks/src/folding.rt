@@ -1,105 +1,65 @@
 //! The folded stacks of a profile's samples.
-ghost use Rattle.std.specs.Prelude.{◌≡◌, ◌⊎◌, IfErr, IfOk, OnOk, map};
-ghost use Rattle.std.specs.List.{flat_map};
-ghost use Rattle.cfi_flame.specs.FoldedCounts.{counted_in, line_text};
+ghost use Rattle.std.specs.Prelude.{◌≡◌, ℕ, IfErr, IfOk, List, OnOk, true};
+ghost use Rattle.cfi_flame.specs.FoldedCounts.{counted_in};
 ghost use Rattle.cfi_perf.specs.Samples.{sample_view};
-ghost use Rattle.cfi_text.specs.Refusals.{out_of_memory};
+ghost use Rattle.cfi_text.specs.Readings.{AreLeft};
 ghost use Rattle.cfi_text.specs.WriterOutput.{Prints, PrintsSome};
-ghost use Rattle.cfi_processes.specs.KnownFiles.{known_view};
 ghost use Rattle.cfi_stacks.specs.Choices.{choice_view};
 ghost use Rattle.cfi_stacks.specs.ChosenStacks.{sample_weight};
-ghost use Rattle.cfi_stacks.specs.ProfileIndexes.{HoldsOf, IsIndex};
-ghost use Rattle.cfi_stacks.specs.ProfileOutputs.{AreFolded, Counts, IsFolded, IsNotCounted};
-ghost use Rattle.cfi_stacks.specs.ProfileOutputs.{IsUnfolded, folded_refusal, profile_ended};
-ghost use Rattle.cfi_stacks.specs.ProfileOutputs.{unfolded_of};
+ghost use Rattle.cfi_stacks.specs.ProfileNotices.{IsProfileSaid};
+ghost use Rattle.cfi_stacks.specs.ProfileOutputs.{Counts, EndsFolded, EndsFoldedBy, IsEndFolded};
+ghost use Rattle.cfi_stacks.specs.ProfileOutputs.{IsFolded, IsNotCounted, IsOwed, profile_ended};
+ghost use Rattle.cfi_stacks.specs.ProfileOutputs.{too_many, uncounted};
 ghost use Rattle.cfi_stacks.specs.SampleOutputs.{stack_view};
 
+use crate::choice::Choice;
 use crate::folded_text::folded_stack;
-use crate::profile_errors::write_end;
+use crate::profile_errors::{write_perf_refusal, write_unknown_machine};
 use crate::sample_stack::SampleStack;
-use crate::turns::ChosenSamples;
-use crate::visitor::{Stopped, Visitor};
-use crate::visits::visit_stacks;
+use crate::visitor::{VisitError, Visitor};
+use crate::visits::visit_profile;
 use cfi_flame::{FoldedError, StackCounts};
+use cfi_mapped::Opener;
 use cfi_object::input::FileInput;
 use cfi_perf::{PerfError, Sample};
-use cfi_processes::profile_files::ProfileFile;
 use cfi_text::input_refusals::write_input_refusal;
 use cfi_text::lines::write_text;
 use cfi_text::reading::InputError;
-use cfi_text::refusals::write_refusal;
 use cfi_text::style::Format;
 use cfi_text::text::Text;
-use gimli_cfi::Error;
 use std::alloc::Global;
 use std::io;
 use std::io::Write;
 
-/// Why the samples of a profile weren't counted.
-#[derive(Clone, Copy)]
-pub enum Unfolded {
-    /// The profile couldn't be read, or memory was refused.
-    Input(InputError),
-    /// A stack has too many samples.
-    TooMany,
-}
-
-/// Prints the folded stacks of the samples, by the files, and then the error that ended the
-/// records.
-pub(crate) fn print_folded<I: FileInput, W: Write>(
-    chosen: &ChosenSamples<'_, '_>,
+/// Prints the folded stacks of the samples of a profile that are chosen, and then the error that
+/// ended its records, if one did; or why there are none.
+pub(crate) fn print_folded<O: Opener, I: FileInput, W: Write>(
+    alloc: Global,
     by_period: bool,
-    files: &[ProfileFile<'_>],
+    choice: &Choice<'_>,
+    opener: &O,
     input: &mut I,
     output: &mut W,
 ) -> io::Result<u8>
-    requires { IsIndex (I.bytes input.old) chosen.now.index.now }
-    ensures { PrintsSome (λ line. HoldsOf (I.bytes input.old) chosen.now.index.now (λ sorted.
-        IsFolded by_period chosen.now.machine (map known_view files.now)
-        (choice_view chosen.now.choice.now) sorted chosen.now.index.now.error line))
+    ensures printed { (bytes : List ℕ) × AreLeft (I.bytes input.old) bytes
+        × PrintsSome (IsOwed Format.Text true (O.may_open opener.now)
+        O.File.remaining (IsFolded by_period (choice_view choice.now)) bytes)
         (W.contents output.old) (W.contents output.new) result }
+    ensures said { IfOk result (λ status. status ≡ 0
+        → IsProfileSaid (O.has_said opener.now) (I.bytes input.old)) }
 {
-    match fold_records(chosen, by_period, files, input) {
-        Ok(counts) => write_counts(chosen.alloc, &counts, chosen.index.error, output),
-        Err(error) => write_unfolded(output, error),
-    }
-}
-
-/// Counts the samples by their folded stacks.
-fn fold_records<I: FileInput>(
-    chosen: &ChosenSamples<'_, '_>,
-    by_period: bool,
-    files: &[ProfileFile<'_>],
-    input: &mut I,
-) -> Result<StackCounts, Unfolded>
-    requires { IsIndex (I.bytes input.old) chosen.now.index.now }
-    ensures folded { IfOk result (λ counts. HoldsOf (I.bytes input.old) chosen.now.index.now
-        (λ sorted. AreFolded by_period chosen.now.machine (map known_view files.now)
-        (choice_view chosen.now.choice.now) sorted (counted_in counts))) }
-    ensures refused { IfErr result (λ why. HoldsOf (I.bytes input.old) chosen.now.index.now
-        (λ sorted. IsUnfolded by_period chosen.now.machine (map known_view files.now)
-        (choice_view chosen.now.choice.now) sorted why)) }
-{
-    let mut folding = Folding {
-        alloc: chosen.alloc,
-        by_period,
-    };
-    let mut counts = StackCounts::new(chosen.alloc);
-    match visit_stacks(chosen, true, files, input, &mut folding, &mut counts) {
-        Ok(()) => Ok(counts),
-        Err(stopped) => Err(why_unfolded(stopped)),
-    }
-}
-
-/// Why the samples weren't counted, where not all were visited.
-fn why_unfolded(stopped: Stopped<FoldedError>) -> Unfolded
-    ensures { result ≡ unfolded_of stopped }
-{
-    match stopped {
-        Stopped::Input(error) => Unfolded::Input(error),
-        Stopped::Visitor(FoldedError::TooManySamples) => Unfolded::TooMany,
-        Stopped::Visitor(_) => Unfolded::Input(InputError::OutOfMemory),
-    }
+    let mut folding = Folding { alloc, by_period };
+    let mut counts = StackCounts::new(alloc);
+    let visited = visit_profile(
+        alloc,
+        true,
+        choice,
+        opener,
+        input,
+        &mut folding,
+        &mut counts,
+    );
+    write_folded_end(alloc, &counts, visited, output)
 }
 
 /// Counts samples by their folded stacks.
@@ -157,6 +117,43 @@ fn weight(by_period: bool, sample: &Sample<'_>) -> u64
     }
 }
 
+/// Prints the stacks that were counted, and then the error that ended the records; or why there are
+/// none. Returns the status.
+fn write_folded_end<W: Write>(
+    alloc: Global,
+    counts: &StackCounts,
+    visited: Result<(), VisitError<FoldedError>>,
+    output: &mut W,
+) -> io::Result<u8>
+    ensures { EndsFolded (counted_in counts.now) visited (W.contents output.old)
+        (W.contents output.new) result }
+{
+    match visited {
+        Ok(()) => write_counts(alloc, counts, None, output),
+        Err(error) => write_stopped(alloc, counts, error, output),
+    }
+}
+
+/// Prints the stacks that were counted and the error that ended the records, or why there are none.
+fn write_stopped<W: Write>(
+    alloc: Global,
+    counts: &StackCounts,
+    error: VisitError<FoldedError>,
+    output: &mut W,
+) -> io::Result<u8>
+    ensures { EndsFoldedBy (counted_in counts.now) error (W.contents output.old)
+        (W.contents output.new) result }
+{
+    let format = Format::Text;
+    match error {
+        VisitError::Records(error) => write_counts(alloc, counts, Some(error), output),
+        VisitError::Profile(error) => write_perf_refusal(output, format, error),
+        VisitError::UnknownMachine => write_unknown_machine(output, format),
+        VisitError::Input(error) => write_input_refusal(output, format, error),
+        VisitError::Visitor(error) => write_uncounted(output, error),
+    }
+}
+
 /// Prints the folded stacks, and then the error that ended the records, and returns the status.
 fn write_counts<W: Write>(
     alloc: Global,
@@ -164,15 +161,14 @@ fn write_counts<W: Write>(
     error: Option<PerfError>,
     output: &mut W,
 ) -> io::Result<u8>
-    ensures { PrintsSome (λ line.
-        (line ≡ profile_ended Format.Text (flat_map line_text (counted_in counts.now)) error)
-        ⊎ (line ≡ out_of_memory)) (W.contents output.old) (W.contents output.new) result }
+    ensures { PrintsSome (IsEndFolded (counted_in counts.now) error) (W.contents output.old)
+        (W.contents output.new) result }
 {
     let mut text = Text::new(alloc);
     counts.put_lines(&mut text);
     match text.into_bytes() {
         Ok(lines) => write_folded(lines.as_slice(), error, output),
-        Err(_) => write_refusal(output, Error::OutOfMemory),
+        Err(_) => write_input_refusal(output, Format::Text, InputError::OutOfMemory),
     }
 }
 
@@ -182,23 +178,26 @@ fn write_folded<W: Write>(text: &[u8], error: Option<PerfError>, output: &mut W)
         (W.contents output.old) (W.contents output.new) result }
 {
     write_text(output, text)?;
-    write_end(output, Format::Text, error)
+    match error {
+        None => Ok(0),
+        Some(error) => write_perf_refusal(output, Format::Text, error),
+    }
 }
 
-/// Prints why there are no folded stacks, and returns the status.
-fn write_unfolded<W: Write>(output: &mut W, error: Unfolded) -> io::Result<u8>
-    ensures { Prints (folded_refusal error) (W.contents output.old) (W.contents output.new) result }
+/// Prints why a stack wasn't counted, and returns the status: it has too many samples, or memory
+/// was refused.
+fn write_uncounted<W: Write>(output: &mut W, error: FoldedError) -> io::Result<u8>
+    ensures { Prints (uncounted error) (W.contents output.old) (W.contents output.new) result }
 {
     match error {
-        Unfolded::Input(error) => write_input_refusal(output, Format::Text, error),
-        Unfolded::TooMany => write_too_many(output),
+        FoldedError::TooManySamples => write_too_many(output),
+        _ => write_input_refusal(output, Format::Text, InputError::OutOfMemory),
     }
 }
 
 /// Prints that a stack has too many samples, and returns the status 1.
 fn write_too_many<W: Write>(output: &mut W) -> io::Result<u8>
-    ensures { Prints (folded_refusal Unfolded.TooMany)
-        (W.contents output.old) (W.contents output.new) result }
+    ensures { Prints too_many (W.contents output.old) (W.contents output.new) result }
 {
     write_text(output, b"refused TooManySamples\n")?;
     Ok(1)

@@ -21,29 +21,3 @@ pub struct StackStyle {
     /// A line for each frame, or an object of JSON in a line.
     pub format: Format,
 }
-
-impl Listing {
-    ghost use Rattle.std.specs.Prelude.{◌≡◌};
-    ghost use Rattle.cfi_stacks.specs.ProfileOutputs.{listing_format, names_functions};
-
-    /// The form of the line that says why there are no more stacks.
-    pub(crate) fn format(self) -> Format
-        ensures { result ≡ listing_format self }
-    {
-        match self {
-            Listing::Json(_) => Format::Json,
-            _ => Format::Text,
-        }
-    }
-
-    /// Whether functions are printed.
-    pub(crate) fn names_functions(self) -> bool
-        ensures { result ≡ names_functions self }
-    {
-        match self {
-            Listing::Frames(raw) => !raw,
-            Listing::Json(raw) => !raw,
-            Listing::Folded(_) => true,
-        }
-    }
-}

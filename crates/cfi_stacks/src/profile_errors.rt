@@ -1,11 +1,13 @@
 //! Lines that say why the stacks of a profile, or the rest of them, aren't printed.
-ghost use Rattle.std.specs.Prelude.{◌≡◌, ◌++◌, []};
+ghost use Rattle.std.specs.Prelude.{◌≡◌, ◌++◌};
 ghost use Rattle.cfi_text.specs.WriterOutput.{Prints, Writes};
 ghost use Rattle.cfi_stacks.specs.ProfileErrors.{perf_advice, perf_refusal, perf_words};
-ghost use Rattle.cfi_stacks.specs.ProfileOutputs.{profile_ended, unknown_machine};
+ghost use Rattle.cfi_stacks.specs.ProfileOutputs.{Ends, EndsBy, unknown_machine};
 
+use crate::visitor::VisitError;
 use cfi_perf::PerfError;
 use cfi_text::error_words::parting;
+use cfi_text::input_refusals::write_input_refusal;
 use cfi_text::lines::{write_part, write_text};
 use cfi_text::refusals::write_reason;
 use cfi_text::style::Format;
@@ -78,18 +80,35 @@ fn perf_advice(error: PerfError) -> &'static str
     }
 }
 
-/// Prints the error that ended the records, if there is one, and returns the status.
+/// Prints why there are no more stacks, if there is a reason, and returns the status. Fails with
+/// the error of the visitor.
 pub(crate) fn write_end<W: Write>(
     output: &mut W,
     format: Format,
-    error: Option<PerfError>,
+    visited: Result<(), VisitError<io::Error>>,
 ) -> io::Result<u8>
-    ensures { Prints (profile_ended format [] error)
-        (W.contents output.old) (W.contents output.new) result }
+    ensures { Ends format visited (W.contents output.old) (W.contents output.new) result }
+{
+    match visited {
+        Ok(()) => Ok(0),
+        Err(error) => write_stopped(output, format, error),
+    }
+}
+
+/// Prints why there are no more stacks, and returns the status.
+fn write_stopped<W: Write>(
+    output: &mut W,
+    format: Format,
+    error: VisitError<io::Error>,
+) -> io::Result<u8>
+    ensures { EndsBy format error (W.contents output.old) (W.contents output.new) result }
 {
     match error {
-        None => Ok(0),
-        Some(error) => write_perf_refusal(output, format, error),
+        VisitError::Records(error) => write_perf_refusal(output, format, error),
+        VisitError::Profile(error) => write_perf_refusal(output, format, error),
+        VisitError::UnknownMachine => write_unknown_machine(output, format),
+        VisitError::Input(error) => write_input_refusal(output, format, error),
+        VisitError::Visitor(error) => Err(error),
     }
 }
 

@@ -8,7 +8,7 @@ ghost use Rattle.cfi_perf.specs.Events.{Record as RecordOfProfile};
 ghost use Rattle.cfi_perf.specs.Events.{record_view};
 ghost use Rattle.cfi_perf.specs.Indexes.{AreIndexed, IsOfBytes, kept_bytes, kept_of, place_for};
 ghost use Rattle.cfi_perf.specs.Indexes.{places_of};
-ghost use Rattle.cfi_perf.specs.Recordings.{is_sample};
+ghost use Rattle.cfi_perf.specs.Samples.{sample_view};
 ghost use Rattle.cfi_perf.specs.Windows.{record_bytes_left, record_alone};
 ghost use Rattle.cfi_mapped.specs.WantedFiles.{mapped_code_file, wanted_of};
 ghost use Rattle.cfi_mapped.specs.Wanted.{wanted_view};
@@ -16,13 +16,16 @@ ghost use Rattle.cfi_stacks.specs.ProfileIndexes.{HasRecords, IsFoundOf, IsIndex
 ghost use Rattle.cfi_stacks.specs.ProfileIndexes.{IsNextIn, IsPieceOf, IsReadAt, IsRecordsPart};
 ghost use Rattle.cfi_stacks.specs.ProfileIndexes.{IsTallyOf, IsToldOf, IsWholeOf, IsWindowIn};
 ghost use Rattle.cfi_stacks.specs.ProfileIndexes.{Piece, kernel_after, record_of};
+ghost use Rattle.cfi_stacks.specs.Turns.{sample_record};
 
 use cfi_elf::bytes::part;
 use cfi_mapped::file_list::FileList;
 use cfi_mapped::wanted::WantedFile;
 use cfi_mapped::wanted_files::{code_file, has_kernel_frames};
 use cfi_object::input::FileInput;
-use cfi_perf::{Event, Lost, PerfError, PlaceKind, Record, RecordIndex, RecordPlace, RecordWalk};
+use cfi_perf::{
+    Event, Lost, PerfError, PlaceKind, Record, RecordIndex, RecordPlace, RecordWalk, Sample,
+};
 use cfi_text::reading::InputError;
 use std::alloc::{AllocError, Global};
 
@@ -289,37 +292,39 @@ impl<'p> ProfileIndex<'p> {
 
     /// The sample at a place, by its bytes; `None` where these are none, or one of another time or
     /// with other frames of the kernel, as after the file was changed.
-    pub(crate) fn sample_at<'b>(&self, place: &RecordPlace, bytes: &'b [u8]) -> Option<Record<'b>>
+    pub(crate) fn sample_at<'b>(&self, place: &RecordPlace, bytes: &'b [u8]) -> Option<Sample<'b>>
     where
         'p: 'b,
-        ensures sample { IfSome result (λ item. is_sample (record_view item).event ≡ true) }
-        ensures read { IfSome result (λ item. (known : Option (List ℕ))
+        ensures { IfSome result (λ sample. (known : Option (List ℕ))
             → IsRecordsPart known self.now.walk place.now.offset place.now.size bytes.now
             → place.now.kind ≡ PlaceKind.InFile
-            → IsReadAt known self.now place.now (record_view item)) }
+            → IsReadAt known self.now place.now
+            (sample_record place.now.time (sample_view sample))) }
     {
         let Ok(item) = self.walk.read_again(bytes) else {
             return None;
         };
-        if item.time == place.time && self.is_sample(place.offset, &item) {
-            Some(item)
-        } else {
-            None
+        match item.event {
+            Event::Sample(sample) => {
+                if item.time == place.time && self.is_kernel_fit(place.offset, &item) {
+                    Some(sample)
+                } else {
+                    None
+                }
+            }
+            _ => None,
         }
     }
 
-    /// Whether a record is a sample that may be at this place: the first with frames of the kernel
-    /// has some, and where there is none no sample has.
-    fn is_sample(&self, offset: u64, item: &Record<'_>) -> bool
-        ensures { result ≡ true → (is_sample (record_view item.now).event ≡ true)
-            × IsKernelFit self.now.kernel offset (record_view item.now).event }
+    /// Whether a sample may be at this place: the first with frames of the kernel has some, and
+    /// where there is none no sample has.
+    fn is_kernel_fit(&self, offset: u64, item: &Record<'_>) -> bool
+        ensures { result ≡ true
+            → IsKernelFit self.now.kernel offset (record_view item.now).event }
     {
-        match item.event {
-            Event::Sample(_) => match self.kernel {
-                None => !has_kernel_frames(item),
-                Some(first) => offset != first || has_kernel_frames(item),
-            },
-            _ => false,
+        match self.kernel {
+            None => !has_kernel_frames(item),
+            Some(first) => offset != first || has_kernel_frames(item),
         }
     }
 }

@@ -1,27 +1,27 @@
 //! The stacks of a profile's samples, printed one after the other.
-ghost use Rattle.std.specs.Prelude.{◌≡◌, IfErr, OnOk, map};
-ghost use Rattle.cfi_processes.specs.KnownFiles.{known_view};
+ghost use Rattle.std.specs.Prelude.{◌≡◌, ℕ, IfErr, IfOk, List, OnOk, not};
+ghost use Rattle.cfi_text.specs.Readings.{AreLeft};
 ghost use Rattle.cfi_text.specs.Texts.{Puts};
 ghost use Rattle.cfi_text.specs.WriterOutput.{PrintsSome};
 ghost use Rattle.cfi_stacks.specs.Choices.{choice_view};
-ghost use Rattle.cfi_stacks.specs.ProfileIndexes.{HoldsOf, IsIndex};
-ghost use Rattle.cfi_stacks.specs.ProfileOutputs.{ArePrinted, AreStacksPrinted};
+ghost use Rattle.cfi_stacks.specs.ProfileNotices.{IsProfileSaid};
+ghost use Rattle.cfi_stacks.specs.ProfileOutputs.{AreStacksPrinted, IsOwed};
 ghost use Rattle.cfi_stacks.specs.SampleOutputs.{Begins, IsSaidIn, Shows, sample_object};
 ghost use Rattle.cfi_stacks.specs.SampleOutputs.{stack_view};
 
+use crate::choice::Choice;
 use crate::listing::StackStyle;
 use crate::profile_errors::write_end;
 use crate::sample_object::put_sample_object;
 use crate::sample_stack::SampleStack;
 use crate::sample_text::put_sample_text;
-use crate::turns::ChosenSamples;
-use crate::visitor::{Stopped, Visitor};
-use crate::visits::visit_stacks;
+use crate::visitor::Visitor;
+use crate::visits::visit_profile;
+use cfi_mapped::Opener;
 use cfi_object::input::FileInput;
-use cfi_processes::profile_files::ProfileFile;
-use cfi_text::input_refusals::write_input_refusal;
 use cfi_text::style::Format;
 use cfi_text::text::Text;
+use std::alloc::Global;
 use std::io;
 use std::io::Write;
 
@@ -78,42 +78,33 @@ fn put_stack(text: &mut Text, style: StackStyle, stack: &SampleStack<'_, '_>)
     }
 }
 
-/// Prints the stacks of the samples, by the files, and then the error that ended the records.
-pub(crate) fn print_stacks<I: FileInput, W: Write>(
-    chosen: &ChosenSamples<'_, '_>,
+/// Prints the stacks of the samples of a profile that are chosen, and then why there are no more,
+/// if there is a reason.
+pub(crate) fn print_stacks<O: Opener, I: FileInput, W: Write>(
+    alloc: Global,
     style: StackStyle,
-    files: &[ProfileFile<'_>],
+    choice: &Choice<'_>,
+    opener: &O,
     input: &mut I,
     output: &mut W,
 ) -> io::Result<u8>
-    requires { IsIndex (I.bytes input.old) chosen.now.index.now }
-    ensures { PrintsSome (λ line. HoldsOf (I.bytes input.old) chosen.now.index.now (λ sorted.
-        AreStacksPrinted style chosen.now.machine (map known_view files.now)
-        (choice_view chosen.now.choice.now) sorted chosen.now.index.now.error line))
+    ensures printed { (bytes : List ℕ) × AreLeft (I.bytes input.old) bytes
+        × PrintsSome (IsOwed style.format (not style.raw) (O.may_open opener.now)
+        O.File.remaining (AreStacksPrinted style (choice_view choice.now)) bytes)
         (W.contents output.old) (W.contents output.new) result }
+    ensures said { IfOk result (λ status. status ≡ 0
+        → IsProfileSaid (O.has_said opener.now) (I.bytes input.old)) }
 {
-    match print_each(chosen, style, files, input, output) {
-        Ok(()) => write_end(output, style.format, chosen.index.error),
-        Err(Stopped::Input(error)) => write_input_refusal(output, style.format, error),
-        Err(Stopped::Visitor(error)) => Err(error),
-    }
-}
-
-/// Prints the stacks of the samples, by the files.
-fn print_each<I: FileInput, W: Write>(
-    chosen: &ChosenSamples<'_, '_>,
-    style: StackStyle,
-    files: &[ProfileFile<'_>],
-    input: &mut I,
-    output: &mut W,
-) -> Result<(), Stopped<io::Error>>
-    requires { IsIndex (I.bytes input.old) chosen.now.index.now }
-    ensures { HoldsOf (I.bytes input.old) chosen.now.index.now (λ sorted.
-        ArePrinted style chosen.now.machine (map known_view files.now)
-        (choice_view chosen.now.choice.now) sorted
-        (W.contents output.old) (W.contents output.new) result) }
-{
-    let text = Text::new(chosen.alloc);
+    let text = Text::new(alloc);
     let mut printer = Printer { style, text };
-    visit_stacks(chosen, !style.raw, files, input, &mut printer, output)
+    let visited = visit_profile(
+        alloc,
+        !style.raw,
+        choice,
+        opener,
+        input,
+        &mut printer,
+        output,
+    );
+    write_end(output, style.format, visited)
 }

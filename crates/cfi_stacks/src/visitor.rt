@@ -1,8 +1,10 @@
 //! What the stacks of a profile's samples are handed to.
-ghost use Rattle.std.specs.Prelude.{IfErr, OnOk};
+ghost use Rattle.std.specs.Prelude.{◌≡◌, IfErr, OnOk};
 ghost use Rattle.cfi_stacks.specs.SampleOutputs.{Stack, stack_view};
+ghost use Rattle.cfi_stacks.specs.Visits.{ended};
 
 use crate::sample_stack::SampleStack;
+use cfi_perf::PerfError;
 use cfi_text::reading::InputError;
 
 /// What the stacks of a profile's samples are handed to, one after the other. It adds each to a
@@ -25,11 +27,27 @@ pub trait Visitor<T> {
             (self.new, target.new)) };
 }
 
-/// Why the stacks of a profile's samples weren't all handed over.
+/// Why not all stacks of a profile were handed over, or not all records were read.
 #[derive(Drop)]
-pub enum Stopped<E> {
-    /// The profile couldn't be read, or memory was refused.
+pub enum VisitError<E> {
+    /// The input couldn't be read, or memory was refused. Stacks may have been handed over before.
     Input(InputError),
+    /// This is no profile, or what it has before and after its records can't be read.
+    Profile(PerfError),
+    /// The registers of the profile's machine aren't known.
+    UnknownMachine,
+    /// This record can't be read. The stacks of all records before it were handed over.
+    Records(PerfError),
     /// The visitor returned an error.
     Visitor(E),
+}
+
+/// What is returned after the last stack: the error that ended the records, if there is one.
+pub(crate) fn ended<E: Drop>(error: Option<PerfError>) -> Result<(), VisitError<E>>
+    ensures { result ≡ ended error }
+{
+    match error {
+        None => Ok(()),
+        Some(error) => Err(VisitError::Records(error)),
+    }
 }

@@ -1,274 +1,260 @@
-//! The walk of a profile's samples, which hands the stack of each to a visitor.
-ghost use Rattle.std.specs.Prelude.{◌≡◌, map, true};
-ghost use Rattle.cfi_perf.specs.Events.{record_view};
-ghost use Rattle.cfi_perf.specs.Recordings.{is_sample};
-ghost use Rattle.cfi_processes.specs.FileModules.{AreModulesOfFiles};
-ghost use Rattle.cfi_processes.specs.KnownFiles.{known_view};
-ghost use Rattle.cfi_processes.specs.ProcessModules.{modules_in};
-ghost use Rattle.cfi_mapped.specs.Mappings.{AreMappedInOrder};
-ghost use Rattle.cfi_processes.specs.Modules.{loaded_module_view};
-ghost use Rattle.cfi_processes.specs.Replays.{AreModulesFor, HasOwnModules, replay_known};
-ghost use Rattle.cfi_processes.specs.Replays.{replay_files};
-ghost use Rattle.cfi_processes.specs.Rooms.{HasRoom};
-ghost use Rattle.cfi_processes.specs.Rooms.{IsRoomFor, KeepsNoRows};
+//! What a profile is visited by: what stands around its records, their index, and the files of its
+//! code.
+ghost use Rattle.std.specs.Prelude.{◌⊎◌, ℕ, IfOk, List, Some};
+ghost use Rattle.cfi_text.specs.Readings.{AreLeft};
+ghost use Rattle.cfi_perf.specs.ProfileHeads.{head_view};
+ghost use Rattle.cfi_perf.specs.Profiles.{records_by};
+ghost use Rattle.cfi_perf.specs.Windows.{records_in};
 ghost use Rattle.cfi_stacks.specs.Choices.{choice_view};
-ghost use Rattle.cfi_stacks.specs.Turns.{AreVisited, IsVisited, VisitsEvent, VisitsRecord};
-ghost use Rattle.cfi_stacks.specs.Turns.{VisitsTurn};
-ghost use Rattle.cfi_stacks.specs.ProfileIndexes.{HoldsOf, IsIndex};
-ghost use Rattle.cfi_stacks.specs.KnownSamples.{known_in};
-ghost use Rattle.cfi_stacks.specs.TakenSamples.{taken_view};
+ghost use Rattle.cfi_stacks.specs.ProfileIndexes.{AreBytesAt, AreBytesOf, HasRecords, HasRecordsAt};
+ghost use Rattle.cfi_stacks.specs.ProfileIndexes.{HoldsOf, IsIndex, IsTallySaid};
+ghost use Rattle.cfi_stacks.specs.ProfileNotices.{IsHeadSaid, IsProfileSaid, IsWalkSaid};
+ghost use Rattle.cfi_stacks.specs.Visits.{IsNoneVisited, IsProfileVisited, VisitsHead};
+ghost use Rattle.cfi_stacks.specs.Visits.{VisitsRecords, VisitsSorted};
 
-use crate::sample_walk::walk_sample;
-use crate::taken_sample::TakenSample;
-use crate::turns::{ChosenSamples, Walker, follow_other, is_left_out, left_after, load_for};
-use crate::visitor::{Stopped, Visitor};
+use crate::around::read_around;
+use crate::choice::Choice;
+use crate::profile_index::{ProfileIndex, index_records};
+use crate::sample_visits::{ChosenSamples, visit_samples};
+use crate::visitor::{VisitError, Visitor};
+use cfi_mapped::Opener;
+use cfi_mapped::read_files::read_files;
 use cfi_object::input::FileInput;
-use cfi_perf::{Event, PlaceKind, Record, RecordPlace};
-use cfi_processes::Frame;
-use cfi_processes::process_code::KERNEL;
-use cfi_processes::process_modules::FileModule;
-use cfi_processes::profile_files::ProfileFile;
-use cfi_processes::replay::Replay;
-use cfi_processes::room::Room;
+use cfi_object::read_whole;
+use cfi_perf::{Profile, ProfileHead, RecordWalk};
+use cfi_processes::profile_files::profile_files;
+use cfi_processes::registers::SampleMachine;
 use cfi_text::reading::InputError;
+use std::alloc::Global;
 
-/// Hands the stacks of the samples to the visitor, by the files; without functions, none is looked
-/// up.
+/// Whose stacks are handed over, with which functions, and what opens the files of the code.
+#[derive(Drop)]
+struct Visit<'r, O> {
+    alloc: Global,
+    with_functions: bool,
+    choice: &'r Choice<'r>,
+    opener: &'r O,
+}
+
+/// Hands the stacks of the samples of a profile that are chosen to a visitor, in the order of their
+/// times. Other samples aren't unwound. Without functions, none is looked up.
 ///
-/// Fails with `Input` where the profile can't be read or memory is refused, and with the visitor's
-/// first error.
-pub(crate) fn visit_stacks<I: FileInput, T, V: Visitor<T>>(
-    chosen: &ChosenSamples<'_, '_>,
+/// The frames of the kernel are those of the call chain, and so are those of user space where the
+/// sample's event copies no stacks; where no sample's does, the opener says so before the first
+/// stack. After the last one it says how many records and samples were lost, if any were. The files
+/// of code are opened by the names that the profile has for them, and where it has a file's build,
+/// only a file of that build is taken (`cfi_mapped::read_files::read_files`).
+///
+/// Fails with `Input` where the input can't be read or memory is refused, with `Profile` where it
+/// is no profile, with `UnknownMachine` where its registers aren't known here, with the visitor's
+/// first error, and after the last stack with `Records` where an error ended the records.
+///
+/// The records are found by windows of the file, and each sample is read when its stack is walked.
+/// One that isn't the one that was found, as of a file that was changed, can't be read. A profile
+/// of which a part of the header stands among the records is read whole.
+///
+/// Allocates for where the samples are, for the other records, the files and what is mapped, and
+/// for one window or sample. Unwinding doesn't allocate.
+pub fn visit_profile<O: Opener, I: FileInput, T, V: Visitor<T>>(
+    alloc: Global,
     with_functions: bool,
-    files: &[ProfileFile<'_>],
+    choice: &Choice<'_>,
+    opener: &O,
     input: &mut I,
     visitor: &mut V,
     target: &mut T,
-) -> Result<(), Stopped<V::Error>>
-    requires { IsIndex (I.bytes input.old) chosen.now.index.now }
-    ensures { HoldsOf (I.bytes input.old) chosen.now.index.now (λ sorted.
-        AreVisited V.visits V.refuses with_functions chosen.now.machine
-        (map known_view files.now) (choice_view chosen.now.choice.now) sorted
-        (visitor.old, target.old) (visitor.new, target.new) result) }
+) -> Result<(), VisitError<V::Error>>
+    ensures visited { (bytes : List ℕ) × AreLeft (I.bytes input.old) bytes
+        × IsProfileVisited V.visits V.refuses with_functions (choice_view choice.now)
+        (O.may_open opener.now) O.File.remaining (visitor.old, target.old)
+        (visitor.new, target.new) result bytes }
+    ensures said { IfOk result (λ done. IsProfileSaid (O.has_said opener.now)
+        (I.bytes input.old)) }
 {
-    match Room::new(chosen.alloc) {
-        Ok(room) => visit_in(chosen, with_functions, room, files, input, visitor, target),
-        Err(_) => Err(Stopped::Input(InputError::OutOfMemory)),
-    }
-}
-
-/// Walks the stacks of the samples in this room. Neither a sample that isn't chosen nor one after
-/// the limit is unwound.
-fn visit_in<I: FileInput, T, V: Visitor<T>>(
-    chosen: &ChosenSamples<'_, '_>,
-    with_functions: bool,
-    room: Room,
-    files: &[ProfileFile<'_>],
-    input: &mut I,
-    visitor: &mut V,
-    target: &mut T,
-) -> Result<(), Stopped<V::Error>>
-    requires rows { KeepsNoRows room }
-    requires frames { HasRoom room.frames.items }
-    requires index { IsIndex (I.bytes input.old) chosen.now.index.now }
-    ensures { HoldsOf (I.bytes input.old) chosen.now.index.now (λ sorted.
-        AreVisited V.visits V.refuses with_functions chosen.now.machine
-        (map known_view files.now) (choice_view chosen.now.choice.now) sorted
-        (visitor.old, target.old) (visitor.new, target.new) result) }
-{
-    let replay = Replay::new(chosen.alloc, files);
-    let frames = Vec::new(chosen.alloc);
-    let mut walker = Walker {
-        replay,
-        room,
-        frames,
+    let visit = Visit {
+        alloc,
+        with_functions,
+        choice,
+        opener,
     };
-    let mut left = chosen.choice.limit;
-    for place in chosen.index.records.places() {
-        if left == Some(0) {
-            return Ok(());
-        }
-        match visit_place(
-            chosen,
-            with_functions,
-            place,
-            left,
-            input,
-            &mut walker,
-            visitor,
-            target,
-        ) {
-            Ok(more) => left = more,
-            Err(error) => return Err(error),
-        }
-    }
-    Ok(())
-}
-
-/// Follows the record at a place, and hands its stack over if it is a sample that is chosen.
-/// Returns how many more may be.
-fn visit_place<'k, I: FileInput, T, V: Visitor<T>>(
-    chosen: &ChosenSamples<'k, '_>,
-    with_functions: bool,
-    place: &RecordPlace,
-    left: Option<u64>,
-    input: &mut I,
-    walker: &mut Walker<'_, '_, 'k>,
-    visitor: &mut V,
-    target: &mut T,
-) -> Result<Option<u64>, Stopped<V::Error>>
-    requires own { HasOwnModules walker.old.replay }
-    requires cached { IsRoomFor (replay_files walker.old.replay) walker.old.room }
-    ensures visited { VisitsTurn V.visits V.refuses with_functions chosen.now.machine
-        (replay_known walker.old.replay) (choice_view chosen.now.choice.now)
-        (I.bytes input.old) chosen.now.index.now place.now
-        (known_in walker.old.replay) left (known_in walker.new.replay)
-        (visitor.old, target.old) (visitor.new, target.new) result }
-    ensures same { I.bytes input.new ≡ I.bytes input.old }
-    ensures own { HasOwnModules walker.new.replay }
-    ensures cached { IsRoomFor (replay_files walker.new.replay) walker.new.room }
-    ensures files { replay_files walker.new.replay ≡ replay_files walker.old.replay }
-{
-    match place.kind {
-        PlaceKind::InFile => match chosen.index.sample_bytes(chosen.alloc, place, input) {
-            Ok(bytes) => {
-                let Some(item) = chosen.index.sample_at(place, bytes.as_slice()) else {
-                    return Err(Stopped::Input(InputError::Unreadable));
-                };
-                visit_chosen(chosen, with_functions, &item, left, walker, visitor, target)
-            }
-            Err(error) => Err(Stopped::Input(error)),
-        },
-        _ => match follow_other(chosen.index, place, left, &mut walker.replay) {
-            Ok(left) => Ok(left),
-            Err(error) => Err(Stopped::Input(error)),
-        },
-    }
-}
-
-/// Hands over the stack of a sample, if it is chosen.
-fn visit_chosen<T, V: Visitor<T>>(
-    chosen: &ChosenSamples<'_, '_>,
-    with_functions: bool,
-    item: &Record<'_>,
-    left: Option<u64>,
-    walker: &mut Walker<'_, '_, '_>,
-    visitor: &mut V,
-    target: &mut T,
-) -> Result<Option<u64>, Stopped<V::Error>>
-    requires sample { is_sample (record_view item.now).event ≡ true }
-    requires own { HasOwnModules walker.old.replay }
-    requires cached { IsRoomFor (replay_files walker.old.replay) walker.old.room }
-    ensures visited { VisitsRecord V.visits V.refuses with_functions
-        chosen.now.machine (replay_known walker.old.replay) (choice_view chosen.now.choice.now)
-        (record_view item.now) (known_in walker.old.replay) left (known_in walker.new.replay)
-        (visitor.old, target.old) (visitor.new, target.new) result }
-    ensures own { HasOwnModules walker.new.replay }
-    ensures cached { IsRoomFor (replay_files walker.new.replay) walker.new.room }
-    ensures files { replay_files walker.new.replay ≡ replay_files walker.old.replay }
-{
-    if is_left_out(chosen.choice, &walker.replay, item) {
-        return Ok(left);
-    }
-    match load_for(&mut walker.replay, item) {
-        Ok(()) => {
-            match visit_event(
-                chosen,
-                with_functions,
-                &walker.replay,
-                item,
-                &mut walker.room,
-                &mut walker.frames,
-                visitor,
-                target,
-            ) {
-                Ok(()) => Ok(left_after(left, item)),
-                Err(error) => Err(error),
+    match read_around(alloc, input) {
+        Ok(around) => {
+            let before = around.before.as_slice();
+            match Profile::parse_around(before, around.behind.as_slice(), around.length) {
+                Ok(Some(head)) => visit_head(&visit, &head, input, visitor, target),
+                Ok(None) => visit_whole(&visit, input, visitor, target),
+                Err(error) => Err(VisitError::Profile(error)),
             }
         }
-        Err(_) => Err(Stopped::Input(InputError::OutOfMemory)),
+        Err(error) => Err(VisitError::Input(error)),
     }
 }
 
-/// Hands over the stack of a record that was followed last, if it is a sample.
-fn visit_event<'run, T, V: Visitor<T>>(
-    chosen: &ChosenSamples<'_, '_>,
-    with_functions: bool,
-    replay: &Replay<'_, 'run, '_>,
-    item: &Record<'_>,
-    room: &mut Room,
-    frames: &mut Vec<Frame<'run>>,
+/// Reads the profile whole, and visits it.
+fn visit_whole<O: Opener, I: FileInput, T, V: Visitor<T>>(
+    visit: &Visit<'_, O>,
+    input: &mut I,
     visitor: &mut V,
     target: &mut T,
-) -> Result<(), Stopped<V::Error>>
-    requires modules { AreModulesFor (record_view item.now).event replay.now }
-    requires own { HasOwnModules replay.now }
-    requires cached { IsRoomFor (replay_files replay.now) room.old }
-    ensures visited { VisitsEvent V.visits V.refuses with_functions
-        chosen.now.machine (replay_known replay.now) (known_in replay.now) item.now.time
-        (record_view item.now).event (visitor.old, target.old) (visitor.new, target.new) result }
-    ensures cached { IsRoomFor (replay_files replay.now) room.new }
+) -> Result<(), VisitError<V::Error>>
+    ensures visited { (bytes : List ℕ) × AreLeft (I.bytes input.old) bytes
+        × IsProfileVisited V.visits V.refuses visit.now.with_functions
+        (choice_view visit.now.choice.now) (O.may_open visit.now.opener.now) O.File.remaining
+        (visitor.old, target.old) (visitor.new, target.new) result bytes }
+    ensures said { IfOk result (λ done. IsProfileSaid (O.has_said visit.now.opener.now)
+        (I.bytes input.old)) }
 {
-    match item.event {
-        Event::Sample(sample) => {
-            let taken = TakenSample {
-                kernel: replay.code(KERNEL),
-                code: replay.code(sample.pid),
-                name: replay.name(sample.tid),
-                time: item.time,
-                sample,
-            };
-            let modules = replay.modules();
-            visit_sample(
-                chosen,
-                with_functions,
-                modules,
-                &taken,
-                room,
-                frames,
-                visitor,
-                target,
-            )
+    match read_whole(visit.alloc, input) {
+        Ok(bytes) => visit_bytes(visit, bytes.as_slice(), visitor, target),
+        Err(error) => Err(VisitError::Input(error)),
+    }
+}
+
+/// Visits the profile that these bytes are.
+fn visit_bytes<O: Opener, T, V: Visitor<T>>(
+    visit: &Visit<'_, O>,
+    bytes: &[u8],
+    visitor: &mut V,
+    target: &mut T,
+) -> Result<(), VisitError<V::Error>>
+    ensures visited { IsProfileVisited V.visits V.refuses visit.now.with_functions
+        (choice_view visit.now.choice.now) (O.may_open visit.now.opener.now) O.File.remaining
+        (visitor.old, target.old) (visitor.new, target.new) result bytes.now }
+    ensures said { IfOk result (λ done. IsProfileSaid (O.has_said visit.now.opener.now)
+        (Some bytes.now)) }
+{
+    match Profile::parse(bytes) {
+        Ok(profile) => {
+            let mut input = bytes;
+            let head = profile.head();
+            visit_head(visit, &head, &mut input, visitor, target)
         }
-        _ => Ok(()),
+        Err(error) => Err(VisitError::Profile(error)),
     }
 }
 
-/// Hands over the stack of a sample.
-///
-/// The frames of user space are those of the call chain where the sample's event copies no stacks.
-/// The modules are those of what is mapped. The rows that the room keeps are those of the files, in
-/// whichever process they were found. There is room for 4096 frames. Allocates where there is no
-/// room for a frame.
-fn visit_sample<'run, T, V: Visitor<T>>(
-    chosen: &ChosenSamples<'_, '_>,
-    with_functions: bool,
-    modules: &[FileModule<'_, '_>],
-    taken: &TakenSample<'_, '_, 'run>,
-    room: &mut Room,
-    frames: &mut Vec<Frame<'run>>,
+/// Visits the records of a profile that says this before them.
+fn visit_head<O: Opener, I: FileInput, T, V: Visitor<T>>(
+    visit: &Visit<'_, O>,
+    head: &ProfileHead<'_>,
+    input: &mut I,
     visitor: &mut V,
     target: &mut T,
-) -> Result<(), Stopped<V::Error>>
-    requires kernel { AreMappedInOrder 0 taken.now.kernel.mappings.now }
-    requires order { AreMappedInOrder 0 taken.now.code.mappings.now }
-    requires modules { map loaded_module_view modules.now
-        ≡ modules_in (taken_view taken.now).files taken.now.code.mappings.now }
-    requires files { AreModulesOfFiles taken.now.code.files.now modules.now }
-    requires cached { IsRoomFor taken.now.code.files.now room.old }
-    ensures visited { IsVisited V.visits V.refuses with_functions
-        chosen.now.machine (taken_view taken.now) (visitor.old, target.old)
-        (visitor.new, target.new) result }
-    ensures cached { IsRoomFor taken.now.code.files.now room.new }
+) -> Result<(), VisitError<V::Error>>
+    requires { HasRecordsAt (I.bytes input.old) (head_view head.now).place
+        (head_view head.now).size }
+    ensures visited { ((all : List ℕ)
+        × AreBytesAt (I.bytes input.old) (head_view head.now).place (head_view head.now).size all
+        × VisitsHead V.visits V.refuses visit.now.with_functions
+        (choice_view visit.now.choice.now) (O.may_open visit.now.opener.now) O.File.remaining
+        (visitor.old, target.old) (visitor.new, target.new) result
+        (head_view head.now).architecture (records_by (head_view head.now) all))
+        ⊎ IsNoneVisited {V = V × T} (visitor.old, target.old) (visitor.new, target.new) result }
+    ensures said { IfOk result (λ done. IsHeadSaid (O.has_said visit.now.opener.now)
+        (I.bytes input.old) (head_view head.now)) }
 {
-    let user = &taken.sample.user;
-    let found = walk_sample(room, chosen.machine, &taken.code, modules, user);
-    let walked = room.frames.as_slice();
-    let Ok(()) = taken.collect_frames(with_functions, found, walked, frames) else {
-        return Err(Stopped::Input(InputError::OutOfMemory));
+    match head.architecture() {
+        Ok(Some(name)) => match SampleMachine::named(name) {
+            Some(machine) => visit_records(visit, machine, head.walk(), input, visitor, target),
+            None => Err(VisitError::UnknownMachine),
+        },
+        Ok(None) => Err(VisitError::UnknownMachine),
+        Err(error) => Err(VisitError::Profile(error)),
+    }
+}
+
+/// Visits the records, of which a walk is at the first. Says before the first stack if there are no
+/// copies of stacks, and after the last one what was lost.
+fn visit_records<O: Opener, I: FileInput, T, V: Visitor<T>>(
+    visit: &Visit<'_, O>,
+    machine: SampleMachine,
+    walk: RecordWalk<'_>,
+    input: &mut I,
+    visitor: &mut V,
+    target: &mut T,
+) -> Result<(), VisitError<V::Error>>
+    requires { HasRecords (I.bytes input.old) walk }
+    ensures visited { ((all : List ℕ) × AreBytesOf (I.bytes input.old) walk.entry all
+        × VisitsRecords V.visits V.refuses visit.now.with_functions
+        (choice_view visit.now.choice.now) (O.may_open visit.now.opener.now) O.File.remaining
+        (visitor.old, target.old) (visitor.new, target.new) result
+        machine (records_in walk.entry all))
+        ⊎ IsNoneVisited {V = V × T} (visitor.old, target.old) (visitor.new, target.new) result }
+    ensures said { IfOk result (λ done. IsWalkSaid (O.has_said visit.now.opener.now)
+        (I.bytes input.old) walk.entry) }
+{
+    match index_records(visit.alloc, walk, input) {
+        Ok(index) => visit_index(visit, machine, &index, input, visitor, target),
+        Err(error) => Err(VisitError::Input(error)),
+    }
+}
+
+/// Visits the records of an index, and returns the error that ended them. Says before them if there
+/// are no copies of stacks, and after them what was lost.
+fn visit_index<O: Opener, I: FileInput, T, V: Visitor<T>>(
+    visit: &Visit<'_, O>,
+    machine: SampleMachine,
+    index: &ProfileIndex<'_>,
+    input: &mut I,
+    visitor: &mut V,
+    target: &mut T,
+) -> Result<(), VisitError<V::Error>>
+    requires { IsIndex (I.bytes input.old) index.now }
+    ensures visited { HoldsOf (I.bytes input.old) index.now (λ sorted.
+        VisitsSorted V.visits V.refuses visit.now.with_functions
+        (choice_view visit.now.choice.now) (O.may_open visit.now.opener.now) O.File.remaining
+        (visitor.old, target.old) (visitor.new, target.new) result
+        machine sorted index.now.error)
+        ⊎ IsNoneVisited {V = V × T} (visitor.old, target.old) (visitor.new, target.new) result }
+    ensures said { IsTallySaid (O.has_said visit.now.opener.now) index.now.tally }
+{
+    let tally = index.tally;
+    if tally.has_samples && !tally.has_stacks {
+        visit.opener.tell_without_stacks();
+    }
+    let visited = visit_mapped(visit, machine, index, input, visitor, target);
+    if tally.lost_records != 0 || tally.lost_samples != 0 {
+        visit
+            .opener
+            .tell_lost(tally.lost_records, tally.lost_samples);
+    }
+    visited
+}
+
+/// Opens the files of the records, and visits these.
+fn visit_mapped<O: Opener, I: FileInput, T, V: Visitor<T>>(
+    visit: &Visit<'_, O>,
+    machine: SampleMachine,
+    index: &ProfileIndex<'_>,
+    input: &mut I,
+    visitor: &mut V,
+    target: &mut T,
+) -> Result<(), VisitError<V::Error>>
+    requires { IsIndex (I.bytes input.old) index.now }
+    ensures { HoldsOf (I.bytes input.old) index.now (λ sorted.
+        VisitsSorted V.visits V.refuses visit.now.with_functions
+        (choice_view visit.now.choice.now) (O.may_open visit.now.opener.now) O.File.remaining
+        (visitor.old, target.old) (visitor.new, target.new) result
+        machine sorted index.now.error)
+        ⊎ IsNoneVisited {V = V × T} (visitor.old, target.old) (visitor.new, target.new) result }
+{
+    let chosen = ChosenSamples {
+        alloc: visit.alloc,
+        with_functions: visit.with_functions,
+        choice: visit.choice,
+        machine,
+        index,
     };
-    match visitor.visit(&taken.stack(found, frames.as_slice()), target) {
-        Ok(()) => Ok(()),
-        Err(error) => Err(Stopped::Visitor(error)),
+    match index.wanted_files(visit.alloc) {
+        Ok(wanted) => match read_files(visit.alloc, false, visit.opener, wanted.as_slice()) {
+            Ok(opened) => {
+                match profile_files(visit.alloc, visit.with_functions, opened.as_slice()) {
+                    Ok(files) => visit_samples(&chosen, files.as_slice(), input, visitor, target),
+                    Err(_) => Err(VisitError::Input(InputError::OutOfMemory)),
+                }
+            }
+            Err(_) => Err(VisitError::Input(InputError::OutOfMemory)),
+        },
+        Err(error) => Err(VisitError::Input(error)),
     }
 }

@@ -5,7 +5,7 @@ use Rattle.cfi_mapped.specs.OpenedFiles.{AreOpenedAs, are_whole}
 use Rattle.cfi_mapped.proofs.FileLemmas.{whole_pushed}
 use Rattle.cfi_cores.specs.CoreFiles.{core_view}
 use Rattle.cfi_core_stacks.specs.CoreCode.{vdso_file, with_vdso_file}
-use Rattle.cfi_core_stacks.proofs.QuickLemmas.{some_is}
+use Rattle.cfi_core_stacks.proofs.KnownLemmas.{some_is}
 use Rattle.cfi_core_stacks.proofs.VdsoFiles.{no_vdso, vdso_pushed}
 use Rattle.cfi_core_stacks.proofs.core_files.push_vdso.Goals as goal
 

@@ -2,7 +2,7 @@ use Rattle.std.proofs.Common.{ℕ, List, Option, subst, sym}
 use Rattle.cfi_object.specs.FileParts.{AreOfInput}
 use Rattle.cfi_object.specs.FileParts.{image_of}
 use Rattle.cfi_core_stacks.specs.CoreOutputs.{PrintsCoreOwed}
-use Rattle.cfi_core_stacks.proofs.QuickLemmas.{unread}
+use Rattle.cfi_core_stacks.proofs.KnownLemmas.{unread}
 use Rattle.cfi_frames.proofs.InputLemmas.{for_input}
 use Rattle.cfi_core_stacks.proofs.core_run.print_core.Goals as goal
 

@@ -1,4 +1,4 @@
-use Rattle.cfi_core_stacks.proofs.QuickLemmas.{unread}
+use Rattle.cfi_core_stacks.proofs.KnownLemmas.{unread}
 use Rattle.cfi_frames.proofs.InputLemmas.{for_input}
 use Rattle.cfi_core_stacks.proofs.core_run.print_whole.Goals as goal
 

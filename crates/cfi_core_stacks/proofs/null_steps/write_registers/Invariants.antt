@@ -1,5 +1,5 @@
 use Rattle.std.proofs.Common.{◌≡◌, ◌<◌, ℕ, length, get_or, None}
-use Rattle.cfi_core_stacks.specs.NullCalls.{value_in_caller}
+use Rattle.cfi_core_stacks.specs.NullSteps.{value_in_caller}
 use Rattle.cfi_core_stacks.proofs.null_steps.write_registers.Given as goal
 
 abbrev pub invariant-loop-k : goal.invariant-loop-k

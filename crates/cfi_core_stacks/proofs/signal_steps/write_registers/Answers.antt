@@ -1,6 +1,6 @@
 use Rattle.std.proofs.Common.{None, arith, length}
 use Rattle.std.proofs.lemmas.List.FromFn.{fill_by_all}
-use Rattle.cfi_core_stacks.specs.SignalTrampolines.{saved_in}
+use Rattle.cfi_core_stacks.specs.SignalSteps.{saved_in}
 use Rattle.cfi_core_stacks.proofs.signal_steps.write_registers.Goals as goal
 
 pub returns : goal.returns

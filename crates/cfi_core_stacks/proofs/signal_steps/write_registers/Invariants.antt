@@ -1,5 +1,5 @@
 use Rattle.std.proofs.Common.{◌≡◌, ◌<◌, ℕ, length, get_or, None}
-use Rattle.cfi_core_stacks.specs.SignalTrampolines.{saved_in}
+use Rattle.cfi_core_stacks.specs.SignalSteps.{saved_in}
 use Rattle.cfi_core_stacks.proofs.signal_steps.write_registers.Given as goal
 
 abbrev pub invariant-loop-k : goal.invariant-loop-k

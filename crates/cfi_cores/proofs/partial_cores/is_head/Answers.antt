@@ -2,9 +2,9 @@ use Rattle.std.proofs.Common.{◌∙◌, ◌==◌, ◌&&◌, rules}
 use borrow.Author.Tests.{tests}
 use Rattle.std.proofs.lemmas.Iterator.{YieldsList-from_slice}
 use Rattle.std.proofs.lemmas.Iterator.Search.{any_from_yields_List}
-use Rattle.cfi_mapped.proofs.FileLemmas.{any_mapped}
 use Rattle.cfi_cores.specs.declared.mapped_files.CoreMapping.{CoreMapping}
 use Rattle.cfi_cores.specs.MappedFiles.{mapping_view}
+use Rattle.cfi_cores.proofs.Searches.{any_mapped}
 use Rattle.cfi_cores.proofs.partial_cores.is_head.Goals as goal
 
 pub returns : goal.returns

@@ -1,4 +1,4 @@
-use Rattle.std.proofs.Common.{◌++◌, List, ℕ, ap, codes}
+use Rattle.std.proofs.Common.{List, ℕ, ap}
 use Rattle.cfi_text.proofs.TextLemmas.{both, same}
 use Rattle.cfi_text.specs.Escapes.{escaped}
 use Rattle.cfi_text.specs.declared.escapes.Escaping.TheVariants.{Folded}

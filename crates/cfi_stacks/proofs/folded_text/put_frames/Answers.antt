@@ -1,4 +1,3 @@
-use Rattle.std.proofs.Common.{arith}
 use Rattle.cfi_stacks.proofs.NameLemmas.{all_named, none_named, one_named}
 use Rattle.cfi_stacks.proofs.folded_text.put_frames.Goals as goal
 
