@@ -59,7 +59,7 @@ pub(crate) fn print_found<W: Write>(
     }
 }
 
-/// Prints a stack. Fails as `print_found`. Allocates for the text.
+/// Prints the stack of a thread. Fails as `print_found`. Allocates for the text.
 fn print_stack<W: Write>(
     alloc: Global,
     listing: ThreadListing,

@@ -40,8 +40,8 @@ abbrev pub is_same : Wanted → Wanted → Bool
 is_same a b =
     bytes_eq a.name b.name && same_id a.build_id b.build_id && same_process a.process b.process
 
--- the kernel tells its symbols, and a process the functions of memory that is no file's: of such a
--- text only the names are used, whatever its bytes are
+-- the kernel tells its symbols, and a process the functions of memory that is no file's: a wanted
+-- file of these is a text of names, and isn't read as a file of code
 abbrev pub is_text : {A : Type 0} → List ℕ → Option A → Bool
 is_text name process = is_kernel_name name || is_some process
 
