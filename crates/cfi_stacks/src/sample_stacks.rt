@@ -49,8 +49,8 @@ impl<W: Write> Visitor<W> for Printer {
 }
 
 /// Prints the stack of a sample: its lines, or an object of JSON in a line; without functions if it
-/// is `raw`. The text is room for it. Fails with `OutOfMemory` where memory is refused, and then writes
-/// nothing.
+/// is `raw`. The text is room for it. Fails with `OutOfMemory` where memory is refused, and then
+/// writes nothing.
 fn print_stack<W: Write>(
     style: StackStyle,
     stack: &SampleStack<'_, '_>,
