@@ -72,7 +72,6 @@ use Rattle.cfi_processes.specs.ProfileFiles.{AreProfileFilesOf}
 use Rattle.cfi_elf.specs.declared.image.Image.{Image as ImageOfCode}
 use Rattle.std.specs.Io.KnownBytes.{Appends}
 use Rattle.std.specs.Result.{IsErr}
-use Rattle.cfi_text.proofs.WrittenLemmas.{none_yet}
 use Rattle.cfi_core_stacks.specs.CoreWindows.{AreWindows}
 use Rattle.cfi_core_stacks.specs.ThreadOutputs.{IsThreadText}
 use Rattle.cfi_core_stacks.specs.NullSteps.{IsNullStep}
@@ -211,10 +210,6 @@ pub each_ok : {A E : Type 0} (r : Result A E) (P Q : A → Type 0) → ((x : A) 
 each_ok (Ok x) P Q each has = each x has
 each_ok (Err e) P Q each has = tt
 
-pub each_some : {A : Type 0} (o : Option A) (P Q : A → Type 0) → ((x : A) → P x → Q x) → IfSome o P → IfSome o Q
-each_some (Some x) P Q each has = each x has
-each_some None P Q each has = tt
-
 -- numbers of the segments are those of the memory, whatever else it has
 in_memory : (segments lent : List CoreSegment) (stack : CoreSegment) → IsStackOf segments stack → IsStackIn (memory_by segments lent) stack
 in_memory segments lent stack of a size n is = by (number_among segments a size) (of a size n is)
@@ -241,9 +236,6 @@ module _ (machine : SampleMachine) (files : List KnownFile) (list : List MappedC
       (walked_in_stack stack view seen (memory_by (map (segment_at bytes) parts.places.now) lent) (in_memory (map (segment_at bytes) parts.places.now) lent stack (there bytes of)) result frames walked whole)
 
 -- ---- what is printed, or lacking
-
-pub nothing_yet : (old : Option (List ℕ)) (text : List ℕ) → (front : List ℕ) × Appends old old front × IsBeginning front text
-nothing_yet old text = ([], none_yet old, (text, refl))
 
 module _ {E : Type 0} (Is : Line → Type 0) (old new : Option (List ℕ)) where
   -- a beginning was written
@@ -294,10 +286,6 @@ module _ (listing : ThreadListing) (files : List KnownFile) (memory : ℕ → �
       × (printed ≡ record { text = text ++ (no_memory listing.format).text; status = 1 }))
 
 -- ---- of a core that is known, and its memory
-
-pub whole_memory : (parts : Option StackParts) (core whole : Core) (lent : List CoreSegment) → parts ≡ None → IsKnownBy parts core whole → memory_by core.segments lent ≡ core_memory whole lent
-whole_memory (Some p) core whole lent is known = absurd (cc)
-whole_memory None core whole lent is known = ap (λ (c : Core). core_memory c lent) known
 
 pub memory_is : (known : KnownMemory) (memory : MemoryOfCode) (all : ℕ → ℕ → Option ℕ) → known ≡ Whole memory → IsMemoryOf known all → memory_number (memory_view memory) ≡ all
 memory_is (Whole m) memory all is same =
