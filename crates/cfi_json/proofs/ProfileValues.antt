@@ -1,5 +1,5 @@
 -- Each line that is printed of a profile is the text of a value.
-use Rattle.std.proofs.Common.{◌≡◌, ◌∙◌, ℕ, Bool, List, [], ◌∷◌, ◌++◌, Option, Some, None, Result, Ok, Err, codes, refl, sym, take, ap, subst, inl, inr, append_assoc, append-nil, arith}
+use Rattle.std.proofs.Common.{◌≡◌, ◌∙◌, ℕ, Bool, List, [], ◌∷◌, ◌++◌, Option, Some, None, Result, Ok, Err, codes, not, refl, sym, take, ap, subst, inl, inr, append_assoc, append-nil, arith}
 use Rattle.cfi_text.specs.declared.style.Format.TheVariants as formats
 use Rattle.cfi_text.specs.Lines.{Line}
 use Rattle.cfi_text.specs.Refusals.{error_object}
@@ -16,8 +16,9 @@ use Rattle.cfi_processes.specs.KnownFiles.{KnownFile}
 use Rattle.cfi_processes.specs.Registers.{machine_named}
 use Rattle.cfi_stacks.specs.declared.listing.Listing.TheVariants as listings
 use Rattle.cfi_stacks.specs.Choices.{Choice}
+use Rattle.cfi_stacks.specs.ProfileContents.{HoldsOfHead, HoldsOfMachine, HoldsOfParsed, HoldsOfRecords}
 use Rattle.cfi_stacks.specs.ProfileErrors.{perf_advice, perf_refusal}
-use Rattle.cfi_stacks.specs.ProfileOutputs.{AreStacksPrinted, IsOfArchitecture, IsOfMachine, IsOfProfile, IsOfRecords, profile_ended}
+use Rattle.cfi_stacks.specs.ProfileOutputs.{AreStacksPrinted, profile_ended, unknown_machine}
 use Rattle.cfi_json.specs.Json.{NestsWithin, json_text, member, no_members, text}
 use Rattle.cfi_json.specs.ProfileValues.{ProfileOutputsReadBack, reason_value}
 use Rattle.cfi_json.proofs.Building.{each_read_back, object_is, string_onto}
@@ -104,7 +105,10 @@ ended_read characters None h = h
 ended_read characters (Some error) h = read_both characters _ h (perf_read error)
 
 module _ (raw : Bool) (choice : Choice) where
-  stacks_read : (machine : SampleMachine) (files : List KnownFile) (records : List Record) (error : Option PerfError) (printed : Line) → AreStacksPrinted (record { raw = raw; format = formats.Json }) machine files choice records error printed → IsRead printed
+  abbrev Shows : Line → SampleMachine → List KnownFile → List Record → Option PerfError → Type 0
+  Shows printed machine files records error = AreStacksPrinted (record { raw = raw; format = formats.Json }) choice machine files records error printed
+
+  stacks_read : (machine : SampleMachine) (files : List KnownFile) (records : List Record) (error : Option PerfError) (printed : Line) → Shows printed machine files records error → IsRead printed
   stacks_read machine files records error printed (inl (characters, texts, is)) =
       let found = profiles_read raw machine files choice records characters texts in
       subst IsRead (sym is) (ended_read characters error (_, found.2))
@@ -112,24 +116,29 @@ module _ (raw : Bool) (choice : Choice) where
       let found = profiles_read raw machine files choice (take n records) characters texts in
       subst IsRead (sym is) (read_both characters _ (_, found.2) (input_read why))
 
-  module _ {Handle : Type 0} (may_open : FilePlace → Option Handle → Type 0) (remaining : Handle → Option (List ℕ)) where
-    records_read : (machine : SampleMachine) (found : Records) (printed : Line) → IsOfRecords (listings.Json raw) choice may_open remaining machine found printed → IsRead printed
-    records_read machine found printed (inl (sorted, order, (opened, are_opened, (files, are, stacks)))) = stacks_read machine files sorted found.error printed stacks
-    records_read machine found printed (inr (why, is)) = subst IsRead (sym is) (input_read why)
+  module _ {Handle : Type 0} (may_open : FilePlace → Option Handle → Type 0) (remaining : Handle → Option (List ℕ)) (printed : Line) where
+    abbrev IsPerf : PerfError → Type 0
+    IsPerf error = printed ≡ perf_refusal formats.Json error
 
-    machine_read : (machine : Option SampleMachine) (found : Records) (printed : Line) → IsOfMachine (listings.Json raw) choice may_open remaining machine found printed → IsRead printed
-    machine_read None found printed is = subst IsRead (sym is) (error_read (codes "unknown machine") refl)
-    machine_read (Some machine) found printed of = records_read machine found printed of
+    abbrev IsOther : Type 0
+    IsOther = printed ≡ unknown_machine formats.Json
 
-    architecture_read : (named : Result (Option (List ℕ)) PerfError) (found : Records) (printed : Line) → IsOfArchitecture (listings.Json raw) choice may_open remaining named found printed → IsRead printed
-    architecture_read (Err error) found printed is = subst IsRead (sym is) (perf_read error)
-    architecture_read (Ok None) found printed is = subst IsRead (sym is) (error_read (codes "unknown machine") refl)
-    architecture_read (Ok (Some name)) found printed of = machine_read (machine_named name) found printed of
+    records_read : (machine : SampleMachine) (found : Records) → HoldsOfRecords (not raw) may_open remaining (Shows printed) machine found → IsRead printed
+    records_read machine found (sorted, order, (opened, are_opened, files, are, stacks)) = stacks_read machine files sorted found.error printed stacks
 
-    profile_read : (found : Result Profile PerfError) (printed : Line) → IsOfProfile (listings.Json raw) choice may_open remaining found printed → IsRead printed
-    profile_read (Err error) printed is = subst IsRead (sym is) (perf_read error)
-    profile_read (Ok p) printed of = architecture_read (architecture p) (profile_records p) printed of
+    machine_read : (machine : Option SampleMachine) (found : Records) → HoldsOfMachine (not raw) may_open remaining (Shows printed) IsPerf IsOther machine found → IsRead printed
+    machine_read None found is = subst IsRead (sym is) (error_read (codes "unknown machine") refl)
+    machine_read (Some machine) found of = records_read machine found of
+
+    head_read : (named : Result (Option (List ℕ)) PerfError) (found : Records) → HoldsOfHead (not raw) may_open remaining (Shows printed) IsPerf IsOther named found → IsRead printed
+    head_read (Err error) found is = subst IsRead (sym is) (perf_read error)
+    head_read (Ok None) found is = subst IsRead (sym is) (error_read (codes "unknown machine") refl)
+    head_read (Ok (Some name)) found of = machine_read (machine_named name) found of
+
+    parsed_read : (found : Result Profile PerfError) → HoldsOfParsed (not raw) may_open remaining (Shows printed) IsPerf IsOther found → IsRead printed
+    parsed_read (Err error) is = subst IsRead (sym is) (perf_read error)
+    parsed_read (Ok p) of = head_read (architecture p) (profile_records p) of
 
 pub outputs_read : ProfileOutputsReadBack
-outputs_read raw choice Handle may_open remaining bytes printed (inl of) = profile_read raw choice may_open remaining (profile bytes) printed of
+outputs_read raw choice Handle may_open remaining bytes printed (inl of) = parsed_read raw choice may_open remaining printed (profile bytes) of
 outputs_read raw choice Handle may_open remaining bytes printed (inr (why, is)) = subst IsRead (sym is) (input_read why)
