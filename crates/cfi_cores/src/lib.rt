@@ -7,9 +7,10 @@
 //! `vdso` what these say; `builds` finds images of files in the memory, and their build ids;
 //! `registers` finds a thread's registers by DWARF's numbers, and `memory` reads the memory.
 //!
-//! `core_parts` reads the parts of a core file that its stacks need, which `needed_ranges` finds.
-//! Of these parts `core_notes` reads the notes, `core_heads` the headers with them, `partial_cores`
-//! all but the memory, and `stack_window` a stack.
+//! `core_parts` reads the parts of a core file that its stacks need: headers and notes as far as
+//! they reach, and then what `needed_ranges` finds. Of these parts `core_notes` reads the notes,
+//! `core_heads` the headers with them, `partial_cores` all but the memory, and `stack_window` a
+//! stack.
 #![tactic(auto)]
 
 mod auxiliary_vector;

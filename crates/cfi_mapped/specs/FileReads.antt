@@ -93,11 +93,12 @@ module _ {Handle : Type 0} (may_open : FilePlace → Option Handle → Type 0)
   IsFileFound name (Some build) bytes =
       (found : Option (List ℕ)) × IsBuild build (at_path name) found × IsOrCopy build found bytes
 
-  -- of the kernel, what it tells of its symbols; of memory, what its process tells of its code
+  -- of memory that is no file's, what its process tells of its code
   abbrev pub IsToldBy : Option ℕ → Option (List ℕ) → Type 0
   IsToldBy None bytes = bytes ≡ None
   IsToldBy (Some pid) bytes = IsPlaceRead (code_map pid) bytes
 
+  -- of the kernel (true), what it tells of its symbols
   abbrev pub IsTold : Bool → Option ℕ → Option (List ℕ) → Type 0
   IsTold true process bytes = IsPlaceRead kernel_symbols bytes
   IsTold false process bytes = IsToldBy process bytes
