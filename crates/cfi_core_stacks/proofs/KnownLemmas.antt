@@ -78,7 +78,7 @@ use Rattle.cfi_core_stacks.specs.NullSteps.{IsNullStep}
 use Rattle.cfi_core_stacks.proofs.NullLemmas.{nulls_more}
 use Rattle.cfi_core_stacks.proofs.SignalLemmas.{signals_more}
 use Rattle.cfi_core_stacks.specs.ThreadWalks.{IsThreadWalked}
-use Rattle.cfi_core_stacks.specs.ThreadStacks.{IsThreadStep, IsUnwound, IsUnwoundFrom, thread_registers}
+use Rattle.cfi_core_stacks.specs.ThreadFrames.{IsThreadStep, IsUnwound, IsUnwoundFrom, thread_registers}
 
 -- ---- segments that have their bytes only where the first byte of a file is mapped
 

@@ -21,7 +21,7 @@ use Rattle.cfi_core_stacks.specs.MissingFrames.{has_no_frames, lacks_frames}
 use Rattle.cfi_core_stacks.specs.NullSteps.{IsNullStep}
 use Rattle.cfi_core_stacks.specs.KnownCores.{end_lacks, may_be_signal, misses_value}
 use Rattle.cfi_core_stacks.specs.SignalSteps.{IsSignalOr, IsSignalStep, calls_sigreturn, interrupted, interrupted_at, interrupted_registers, is_signal, is_signal_trampoline, pc_saved, register_place, saved_in, sigcontext_at}
-use Rattle.cfi_core_stacks.specs.ThreadStacks.{IsThreadStep}
+use Rattle.cfi_core_stacks.specs.ThreadFrames.{IsThreadStep}
 use Rattle.cfi_core_stacks.proofs.MissingLemmas.{and_first, and_none, and_second, as_many_mapped, by_mapped, by_value, frames_whole, known_mapped, or_first, or_second, raw_whole, same_misses}
 
 step_whole : (machine : SampleMachine) (step : Result Caller End) → lacks_by (end_lacks machine) step ≡ false → lacks_step step ≡ false

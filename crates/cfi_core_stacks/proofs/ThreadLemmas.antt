@@ -25,7 +25,7 @@ use Rattle.cfi_core_stacks.specs.CoreCode.{core_mappings}
 use Rattle.cfi_frames.specs.Outputs.{no_memory}
 use Rattle.cfi_core_stacks.proofs.KnownLemmas.{begun_found}
 use Rattle.cfi_core_stacks.specs.declared.listing.ThreadListing.{ThreadListing}
-use Rattle.cfi_core_stacks.specs.ThreadStacks.{IsThreadWalk, IsUnwound, IsUnwoundFrom, thread_registers}
+use Rattle.cfi_core_stacks.specs.ThreadFrames.{IsThreadWalk, IsUnwound, IsUnwoundFrom, thread_registers}
 
 module _ {R T : Type 0} (position : R → Position) (number : T → ℕ) (rule_limit stack_limit : Option ℕ) (copies_free : Bool) (modules : List (LoadedModule R)) (machine : SampleMachine) (memory : ℕ → ℕ → Option ℕ)
     (thread : CoreThread) (old new : WalkRoom) where

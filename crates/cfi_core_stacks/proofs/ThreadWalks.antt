@@ -11,7 +11,7 @@ use Rattle.cfi_processes.specs.declared.sample_stack.NoFrames.{NoFrames}
 use Rattle.cfi_processes.specs.Registers.{pc_number}
 use Rattle.cfi_cores.specs.CoreThreads.{CoreThread, thread_register}
 use Rattle.cfi_processes.proofs.RoomLemmas.{Fits, Modules, refilled}
-use Rattle.cfi_core_stacks.specs.ThreadStacks.{IsUnwound, IsUnwoundFrom}
+use Rattle.cfi_core_stacks.specs.ThreadFrames.{IsUnwound, IsUnwoundFrom}
 
 module _ (modules : Modules) (machine : SampleMachine) (old : WalkRoom) (result : Result Walk NoFrames) (new : WalkRoom) where
   by_pc : (memory : ℕ → ℕ → Option ℕ) (thread : CoreThread) (pc : Option ℕ) → IsUnwoundFrom (slice_position is_big) (λ n. n) (Some 192) (Some 4) true modules machine memory thread old result new pc → Fits new.frames result

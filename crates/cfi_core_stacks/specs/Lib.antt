@@ -3,7 +3,7 @@ pub mod ThreadMembers
 pub mod MissingFrames
 pub mod NullSteps
 pub mod SignalSteps
-pub mod ThreadStacks
+pub mod ThreadFrames
 pub mod AskedThreads
 pub mod CoreCode
 pub mod CoreWindows

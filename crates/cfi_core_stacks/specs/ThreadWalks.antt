@@ -12,7 +12,7 @@ use Rattle.cfi_processes.specs.declared.sample_stack.NoFrames.{NoFrames}
 use Rattle.cfi_processes.specs.KnownFiles.{KnownFile}
 use Rattle.cfi_cores.specs.CoreThreads.{CoreThread}
 use Rattle.cfi_processes.specs.Rooms.{IsWalkedInRoom}
-use Rattle.cfi_core_stacks.specs.ThreadStacks.{IsUnwound}
+use Rattle.cfi_core_stacks.specs.ThreadFrames.{IsUnwound}
 
 module _ (machine : SampleMachine) (files : List KnownFile) (list : List MappedCode) where
   -- over a storage of 192 rules and 4 rows

@@ -4,7 +4,7 @@ ghost use Rattle.cfi_cores.specs.CoreThreads.{thread_view};
 ghost use Rattle.cfi_step.specs.CachedRows.{AreCachedFor, AreNumbered, KeepsFor};
 ghost use Rattle.cfi_step.specs.ModuleLists.{module_list};
 ghost use Rattle.cfi_processes.specs.Registers.{register_count};
-ghost use Rattle.cfi_core_stacks.specs.ThreadStacks.{IsThreadWalk, IsUnwound, thread_registers};
+ghost use Rattle.cfi_core_stacks.specs.ThreadFrames.{IsThreadWalk, IsUnwound, thread_registers};
 
 use crate::null_steps::NullSteps;
 use crate::signal_steps::SignalSteps;
